@@ -1,5 +1,5 @@
 -- The numbers that texts write, and what a member says that may be a text or a number.
-use Rattle.std.proofs.Common.{◌≡◌, ℕ, ◌^◌, ◌<◌, ◌&&◌, Bool, true, false, cond, nat_eq, nat_lt, List, [], ◌∷◌, length, drop, slice_get, decimal, Option, None, Some, Result, Ok, Err, option_map, option_and_then, if◌then◌else◌, refl, ap, subst, sym, ◌∙◌, arith, eqb-true, ltb-true}
+use Rattle.std.proofs.Common.{◌≡◌, ℕ, ◌^◌, ◌<◌, ◌&&◌, true, false, cond, nat_eq, nat_lt, List, [], ◌∷◌, length, drop, slice_get, decimal, Option, None, Some, Result, Ok, Err, option_map, option_and_then, if◌then◌else◌, refl, ap, subst, sym, ◌∙◌, arith, eqb-true, ltb-true}
 use Rattle.std.proofs.lemmas.Bool.{and_parts}
 use Rattle.std.proofs.lemmas.Bool.Decides.{nat_tests}
 use Rattle.std.specs.Char.{digit_value}

@@ -30,6 +30,10 @@ more_from_0 p xs x = from_more p 0 xs x ∙ ap (λ k. option_or (position_from p
 bytes_eq_same : (bs : List ℕ) → bytes_eq bs bs ≡ true
 bytes_eq_same bs = (bytes_eq-Decides bs bs).1 refl
 
+pub map_twice : {A B C : Type 0} (f : B → C) (g : A → B) (xs : List A) → map (λ x. f (g x)) xs ≡ map f (map g xs)
+map_twice f g [] = refl
+map_twice f g (x ∷ xs) = ap (λ ys. f (g x) ∷ ys) (map_twice f g xs)
+
 or_none : {X : Type 0} (o : Option X) → option_or o None ≡ o
 or_none None = refl
 or_none (Some x) = refl

@@ -1,5 +1,6 @@
 -- What is shown of lines: texts that are added, and what their numbers say.
-use Rattle.std.proofs.Common.{◌≡◌, ℕ, ◌+◌, suc, zero, ◌<◌, ◌≤◌, Bool, true, false, List, [], ◌∷◌, ◌++◌, All, append-nil, length, length-append, map, take, drop, slice_get, slice_index_or, slice_set, Option, None, Some, IfSome, is_some, option_and_then, if◌then◌else◌, refl, ap, sym, subst, ◌∙◌, arith, Ordering, Less, Equal, Greater}
+use Rattle.std.proofs.Common.{◌≡◌, ℕ, ◌+◌, suc, zero, ◌<◌, ◌≤◌, Bool, true, false, List, [], ◌∷◌, ◌++◌, append-nil, length, length-append, map, take, drop, slice_get, slice_index_or, slice_set, Option, None, Some, IfSome, is_some, option_and_then, option_map, if◌then◌else◌, refl, ap, sym, subst, ◌∙◌, arith, Ordering, Less, Equal, Greater}
+use Rattle.std.proofs.Math.Seq.{set-append_seam, take-append_seam}
 use Rattle.std.proofs.lemmas.List.{get_or-map, length-map, map-append, map-set}
 use Rattle.std.proofs.lemmas.List.Quantifiers.{position-Some}
 use Rattle.std.proofs.lemmas.List.Elements.{All-append}
@@ -13,11 +14,13 @@ use Rattle.std.specs.Str.{bytes_eq}
 use Rattle.serde_json.specs.Data.{Data, Members, array, boolean, depth, member, members_depth, no_members, null, number, object, string}
 use Rattle.serde_json.specs.Find.{get, get_member}
 use Rattle.serde_json.specs.Read.{max_depth, read}
-use Rattle.fdb_log_reader.specs.Columns.{IsText, ShownColumn, all_shown, shown_of, value_in, with_shown}
+use Rattle.fdb_log_reader.specs.Columns.{ArePrinted, IsText, ShownColumn, all_shown, nothing_shown, shown_of, text_at, value_in, with_shown}
+use Rattle.fdb_log_reader.specs.Printed.{shown_text}
 use Rattle.fdb_log_reader.specs.declared.shown.Shown.{Shown}
 use Rattle.fdb_log_reader.specs.Numbers.{number_in, with_name}
-use Rattle.fdb_log_reader.specs.private.{IsFlat, IsMore}
-use Rattle.fdb_log_reader.specs.private.Texts.{AreJson, AreWithin, text_at}
+use Rattle.fdb_log_reader.specs.private.{HaveCells, IsFlat, IsMore}
+use Rattle.fdb_log_reader.proofs.Room.{few_names}
+use Rattle.fdb_log_reader.specs.private.Texts.{AreJson, AreWithin}
 
 pub more_names : (names more : List (List ℕ)) (name : List ℕ) → more ≡ with_name names name → IsMore names more
 more_names names more name is = subst (IsMore names) (sym is) (added (is_some (number_in names name)))
@@ -25,6 +28,15 @@ more_names names more name is = subst (IsMore names) (sym is) (added (is_some (n
     added : (b : Bool) → IsMore names (if b then names else names ++ name ∷ [])
     added true = ([], sym (append-nil names))
     added false = (name ∷ [], refl)
+
+pub few_more : (names more : List (List ℕ)) (name : List ℕ) → more ≡ with_name names name → length more ≤ length names + 1
+few_more names more name is = subst (λ more. length more ≤ length names + 1) (sym is) (few_names names (Some name))
+
+-- a place that was kept for a number is taken
+pub set_last : (numbers items : List (Option ℕ)) (place : ℕ) (cell : Option ℕ) → items ≡ numbers ++ None ∷ [] → place ≡ length numbers
+    → slice_set items place cell ≡ numbers ++ cell ∷ []
+set_last numbers items place cell is at =
+    ap (λ l. slice_set l place cell) is ∙ (ap (λ n. slice_set (numbers ++ None ∷ []) n cell) at ∙ set-append_seam numbers None [] cell)
 
 get_more : (names new : List (List ℕ)) (n : ℕ) → n < length names → slice_get (names ++ new) n ≡ slice_get names n
 get_more [] new n within = absurd (omega arith)
@@ -103,6 +115,42 @@ text_says texts (None ∷ cells) zero all within = refl
 text_says texts (Some n ∷ cells) zero all within = there texts n (within 0 None (omega arith)) all
 text_says texts (cell ∷ cells) (suc line) all within = text_says texts cells line all (λ k d lt. within (suc k) d (omega arith))
 
+get_map : (texts : List (List ℕ)) (n : ℕ) → slice_get (map shown_text texts) n ≡ option_map shown_text (slice_get texts n)
+get_map [] n = refl
+get_map (text ∷ texts) zero = refl
+get_map (text ∷ texts) (suc n) = get_map texts n
+
+at_map : (texts : List (List ℕ)) (number : Option ℕ)
+    → option_and_then (slice_get (map shown_text texts)) number ≡ option_map shown_text (option_and_then (slice_get texts) number)
+at_map texts None = refl
+at_map texts (Some n) = get_map texts n
+
+-- the texts as they are printed are what the lines say
+pub printed_say : (texts : List (List ℕ)) (cells : List (Option ℕ)) → AreJson texts → AreWithin texts cells
+    → ArePrinted (map (value_in texts) cells) (map shown_text texts) cells
+printed_say texts cells all within line =
+    (text_at texts cells line, text_says texts cells line all within, at_map texts (option_flatten (slice_get cells line)))
+
+-- ---- how many values a column has
+
+-- those that a table was lent
+pub took : {X : Type 0} (xs ys : List X) (n : ℕ) → length xs ≡ n → take n (xs ++ ys) ≡ xs
+took xs ys n is = subst (λ n. take n (xs ++ ys) ≡ xs) is (take-append_seam xs ys)
+
+-- members of no line
+pub no_cells : (names : List (List ℕ)) → HaveCells 0 (map nothing_shown names)
+no_cells [] k d within = absurd (omega arith)
+no_cells (name ∷ names) zero d within = refl
+no_cells (name ∷ names) (suc k) d within = no_cells names k d (omega arith)
+
+-- a line more
+pub cells_more : (says : List ℕ → Option Data) (columns : List ShownColumn) (n : ℕ) → HaveCells n columns → HaveCells (n + 1) (all_shown says columns)
+cells_more says [] n all k d within = absurd (omega arith)
+cells_more says (column ∷ columns) n all zero d within =
+    length-append column.values (says column.member ∷ []) ∙ ap (λ n. n + 1) (all 0 column (omega arith))
+cells_more says (column ∷ columns) n all (suc k) d within =
+    cells_more says columns n (λ k d lt. all (suc k) d (omega arith)) k d (omega arith)
+
 pub kept_says : (texts : List (List ℕ)) (cells : List (Option ℕ)) (line : ℕ) (text : Option (List ℕ)) → AreJson texts → AreWithin texts cells
     → text ≡ text_at texts cells line → IsText (option_flatten (slice_get (map (value_in texts) cells) line)) text
 kept_says texts cells line text all within is = subst (IsText (option_flatten (slice_get (map (value_in texts) cells) line))) (sym is) (text_says texts cells line all within)
@@ -141,6 +189,17 @@ pub next : {X : Type 0} (more : X → X) (columns : List X) (i : ℕ) (d : X) �
 next more [] i d within = absurd (omega arith)
 next more (one ∷ columns) zero d within = refl
 next more (one ∷ columns) (suc i) d within = ap (λ rest. more one ∷ rest) (next more columns i d (omega arith))
+
+-- how many values the next column has
+pub next_cells : (says : List ℕ → Option Data) (columns old : List Shown) (i n : ℕ) (d : Shown) → i < length columns → i < length old
+    → map shown_of columns ≡ all_shown says (take i (map shown_of old)) ++ drop i (map shown_of old)
+    → HaveCells n (map shown_of old) → length (shown_of (slice_index_or columns i d)).values ≡ n
+next_cells says columns old i n d within in_old so_far all =
+    let those = map shown_of old in
+    let in_all : i < length those = omega (arith, length-map old shown_of) in
+    ap (λ column. length column.values)
+    (sym (get_or-map shown_of columns i d (shown_of d) within) ∙ (ap (λ l. slice_index_or l i (shown_of d)) so_far ∙ here (λ column. with_shown column (says column.member)) those i (shown_of d) in_all))
+    ∙ all i (shown_of d) in_all
 
 -- the columns once one more has what the line says
 pub column_added : (says : List ℕ → Option Data) (columns old : List Shown) (i : ℕ) (d added : Shown) → i < length columns → i < length old

@@ -1,6 +1,6 @@
 -- Members that are kept beside the calls, a cell for each line. (this product's own)
 use Rattle.std.specs.Prelude.{◌≡◌, ℕ, List, [], ◌∷◌, ◌++◌, length, map, slice_get, string_bytes, Option, None, Some, IfSome, option_and_then, option_map, Result, Ok, Err, if◌then◌else◌}
-use Rattle.std.specs.Option.{ok_or}
+use Rattle.std.specs.Option.{ok_or, option_flatten}
 use Rattle.serde_json.specs.Data.{Data}
 use Rattle.serde_json.specs.Read.{read}
 use Rattle.fdb_lines.specs.declared.line.Call.{Call}
@@ -59,9 +59,13 @@ pub record ShownColumn : Type 0 where
 abbrev pub value_in : List (List ℕ) → Option ℕ → Option Data
 value_in texts number = option_and_then (λ n. option_and_then read (slice_get texts n)) number
 
+-- which text each line has
+abbrev pub numbers_of : Shown → List (Option ℕ)
+numbers_of shown = shown.numbers.items
+
 -- what is shown: the texts are JSON, and are read
 abbrev pub shown_of : Shown → ShownColumn
-shown_of shown = record { member = string_bytes shown.member; values = map (value_in (names_of shown.texts)) shown.numbers.items }
+shown_of shown = record { member = string_bytes shown.member; values = map (value_in (names_of shown.texts)) (numbers_of shown) }
 
 -- of no line
 abbrev pub nothing_shown : List ℕ → ShownColumn
@@ -84,6 +88,14 @@ IsText said (Some text) = (value : Data) × (said ≡ Some value) × (read text 
 -- parts the line or turns text round.
 abbrev pub IsPrinted : Option Data → Option (List ℕ) → Type 0
 IsPrinted said text = (json : Option (List ℕ)) × IsText said json × (text ≡ option_map shown_text json)
+
+-- the text of the line at a place, if it has one
+abbrev pub text_at : List (List ℕ) → List (Option ℕ) → ℕ → Option (List ℕ)
+text_at texts numbers line = option_and_then (slice_get texts) (option_flatten (slice_get numbers line))
+
+-- these texts are what the lines say, as it is printed, by the number that each has
+abbrev pub ArePrinted : List (Option Data) → List (List ℕ) → List (Option ℕ) → Type 0
+ArePrinted values texts numbers = (line : ℕ) → IsPrinted (option_flatten (slice_get values line)) (text_at texts numbers line)
 
 -- ---- for each line a cell
 

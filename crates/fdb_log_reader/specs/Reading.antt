@@ -18,7 +18,7 @@ use Rattle.fdb_log_reader.specs.declared.member.Member.{Member}
 use Rattle.fdb_log_reader.specs.declared.member.Member.TheVariants.{Client, Learn}
 use Rattle.fdb_log_reader.specs.declared.named_log.NamedLog.{NamedLog}
 use Rattle.fdb_log_reader.specs.declared.reader.TheConstants.{MAX_LINE_BYTES}
-use Rattle.fdb_log_reader.specs.Columns.{KeyColumn, ShownColumn, all_shown, column_of, keyed, no_keys, shown_of}
+use Rattle.fdb_log_reader.specs.Columns.{KeyColumn, ShownColumn, all_shown, column_of, keyed, no_keys, nothing_shown, shown_of}
 use Rattle.fdb_log_reader.specs.Members.{and_then, call_of, client_of, member_of, times_of}
 use Rattle.fdb_log_reader.specs.Names.{names_of}
 use Rattle.fdb_log_reader.specs.Numbers.{client_in, with_client}
@@ -113,9 +113,10 @@ with_lines reading (line ∷ lines) =
 abbrev pub nothing : Option (List ℕ) → List ShownColumn → Reading
 nothing key shown = record { log = record { timed = false; lines = [] }; names = []; keys = option_map no_keys key; shown = shown }
 
--- what a text stands for: what is read of all its lines, of which it needs one, or the first that is refused
-abbrev pub reading_with : Option (List ℕ) → List ShownColumn → List ℕ → Result Reading ReadError
-reading_with key shown bytes = with_lines (nothing key shown) (lines_in bytes)
+-- what a text stands for, of which the members of these names are shown: what is read of all its lines, of which it
+-- needs one, or the first that is refused
+abbrev pub reading_with : Option (List ℕ) → List (List ℕ) → List ℕ → Result Reading ReadError
+reading_with key shown bytes = with_lines (nothing key (map nothing_shown shown)) (lines_in bytes)
 
 -- and where none are kept
 abbrev pub reading_in : List ℕ → Result Reading ReadError

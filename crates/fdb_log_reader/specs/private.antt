@@ -2,13 +2,13 @@
 pub mod Feeding
 pub mod Texts
 pub mod Usual
-use Rattle.std.specs.Prelude.{◌≡◌, ℕ, ◌≤◌, false, List, ◌++◌, All, length, Option, IfSome, option_map}
+use Rattle.std.specs.Prelude.{◌≡◌, ℕ, ◌≤◌, false, List, ◌++◌, All, length, map, Option, IfSome, option_map}
 use Rattle.serde_json.specs.Data.{Data, depth}
 use Rattle.serde_json.specs.Read.{max_depth}
 use Rattle.fdb_lines.specs.Lines.{Lines}
 use Rattle.fdb_lines.specs.Log.{lines_of}
 use Rattle.fdb_log_reader.specs.declared.named_log.NamedLog.{NamedLog}
-use Rattle.fdb_log_reader.specs.Columns.{HasCells, KeyColumn, column_of}
+use Rattle.fdb_log_reader.specs.Columns.{HasCells, KeyColumn, ShownColumn, column_of, shown_of}
 use Rattle.fdb_log_reader.specs.Names.{names_of}
 use Rattle.fdb_log_reader.specs.Reading.{is_line_feed}
 
@@ -16,12 +16,17 @@ use Rattle.fdb_log_reader.specs.Reading.{is_line_feed}
 abbrev pub HasFewKeys : Option KeyColumn → Lines → Type 0
 HasFewKeys column log = IfSome column (λ column. length column.keys ≤ length log.lines)
 
--- There are no more names and keys than lines, and each line has its cell.
+-- each column that is shown has as many values
+abbrev pub HaveCells : ℕ → List ShownColumn → Type 0
+HaveCells lines columns = All (λ column. length column.values ≡ lines) columns
+
+-- There are no more names and keys than lines, and each line has its cells.
 abbrev pub HasRoom : NamedLog → Type 0
 HasRoom named =
     (length (names_of named.names) ≤ length (lines_of named.log).lines)
     × HasFewKeys (option_map column_of named.keys) (lines_of named.log)
     × HasCells (option_map column_of named.keys) (lines_of named.log)
+    × HaveCells (length (lines_of named.log).lines) (map shown_of named.shown.items)
 
 -- names of which the first are these
 abbrev pub IsMore : List (List ℕ) → List (List ℕ) → Type 0

@@ -24,5 +24,6 @@ pub use keys::Keys;
 pub use member::Member;
 pub use named_log::NamedLog;
 pub use names::Names;
+pub use printing::printed_name;
 pub use reader::{LogReader, MAX_LINE_BYTES, read_log};
 pub use shown::Shown;

@@ -4,9 +4,9 @@ ghost use Rattle.std.specs.Prelude.{◌≡◌, ◌<◌, ℕ, List, [], IfOk, IfS
 ghost use Rattle.std.specs.Prelude.{map, option_map, slice_get, string_bytes};
 ghost use Rattle.std.specs.BTreeMap.{get_by_text};
 ghost use Rattle.fdb_log_reader.specs.Numbers.{number_in, with_name};
-ghost use Rattle.fdb_log_reader.specs.Printed.{printed, read_back};
+ghost use Rattle.fdb_log_reader.specs.Printed.{printed, read_back, shown_text};
 
-use crate::printing::printed_name;
+use crate::printing::{printed_name, shown_text};
 use std::alloc::{AllocError, Global};
 use std::collections::BTreeMap;
 
@@ -66,6 +66,19 @@ impl Names {
         let mut texts = Vec::new(alloc);
         for name in &self.texts {
             let text = printed_name(alloc, name)?;
+            texts.push(text)?;
+        }
+        Ok(texts)
+    }
+
+    /// The names, if they are JSON texts, as these are printed: safe on a terminal and within a line.
+    pub(crate) fn shown(&self, alloc: Global) -> Result<Vec<String>, AllocError>
+        ensures { IfOk result
+            (λ texts. map string_bytes texts.items ≡ map shown_text (names_of self.now)) }
+    {
+        let mut texts = Vec::new(alloc);
+        for name in &self.texts {
+            let text = shown_text(alloc, name)?;
             texts.push(text)?;
         }
         Ok(texts)

@@ -9,10 +9,10 @@ use serde_json::Value;
 use std::alloc::{AllocError, Global};
 use std::fmt::Write;
 
-/// A name as a JSON string, in which what is no text of its line is escaped too.
+/// A name as it is printed: a JSON string, in which what is no text of its line is escaped too.
 ///
 /// Linear in the name.
-pub(crate) fn printed_name(alloc: Global, name: &str) -> Result<String, AllocError>
+pub fn printed_name(alloc: Global, name: &str) -> Result<String, AllocError>
     ensures { IfOk result (λ text. string_bytes text ≡ printed name.now) }
 {
     let text = quoted_name(alloc, name)?;

@@ -1,22 +1,23 @@
 //! A log that is read piece by piece.
 
 ghost use Rattle.std.specs.Prelude.{◌≡◌, ◌⊎◌, ◌++◌, ◌∷◌, ◌+◌, ◌≤◌, ℕ, List, [], Err, IfOk};
-ghost use Rattle.std.specs.Prelude.{MatchOption, MatchResult, length, map, option_map};
+ghost use Rattle.std.specs.Prelude.{IfSome, MatchOption, MatchResult, length, map, option_map};
 ghost use Rattle.std.specs.Prelude.{string_bytes};
-ghost use Rattle.fdb_log_reader.specs.Columns.{HasCells, shown_of};
-ghost use Rattle.fdb_log_reader.specs.Reading.{ReadsAs, StandsFor, reading_in, reading_of};
-ghost use Rattle.fdb_log_reader.specs.Reading.{reading_with};
-ghost use Rattle.fdb_log_reader.specs.private.{HasRoom, IsOneLine};
+ghost use Rattle.fdb_log_reader.specs.Columns.{HasCells, column_of, no_keys, shown_of};
+ghost use Rattle.fdb_log_reader.specs.Reading.{ReadsAs, StandsFor, lines_in, nothing, reading_in};
+ghost use Rattle.fdb_log_reader.specs.Reading.{reading_of, reading_with, with_lines};
+ghost use Rattle.fdb_log_reader.specs.private.{HasRoom, HaveCells, IsOneLine};
 ghost use Rattle.std.proofs.Props.{props};
 
 use crate::error::{ReadError, Why};
 use crate::keys::Keys;
 use crate::named_log::{NamedLog, add_line};
 use crate::names::Names;
+use crate::showing::no_columns;
 use crate::shown::Shown;
 use fdb_lines::Log;
 use memchr::memchr;
-use std::alloc::Global;
+use std::alloc::{AllocError, Global};
 
 /// The most bytes of a line, without its line feed.
 pub const MAX_LINE_BYTES: usize = 1_048_576;
@@ -40,19 +41,35 @@ impl LogReader {
     pub fn new(alloc: Global) -> Self
         ensures { (text : List ℕ) → reads_on result text ≡ reading_in text }
     {
-        LogReader::with_columns(alloc, None, Vec::new(alloc))
+        LogReader::beginning(alloc, None, Vec::new(alloc))
     }
 
     /// The same, where the member of a name has the keys of lines, if they are to be kept, and
-    /// others are to be shown.
-    pub fn with_columns(alloc: Global, key: Option<String>, shown: Vec<Shown>) -> Self
-        ensures { (text : List ℕ) → reads_on result text
-            ≡ reading_with (option_map string_bytes key) (map shown_of shown.items) text }
+    /// others are to be shown. It fails only where memory is refused.
+    pub fn with_columns(
+        alloc: Global,
+        key: Option<&str>,
+        shown: &[String],
+    ) -> Result<Self, AllocError>
+        ensures { IfOk result (λ reader. (text : List ℕ) → reads_on reader text ≡ reading_with
+            (option_map (λ key. key.now) key.entry) (map string_bytes shown.now) text) }
     {
         let keys = match key {
-            Some(member) => Some(Keys::new(alloc, member)),
+            Some(member) => Some(Keys::new(alloc, String::from_str(alloc, member)?)),
             None => None,
         };
+        let shown = no_columns(alloc, shown)?;
+        Ok(LogReader::beginning(alloc, keys, shown))
+    }
+
+    /// A log of which nothing has been read, with these columns.
+    fn beginning(alloc: Global, keys: Option<Keys>, shown: Vec<Shown>) -> Self
+        requires keys { IfSome keys (λ keys. column_of keys ≡ no_keys (column_of keys).member) }
+        requires shown { HaveCells 0 (map shown_of shown.items) }
+        ensures { (text : List ℕ) → reads_on result text ≡ with_lines (nothing
+            (option_map (λ keys. (column_of keys).member) keys) (map shown_of shown.items))
+            (lines_in text) }
+    {
         LogReader {
             alloc,
             named: NamedLog {

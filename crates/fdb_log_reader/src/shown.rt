@@ -1,18 +1,18 @@
 //! What a further member of each line says, to be shown beside the line.
 
 ghost use Rattle.std.specs.Prelude.{◌≡◌, ◌≤◌, ◌<◌, IfOk, IfSome, OnOk, length, option_and_then};
-ghost use Rattle.std.specs.Prelude.{option_map, slice_get, string_bytes};
+ghost use Rattle.std.specs.Prelude.{map, option_map, slice_get, string_bytes};
 ghost use Rattle.std.specs.Option.{option_flatten};
 ghost use Rattle.std.proofs.Props.{props};
 ghost use Rattle.serde_json.specs.Data.{depth};
 ghost use Rattle.serde_json.specs.Read.{max_depth, read};
 ghost use Rattle.serde_json.specs.View.{view};
 ghost use Rattle.fdb_log_reader.specs.Names.{names_of};
-ghost use Rattle.fdb_log_reader.specs.private.Texts.{AreJson, AreWithin, text_at};
+ghost use Rattle.fdb_log_reader.specs.private.Texts.{AreJson, AreWithin};
 
 use crate::names::Names;
-use crate::printing::shown_text;
 use crate::showing::add_text;
+use fdb_lines::MAX_LINES;
 use serde_json::Value;
 use std::alloc::{AllocError, Global};
 
@@ -21,17 +21,18 @@ use std::alloc::{AllocError, Global};
 pub struct Shown {
     member: String,
     texts: Names,
-    numbers: Vec<Option<usize>>,
+    numbers: Vec<Option<u32>>,
+    ghost few: { length (names_of texts) ≤ length numbers.items },
     ghost within: { AreWithin (names_of texts) numbers.items } by { Prim.hlevel props },
     ghost json: { AreJson (names_of texts) },
 }
 
 impl Shown {
-    ghost use Rattle.fdb_log_reader.specs.Columns.{IsPrinted, IsText, nothing_shown, shown_of};
-    ghost use Rattle.fdb_log_reader.specs.Columns.{with_shown};
+    ghost use Rattle.fdb_log_reader.specs.Columns.{ArePrinted, IsText, nothing_shown, numbers_of};
+    ghost use Rattle.fdb_log_reader.specs.Columns.{shown_of, text_at, with_shown};
 
     /// What the member of this name says in no line yet.
-    pub fn new(alloc: Global, member: String) -> Self
+    pub(crate) fn new(alloc: Global, member: String) -> Self
         ensures { shown_of result ≡ nothing_shown (string_bytes member) }
     {
         Shown {
@@ -62,30 +63,37 @@ impl Shown {
             ≡ text_at (names_of self.now.texts) self.now.numbers.items line }
     {
         let number = (*self.numbers.get(line)?)?;
-        self.texts.text(number)
+        self.texts.name(number)
     }
 
-    /// The same as it is printed: safe on a terminal and within a line.
-    pub fn printed(&self, alloc: Global, line: usize) -> Result<Option<String>, AllocError>
-        ensures { IfOk result (λ text. IsPrinted
-            (option_flatten (slice_get (shown_of self.now).values line)) (option_map string_bytes text)) }
+    /// For each line the number of its text, if it has one.
+    pub fn numbers(&self) -> &[Option<u32>]
+        ensures { result.now ≡ numbers_of self.now }
     {
-        let Some(text) = self.text(line) else {
-            return Ok(None);
-        };
-        let printed = shown_text(alloc, text)?;
-        Ok(Some(printed))
+        &self.numbers
+    }
+
+    /// The texts as they are printed, each at its number: safe on a terminal and within a line.
+    pub fn printed(&self, alloc: Global) -> Result<Vec<String>, AllocError>
+        ensures { IfOk result (λ texts. ArePrinted (shown_of self.now).values
+            (map string_bytes texts.items) (numbers_of self.now)) }
+    {
+        self.texts.shown(alloc)
     }
 
     /// Adds what a line says, if it says something.
     #[tactic(auto, using(crate::proofs::ShownTexts::values_more, crate::proofs::ShownTexts::within_more))]
     pub(crate) fn add(&mut self, alloc: Global, said: Option<&Value>) -> Result<(), AllocError>
+        requires few { length (shown_of self.old).values < MAX_LINES }
         requires flat { IfSome said (λ value. depth (view value.now) ≤ max_depth) }
         ensures added { OnOk result (shown_of self.new
             ≡ with_shown (shown_of self.old) (option_map (λ value. view value.now) said.entry)) }
     {
+        // Its place comes first: a text that no line has is never kept.
+        let place = self.numbers.len();
+        self.numbers.push(None)?;
         let number = add_text(&mut self.texts, alloc, said)?;
-        self.numbers.push(number)?;
+        self.numbers[place] = number;
         Ok(())
     }
 }

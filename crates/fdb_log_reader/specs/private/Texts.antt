@@ -1,7 +1,6 @@
 -- The texts of values, and each line's. (this product's own)
-use Rattle.std.specs.Prelude.{◌≡◌, ℕ, ◌<◌, true, List, Option, IfSome, is_some, length, option_and_then, slice_get}
+use Rattle.std.specs.Prelude.{◌≡◌, ℕ, ◌<◌, true, List, Option, IfSome, is_some, length}
 use Rattle.std.specs.List.{All}
-use Rattle.std.specs.Option.{option_flatten}
 use Rattle.serde_json.specs.Read.{read}
 
 -- each is a JSON text
@@ -11,7 +10,3 @@ AreJson texts = All (λ text. is_some (read text) ≡ true) texts
 -- each line that has a number has a text
 abbrev pub AreWithin : List (List ℕ) → List (Option ℕ) → Type 0
 AreWithin texts numbers = All (λ number. IfSome number (λ n. n < length texts)) numbers
-
--- the text of the line at a place, if it has one
-abbrev pub text_at : List (List ℕ) → List (Option ℕ) → ℕ → Option (List ℕ)
-text_at texts numbers line = option_and_then (slice_get texts) (option_flatten (slice_get numbers line))

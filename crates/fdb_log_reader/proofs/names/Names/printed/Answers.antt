@@ -1,12 +1,9 @@
-use Rattle.std.proofs.Common.{◌≡◌, ◌∙◌, List, [], ◌∷◌, ap, map, refl, rules, string_bytes, take}
+use Rattle.std.proofs.Common.{◌≡◌, ◌∙◌, ap, map, rules, string_bytes, take}
 use Rattle.std.proofs.lemmas.List.{take_all}
 use Rattle.fdb_log_reader.specs.Printed.{printed, read_back}
+use Rattle.fdb_log_reader.proofs.Naming.{map_twice}
 use Rattle.fdb_log_reader.proofs.ReadsBack.{names_back}
 use Rattle.fdb_log_reader.proofs.names.Names.printed.Goals as goal
-
-map_twice : {A B C : Type 0} (f : B → C) (g : A → B) (xs : List A) → map (λ x. f (g x)) xs ≡ map f (map g xs)
-map_twice f g [] = refl
-map_twice f g (x ∷ xs) = ap (λ ys. f (g x) ∷ ys) (map_twice f g xs)
 
 pub returns-clause-printed : goal.returns-clause-printed
 returns-clause-printed c =
