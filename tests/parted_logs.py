@@ -48,7 +48,8 @@ def fault_of_parts(folder, log):
 
 def parted(_program):
     """The parts of a log have the faults that one process finds, and their counts add up."""
-    if not shutil.which("parallel"):
+    # (another program of this name knows no --version)
+    if not shutil.which("parallel") or b"GNU" not in run(["parallel", "--version"]).out:
         print("(no GNU parallel here) ", end="")
         yield "without GNU parallel", None
         return
