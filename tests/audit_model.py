@@ -20,8 +20,6 @@ FAULTS = ("Order", "Wrong", "NotAbove", "Twice", "Stray")
 UNPRINTABLE = re.compile("[\x7f-\x9f\u061c\u200e\u200f\u2028-\u202e\u2066-\u2069]")
 
 
-
-
 class Options(NamedTuple):
     """What is asked for: START, where the log has all calls; how far clocks may be apart; by which
     member each key is judged by itself; and what is written, and how."""

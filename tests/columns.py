@@ -2,7 +2,7 @@
 from harness import files_below, text_of
 
 MOST = 100
-OF_PYTHON = ["bench", "tests", "tools"]
+OF_PYTHON = ["bench", "examples", "tests", "tools"]
 
 
 def fault_of(lines):

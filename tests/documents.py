@@ -1,5 +1,4 @@
 """What documents say and show: lists, numbers, clauses, files, links, code and runs."""
-import glob
 import os
 import re
 
@@ -254,8 +253,7 @@ def fault_of_code(text, sources, lines):
 def runs(program):
     """A block of a run shows what the program prints, and one of a script or log is an example."""
     programs = {"./fdb_replay": program, "./fdb_audit": audit_logs.PROGRAM}
-    examples = glob.glob("examples/**/*.json*", root_dir=ROOT, recursive=True)
-    scripts = [text_of(it).strip() for it in examples]
+    scripts = [text_of(it).strip() for it in files_below("examples", ".json", ".jsonl")]
     for document, language, block in blocks():
         first, _, rest = block.partition("\n")
         words = first.split()[1:]

@@ -50,7 +50,8 @@ def operations(rng):
         elif kind < 0.17:
             yield "pop", {}
         elif kind < 0.20:
-            normal, batch = rng.choice([100, 100, 100, 50, 1, 0]), rng.choice([20, 20, 1, 0, 100_001])
+            normal = rng.choice([100, 100, 100, 50, 1, 0])
+            batch = rng.choice([20, 20, 1, 0, 100_001])
             yield "set_rates", dict(normal=normal, batch=batch)
         elif kind < 0.35:
             yield throttling(rng)
