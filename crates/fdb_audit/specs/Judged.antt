@@ -1,5 +1,5 @@
 -- What is printed of an audit of a log. (this product's own)
-use Rattle.std.specs.Prelude.{◌≡◌, ℕ, ◌++◌, Bool, true, false, cond, List, [], ◌∷◌, All, Option, None, Some, Ok, codes, is_some, length, map, slice_get}
+use Rattle.std.specs.Prelude.{◌≡◌, ⊤, ℕ, ◌++◌, Bool, true, false, cond, List, [], ◌∷◌, All, Option, None, Some, Ok, codes, is_some, length, map, slice_get}
 use Rattle.std.specs.List.{flat_map}
 use Rattle.fdb_lines.specs.declared.fault.Found.{Found}
 use Rattle.fdb_lines.specs.declared.key_order.KeyOrder.{KeyOrder}
@@ -17,7 +17,7 @@ use Rattle.fdb_lines.specs.Listing.{faults_of}
 use Rattle.fdb_lines.specs.Reasons.{HasReason, found_of}
 use Rattle.fdb_lines.specs.Summary.{how_many, ordered, ordered_by_key, unreported, unreported_by_key}
 use Rattle.fdb_lines.specs.Turns.{acts_of, AreTurnsOf, HaveTurns}
-use Rattle.fdb_log_reader.specs.Columns.{KeyColumn}
+use Rattle.fdb_log_reader.specs.Columns.{ArePrinted, KeyColumn, ShownColumn}
 use Rattle.fdb_log_reader.specs.Printed.{printed}
 use Rattle.fdb_log_reader.specs.Reading.{Reading, reading_with}
 use Rattle.fdb_audit.specs.Objects.{fault_objects, text_or_null, total_object, turn_objects}
@@ -171,23 +171,37 @@ abbrev pub keys_of_lines : Option KeyColumn → Option (List (Option ℕ))
 keys_of_lines None = None
 keys_of_lines (Some column) = Some column.numbers
 
--- they are printed beside the calls, as JSON strings, under this name
+-- they are printed beside the calls, as JSON strings, under the name of their member
 abbrev pub keys_beside : Option KeyColumn → List Beside
 keys_beside None = []
-keys_beside (Some column) = record { member = codes "\"key\""; texts = map printed column.keys; numbers = column.numbers } ∷ []
+keys_beside (Some column) = record { member = printed column.member; texts = map printed column.keys; numbers = column.numbers } ∷ []
+
+-- a member that is shown is printed by JSON texts of what the lines say
+pub record IsBeside (column : ShownColumn) (it : Beside) : Type 0 where
+  pub member : it.member ≡ printed column.member
+  pub texts : ArePrinted column.values it.texts it.numbers
+
+-- each of those that are shown, in their order
+abbrev pub AreBeside : List ShownColumn → List Beside → Type 0
+AreBeside [] [] = ⊤
+AreBeside [] (it ∷ more) = ⊥
+AreBeside (column ∷ columns) [] = ⊥
+AreBeside (column ∷ columns) (it ∷ more) = IsBeside column it × AreBeside columns more
 
 -- what is printed of a log that was read: its clients are JSON strings, safe on a terminal and within a line
-abbrev pub shown_of : Reading → Shown
-shown_of reading = record { lines = reading.log.lines; names = map printed reading.names; beside = keys_beside reading.keys }
+abbrev pub print_of : Reading → List Beside → Shown
+print_of reading shown = record { lines = reading.log.lines; names = map printed reading.names; beside = keys_beside reading.keys ++ shown }
 
 abbrev pub IsTextOfReading : Reading → AuditOpts → Wanted → Option Found → List ℕ → Type 0
 IsTextOfReading reading opts wanted first text =
-    IsTextOf reading.log (shown_of reading) (keys_of_lines reading.keys) opts wanted first text
+    (shown : List Beside) × AreBeside reading.shown shown
+    × IsTextOf reading.log (print_of reading shown) (keys_of_lines reading.keys) opts wanted first text
 
--- These bytes stand for a log, with the keys that a member has, if they are asked for, and this is what is found and printed.
-abbrev pub IsJudgementBy : Option (List ℕ) → List ℕ → AuditOpts → Wanted → Option Found → List ℕ → Type 0
-IsJudgementBy key bytes opts wanted first text =
-    (reading : Reading) × (reading_with key [] bytes ≡ Ok reading) × IsTextOfReading reading opts wanted first text
+-- These bytes stand for a log, with the keys that a member has, if they are asked for, and with others that are shown, and
+-- this is what is found and printed.
+abbrev pub IsJudgementBy : Option (List ℕ) → List (List ℕ) → List ℕ → AuditOpts → Wanted → Option Found → List ℕ → Type 0
+IsJudgementBy key shown bytes opts wanted first text =
+    (reading : Reading) × (reading_with key shown bytes ≡ Ok reading) × IsTextOfReading reading opts wanted first text
 
 abbrev pub IsJudgement : List ℕ → AuditOpts → Wanted → Option Found → List ℕ → Type 0
-IsJudgement bytes opts wanted first text = IsJudgementBy None bytes opts wanted first text
+IsJudgement bytes opts wanted first text = IsJudgementBy None [] bytes opts wanted first text

@@ -19,7 +19,8 @@ use Rattle.fdb_lines.specs.declared.reason.Witness.{Witness}
 use Rattle.fdb_lines.specs.declared.turn.Turn.{Turn}
 use Rattle.fdb_lines.specs.declared.summed.Summary.{Summary}
 use Rattle.fdb_lines.specs.Lines.{line_at}
-use Rattle.fdb_audit.specs.Text.{Beside, Shown, line, text_at}
+use Rattle.fdb_log_reader.specs.Columns.{text_at}
+use Rattle.fdb_audit.specs.Text.{Beside, Shown, line}
 
 -- a number, or null
 abbrev pub number_or_null : Option ℕ → List ℕ
@@ -57,7 +58,7 @@ times_field None = []
 times_field (Some times) = codes ",\"began\":" ++ decimal times.began ++ codes ",\"ended\":" ++ number_or_null times.ended
 
 abbrev pub member_field : Beside → ℕ → List ℕ
-member_field it place = it.member ++ codes ":" ++ text_or_null (text_at it place)
+member_field it place = it.member ++ codes ":" ++ text_or_null (text_at it.texts it.numbers place)
 
 abbrev pub members_field : List Beside → ℕ → List ℕ
 members_field [] place = []

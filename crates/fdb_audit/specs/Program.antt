@@ -1,5 +1,6 @@
 -- What the program promises of itself. (this product's own)
-use Rattle.std.specs.Prelude.{◌≡◌, ◌≢◌, ℕ, ◌++◌, ◌||◌, ◌&&◌, not, Bool, List, [], ◌∷◌, Option, Some, Err, codes, option_map, pos, string_bytes, unwrap_or}
+use Rattle.std.specs.Prelude.{◌≡◌, ◌≢◌, ℕ, ◌++◌, ◌||◌, ◌&&◌, ◌==◌, not, Bool, List, [], ◌∷◌, Option, None, Some, Err, codes, map, option_map, pos, string_bytes, unwrap_or}
+use Rattle.std.specs.List.{slice_split}
 use Rattle.std.specs.Str.Parse.{digits_value, without_leading_plus}
 use Rattle.clap.specs.Words.{App, Rule, Text, first_of, matches_of, new_rule, one_of}
 use Rattle.fdb_command.specs.Arguments.{command_of, file_rule, flag_rule, is_set, number_rule}
@@ -19,13 +20,13 @@ use Rattle.fdb_audit.specs.declared.program.TheConstants.{MAX_LOG_BYTES}
 abbrev pub text_rule : Text → Rule
 text_rule name = record (new_rule name) { long = Some name; value_names = 1 }
 
--- LOGS, --complete START, --margin N, --key MEMBER, --all, --summary, --json, --history and --progress
+-- LOGS, --complete START, --margin N, --key MEMBER, --show MEMBER,MEMBER, --all, --summary, --json, --history and --progress
 abbrev pub command : App
 command = command_of (codes "fdb_audit")
     (file_rule
     ∷ number_rule (codes "complete") (pos 0) (pos 9223372036854775807)
     ∷ number_rule (codes "margin") (pos 0) (pos 9223372036854775807)
-    ∷ text_rule (codes "key") ∷ flag_rule (codes "all") ∷ flag_rule (codes "summary") ∷ flag_rule (codes "json") ∷ flag_rule (codes "history") ∷ flag_rule (codes "progress") ∷ [])
+    ∷ text_rule (codes "key") ∷ text_rule (codes "show") ∷ flag_rule (codes "all") ∷ flag_rule (codes "summary") ∷ flag_rule (codes "json") ∷ flag_rule (codes "history") ∷ flag_rule (codes "progress") ∷ [])
 
 -- the number that an argument gives, if it is given
 abbrev pub number_named : Text → List Text → Option ℕ
@@ -42,25 +43,38 @@ pub record IsWanted (arguments : List Text) (wanted : Wanted) : Type 0 where
   pub totals : wanted.totals ≡ is_given (codes "all") arguments || (is_given (codes "json") arguments || is_given (codes "summary") arguments)
   pub json : wanted.json ≡ is_given (codes "json") arguments
 
+abbrev pub is_comma : ℕ → Bool
+is_comma byte = byte == 44
+
+-- the members that a text names, parted by commas; none where it is not given
+abbrev pub members_named : Option Text → List Text
+members_named None = []
+members_named (Some text) = slice_split is_comma text
+
 -- what the arguments say, as clap has matched them
 pub record IsAsked (arguments : List Text) (asked : AuditArguments) : Type 0 where
   pub complete : asked.opts.complete ≡ number_named (codes "complete") arguments
   pub margin : asked.opts.margin ≡ unwrap_or (number_named (codes "margin") arguments) 0
   pub wanted : IsWanted arguments asked.wanted
   pub key : option_map string_bytes asked.key ≡ first_of (codes "key") (matches_of command arguments)
+  pub shown : map string_bytes asked.shown.items ≡ members_named (first_of (codes "show") (matches_of command arguments))
   pub progress : asked.progress ≡ is_given (codes "progress") arguments
 
 -- the member that has the keys, if they are asked for
 abbrev pub key_asked : AuditArguments → Option (List ℕ)
 key_asked asked = option_map string_bytes asked.key
 
+-- and those that are shown
+abbrev pub shown_asked : AuditArguments → List (List ℕ)
+shown_asked asked = map string_bytes asked.shown.items
+
 -- the reader has read these bytes: it reads on with whatever text comes after them
 abbrev pub HasRead : AuditArguments → LogReader → List ℕ → Type 0
-HasRead asked reader bytes = (text : List ℕ) → reads_on reader text ≡ reading_with (key_asked asked) [] (bytes ++ text)
+HasRead asked reader bytes = (text : List ℕ) → reads_on reader text ≡ reading_with (key_asked asked) (shown_asked asked) (bytes ++ text)
 
 -- what an audit prints of these bytes
 abbrev pub Prints : AuditArguments → List ℕ → List ℕ → Option Found → Type 0
-Prints asked bytes text found = IsJudgementBy (key_asked asked) bytes asked.opts asked.wanted found text
+Prints asked bytes text found = IsJudgementBy (key_asked asked) (shown_asked asked) bytes asked.opts asked.wanted found text
 
 -- It prints what an audit of the log finds that the bytes stand for, and refuses what stands for none; that memory was
 -- refused says nothing of the bytes. Whatever it finds, it prints.
@@ -74,6 +88,6 @@ audit = record {
   prints = λ arguments bytes text found. (asked : AuditArguments) × IsAsked arguments asked
       × Prints asked bytes text found;
   refuses = λ arguments bytes refused. (asked : AuditArguments) × IsAsked arguments asked
-      × (refused.error.why ≢ Memory) × (reading_with (key_asked asked) [] bytes ≡ Err refused.error);
+      × (refused.error.why ≢ Memory) × (reading_with (key_asked asked) (shown_asked asked) bytes ≡ Err refused.error);
   finds = λ arguments bytes found. ⊥;
 }

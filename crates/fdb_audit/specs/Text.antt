@@ -18,6 +18,7 @@ use Rattle.fdb_lines.specs.declared.summed.Summary.{Summary}
 use Rattle.fdb_lines.specs.Before.{began, ended}
 use Rattle.fdb_lines.specs.Lines.{draws, kind_of, line_at}
 use Rattle.fdb_lines.specs.Text.{found_text}
+use Rattle.fdb_log_reader.specs.Columns.{text_at}
 
 -- a line ends with one newline byte
 abbrev pub line : List ℕ → List ℕ
@@ -30,10 +31,6 @@ pub record Beside : Type 0 where
   pub member : List ℕ
   pub texts : List (List ℕ)
   pub numbers : List (Option ℕ)
-
--- its text at a line; none where the line has none
-abbrev pub text_at : Beside → ℕ → Option (List ℕ)
-text_at it place = option_and_then (slice_get it.texts) (slice_index_or it.numbers place None)
 
 -- the lines, the names of their clients by number, and the members that are printed beside the calls
 pub record Shown : Type 0 where
@@ -70,7 +67,7 @@ member_text member None = []
 member_text member (Some text) = codes " " ++ member ++ codes ":" ++ text
 
 abbrev pub members_text : List Beside → ℕ → List ℕ
-members_text beside place = flat_map (λ it. member_text it.member (text_at it place)) beside
+members_text beside place = flat_map (λ it. member_text it.member (text_at it.texts it.numbers place)) beside
 
 -- a text of a member, by its number; or that there is none
 abbrev pub owner_of : Beside → Option ℕ → List ℕ

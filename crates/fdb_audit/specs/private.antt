@@ -14,7 +14,7 @@ use Rattle.fdb_audit.specs.declared.beside.MemberBeside.{MemberBeside}
 use Rattle.fdb_audit.specs.declared.view.View.{View}
 
 abbrev pub beside_of : MemberBeside → Beside
-beside_of it = record { member = it.member.now; texts = map string_bytes it.texts.now; numbers = it.numbers.now }
+beside_of it = record { member = string_bytes it.member; texts = map string_bytes it.texts.items; numbers = it.numbers.now }
 
 abbrev pub shown_in : View → Shown
 shown_in view = record {

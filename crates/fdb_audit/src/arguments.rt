@@ -1,10 +1,12 @@
 //! The command, and what its arguments say.
 
 ghost use Rattle.std.specs.Prelude.{◌≡◌, ◌&&◌, ◌||◌, false, not, IfOk, List, option_map};
-ghost use Rattle.std.specs.Prelude.{string_bytes};
+ghost use Rattle.std.specs.Prelude.{map, string_bytes};
+ghost use Rattle.std.specs.List.{slice_split};
 ghost use Rattle.clap.specs.Words.{Text, app_of, first_of, matches_of, rule_of, App};
 ghost use Rattle.fdb_command.specs.Arguments.{AreMatches};
-ghost use Rattle.fdb_audit.specs.Program.{command, text_rule, IsWanted};
+ghost use Rattle.fdb_audit.specs.Program.{command, is_comma, members_named, text_rule};
+ghost use Rattle.fdb_audit.specs.Program.{IsWanted};
 
 use crate::judging::Wanted;
 use clap::{Arg, ArgMatches, Command};
@@ -29,6 +31,8 @@ const MARGIN_HELP: &str = "How far the clocks of two clients may be apart [defau
 
 const KEY_HELP: &str = "The member that names a line's key: each key is judged by itself";
 
+const SHOW_HELP: &str = "Members, parted by commas, that are printed with each line that is told";
+
 /// What the flags say: `opts` by `--complete` and `--margin`, `wanted` by `--history`, `--all`,
 /// `--summary` and `--json`.
 #[derive(Debug, Drop)]
@@ -37,6 +41,8 @@ pub struct AuditArguments {
     pub wanted: Wanted,
     /// The member that names a line's key, if each key is to be judged by itself.
     pub key: Option<String>,
+    /// The members that are printed beside each call.
+    pub shown: Vec<String>,
     /// Whether `--progress` is given: then standard error tells how far the log has been read.
     pub progress: bool,
 }
@@ -102,7 +108,32 @@ pub(crate) fn owned(alloc: Global, text: Option<&str>) -> Result<Option<String>,
     }
 }
 
-/// The command that clap is given: one file, two numbers from 0 to 2^63 - 1, a text, and
+/// The members that a text names, parted by commas; none where it is not given.
+pub(crate) fn members(alloc: Global, text: Option<&str>) -> Result<Vec<String>, AllocError>
+    ensures { IfOk result (λ members. map string_bytes members.items
+        ≡ members_named (option_map (λ text. text.now) text.entry)) }
+{
+    match text {
+        Some(text) => members_in(alloc, text),
+        None => Ok(Vec::new(alloc)),
+    }
+}
+
+fn members_in(alloc: Global, text: &str) -> Result<Vec<String>, AllocError>
+    ensures { IfOk result
+        (λ members. map string_bytes members.items ≡ slice_split is_comma text.now) }
+{
+    let mut members = Vec::new(alloc);
+    let mut rest = text;
+    while let Some((member, more)) = rest.split_once(',') {
+        members.push(String::from_str(alloc, member)?)?;
+        rest = more;
+    }
+    members.push(String::from_str(alloc, rest)?)?;
+    Ok(members)
+}
+
+/// The command that clap is given: one file, two numbers from 0 to 2^63 - 1, two texts, and
 /// five flags.
 pub(crate) fn command<'a>(alloc: Global) -> Result<Command<'a>, AllocError>
     ensures { IfOk result (λ made. app_of made ≡ command) }
@@ -121,6 +152,7 @@ pub(crate) fn command<'a>(alloc: Global) -> Result<Command<'a>, AllocError>
     .arg(number_argument(alloc, "complete", 0, i64::MAX, "START", COMPLETE_HELP))?
     .arg(number_argument(alloc, "margin", 0, i64::MAX, "N", MARGIN_HELP))?
     .arg(text_argument(alloc, "key", "MEMBER", KEY_HELP))?
+    .arg(text_argument(alloc, "show", "MEMBERS", SHOW_HELP))?
     .arg(flag_argument(
         alloc,
         "all",

@@ -1,26 +1,32 @@
 //! The members that are printed beside each call.
 
-ghost use Rattle.std.specs.Prelude.{◌≡◌, ◌++◌, OnOk, Some, option_map, string_bytes};
-ghost use Rattle.fdb_audit.specs.Text.{member_text, owner_of, text_at};
+ghost use Rattle.std.specs.Prelude.{◌≡◌, ◌++◌, ◌∷◌, [], IfOk, List, OnOk, Some, map, option_map};
+ghost use Rattle.std.specs.Prelude.{string_bytes};
+ghost use Rattle.fdb_log_reader.specs.Columns.{column_of, shown_of, text_at};
+ghost use Rattle.fdb_log_reader.specs.Reading.{reading_of};
+ghost use Rattle.fdb_audit.specs.Judged.{keys_beside, AreBeside, IsBeside};
+ghost use Rattle.fdb_audit.specs.Text.{member_text, owner_of, Beside};
 ghost use Rattle.fdb_audit.specs.Totals.{value_of};
 ghost use Rattle.fdb_audit.specs.private.{beside_of};
 
-use std::alloc::AllocError;
+use fdb_log_reader::{Keys, NamedLog, Shown, printed_name};
+use std::alloc::{AllocError, Global};
 use std::fmt::Write;
 
 /// A member that is printed beside each call, as its name and its texts are printed, and which of
 /// these each line has.
-#[derive(Clone, Copy)]
+#[derive(Drop)]
 pub(crate) struct MemberBeside<'a> {
-    pub member: &'a str,
-    pub texts: &'a [String],
+    pub member: String,
+    pub texts: Vec<String>,
     pub numbers: &'a [Option<u32>],
 }
 
 impl MemberBeside<'_> {
     /// Its text at a line; none where the line has none.
     pub(crate) fn text(&self, place: u32) -> Option<&str>
-        ensures { option_map (λ text. text.now) result ≡ text_at (beside_of self.now) place }
+        ensures { let it = beside_of self.now in
+            option_map (λ text. text.now) result ≡ text_at it.texts it.numbers place }
     {
         let number = (*self.numbers.get(place as usize)?)?;
         let text = self.texts.get(number as usize)?;
@@ -30,7 +36,7 @@ impl MemberBeside<'_> {
     /// Writes its text at a line behind its name; nothing where the line has none.
     pub(crate) fn push(&self, out: &mut String, place: u32) -> Result<(), AllocError>
         ensures { let it = beside_of self.now in OnOk result (string_bytes out.new
-            ≡ string_bytes out.old ++ member_text it.member (text_at it place)) }
+            ≡ string_bytes out.old ++ member_text it.member (text_at it.texts it.numbers place)) }
     {
         match self.text(place) {
             Some(text) => self.push_text(out, text),
@@ -67,4 +73,60 @@ impl MemberBeside<'_> {
     {
         write!(out, " {}:{text}", self.member)
     }
+}
+
+/// The members that are printed beside the calls of a log that was read: its keys, if they were
+/// kept, and what is shown.
+pub(crate) fn members_beside<'x>(
+    alloc: Global,
+    named: &'x NamedLog,
+) -> Result<Vec<MemberBeside<'x>>, AllocError>
+    ensures { IfOk result (λ members. (shown : List Beside)
+        × AreBeside (reading_of named.entry.now).shown shown
+        × (map beside_of members.items ≡ keys_beside (reading_of named.entry.now).keys ++ shown)) }
+{
+    let mut members = Vec::new(alloc);
+    if let Some(keys) = &named.keys {
+        members.push(key_beside(alloc, keys)?)?;
+    }
+    add_shown(&mut members, alloc, &named.shown)?;
+    Ok(members)
+}
+
+/// Adds the columns that are shown.
+fn add_shown<'x>(
+    members: &mut Vec<MemberBeside<'x>>,
+    alloc: Global,
+    columns: &'x [Shown],
+) -> Result<(), AllocError>
+    ensures { OnOk result ((shown : List Beside) × AreBeside (map shown_of columns.now) shown
+        × (map beside_of members.new.items ≡ map beside_of members.old.items ++ shown)) }
+{
+    for column in columns {
+        members.push(shown_beside(alloc, column)?)?;
+    }
+    Ok(())
+}
+
+/// The keys of lines, as they are printed.
+fn key_beside<'x>(alloc: Global, keys: &'x Keys) -> Result<MemberBeside<'x>, AllocError>
+    ensures { IfOk result
+        (λ member. beside_of member ∷ [] ≡ keys_beside (Some (column_of keys.entry.now))) }
+{
+    Ok(MemberBeside {
+        member: printed_name(alloc, keys.member())?,
+        texts: keys.names().printed(alloc)?,
+        numbers: keys.numbers(),
+    })
+}
+
+/// A column that is shown, as it is printed.
+fn shown_beside<'x>(alloc: Global, column: &'x Shown) -> Result<MemberBeside<'x>, AllocError>
+    ensures { IfOk result (λ member. IsBeside (shown_of column.entry.now) (beside_of member)) }
+{
+    Ok(MemberBeside {
+        member: printed_name(alloc, column.member())?,
+        texts: column.printed(alloc)?,
+        numbers: column.numbers(),
+    })
 }

@@ -11,16 +11,16 @@ ghost use Rattle.fdb_lines.specs.Audit.{AreExplained, case_of};
 ghost use Rattle.fdb_lines.specs.Log.{lines_of};
 ghost use Rattle.fdb_log_reader.specs.Reading.{reading_in, reading_of, ReadsAs};
 ghost use Rattle.fdb_audit.specs.Judged.{IsJudgement, IsSummary, IsText, IsTextOf};
-ghost use Rattle.fdb_audit.specs.Judged.{IsTextOfReading};
+ghost use Rattle.fdb_audit.specs.Judged.{keys_of_lines, IsTextOfReading};
 ghost use Rattle.fdb_audit.specs.private.{keys_in, log_in, shown_in, HasKeys, HasOwnKeys};
 
 use crate::asked::Asked;
-use crate::beside::MemberBeside;
+use crate::beside::members_beside;
 use crate::listing::{listed, one_fault};
 use crate::passing::{explained, passed};
 use crate::view::View;
 use fdb_lines::{AuditOpts, Finding, Found, Log, Summary, first_finding_by, summary_by};
-use fdb_log_reader::{Keys, LogReader, NamedLog, ReadError, Why};
+use fdb_log_reader::{LogReader, NamedLog, ReadError, Why};
 use std::alloc::{AllocError, Global};
 use std::thread::{Threads, join};
 
@@ -66,23 +66,6 @@ pub fn judge<'x>(
     let view = View::of(log, names);
     let keys = None;
     judge_asked(alloc, Asked { view, keys, opts }, wanted)
-}
-
-/// The same, by threads.
-fn judge_by<'x, R: Threads + Sync>(
-    rt: &R,
-    alloc: Global,
-    log: &'x Log,
-    names: &'x [String],
-    opts: &'x AuditOpts,
-    wanted: Wanted,
-) -> Result<Judgement, AllocError>
-    ensures { IfOk result (λ found. IsText (lines_of log.now) (map string_bytes names.now)
-        opts.now wanted found.fault (string_bytes found.text)) }
-{
-    let view = View::of(log, names);
-    let keys = None;
-    judge_asked_by(rt, alloc, Asked { view, keys, opts }, wanted)
 }
 
 /// Audits what is asked.
@@ -191,7 +174,7 @@ fn read(alloc: Global, bytes: &[u8]) -> Result<NamedLog, ReadError>
 }
 
 /// Audits a log that was read: by key, where the keys of its lines were kept. Clients and keys are
-/// printed as JSON strings.
+/// printed as JSON strings, and what is shown of lines as JSON.
 fn judge_named<'x>(
     alloc: Global,
     named: &'x NamedLog,
@@ -202,11 +185,15 @@ fn judge_named<'x>(
     ensures { IfOk result (λ found. IsTextOfReading (reading_of named.entry.now) opts.entry.now wanted
         found.fault (string_bytes found.text)) }
 {
-    if let Some(keys) = &named.keys {
-        return judge_keyed(alloc, named, keys, opts, wanted);
-    }
     let names = named.names.printed(alloc)?;
-    judge(alloc, &named.log, &names, opts, wanted)
+    let beside = members_beside(alloc, named)?;
+    let keys = numbers_of(named);
+    let view = View {
+        log: &named.log,
+        names: &names,
+        beside: &beside,
+    };
+    judge_asked(alloc, Asked { view, keys, opts }, wanted)
 }
 
 /// The same, by threads.
@@ -221,38 +208,23 @@ pub(crate) fn judge_named_by<'x, R: Threads + Sync>(
     ensures { IfOk result (λ found. IsTextOfReading (reading_of named.entry.now) opts.entry.now wanted
         found.fault (string_bytes found.text)) }
 {
-    if let Some(keys) = &named.keys {
-        return judge_keyed(alloc, named, keys, opts, wanted);
-    }
     let names = named.names.printed(alloc)?;
-    judge_by(rt, alloc, &named.log, &names, opts, wanted)
-}
-
-/// Audits a log by the keys of its lines.
-fn judge_keyed<'x>(
-    alloc: Global,
-    named: &'x NamedLog,
-    keys: &'x Keys,
-    opts: &'x AuditOpts,
-    wanted: Wanted,
-) -> Result<Judgement, AllocError>
-    requires plain { HasOwnKeys (reading_of named.now) }
-    requires keys { named.now.keys ≡ Some keys.now }
-    ensures { IfOk result (λ found. IsTextOfReading (reading_of named.entry.now) opts.entry.now wanted
-        found.fault (string_bytes found.text)) }
-{
-    let names = named.names.printed(alloc)?;
-    let texts = keys.names().printed(alloc)?;
-    let beside = [MemberBeside {
-        member: "\"key\"",
-        texts: &texts,
-        numbers: keys.numbers(),
-    }];
+    let beside = members_beside(alloc, named)?;
+    let keys = numbers_of(named);
     let view = View {
         log: &named.log,
         names: &names,
         beside: &beside,
     };
-    let keys = Some(keys.numbers());
-    judge_asked(alloc, Asked { view, keys, opts }, wanted)
+    judge_asked_by(rt, alloc, Asked { view, keys, opts }, wanted)
+}
+
+/// For each line the number of its key, where keys were kept.
+fn numbers_of(named: &NamedLog) -> Option<&[Option<u32>]>
+    ensures { option_map (λ keys. keys.now) result ≡ keys_of_lines (reading_of named.now).keys }
+{
+    match &named.keys {
+        Some(keys) => Some(keys.numbers()),
+        None => None,
+    }
 }

@@ -6,7 +6,7 @@ ghost use Rattle.clap.specs.Words.{Text};
 ghost use Rattle.fdb_audit.specs.Program.{audit, HasRead, IsAsked, Prints};
 ghost use Rattle.fdb_command.specs.Driving.{IsDriven, Stops};
 
-use crate::arguments::{AuditArguments, command, owned, text, wanted_of};
+use crate::arguments::{AuditArguments, command, members, owned, text, wanted_of};
 use crate::judging::{Judgement, judge_named_by};
 use crate::refused::LogsRefused;
 use clap::{ArgMatches, Command};
@@ -63,13 +63,13 @@ impl Program for Audit {
             },
             wanted: wanted_of(matches),
             key: owned(alloc, text(matches, "key"))?,
+            shown: members(alloc, text(matches, "show"))?,
             progress: is_given(matches, "progress"),
         })
     }
 
     fn begin(&self, alloc: Global, asked: &AuditArguments) -> Result<LogReader, AllocError> {
-        let key = owned(alloc, asked.key.as_deref())?;
-        Ok(LogReader::with_columns(alloc, key, Vec::new(alloc)))
+        LogReader::with_columns(alloc, asked.key.as_deref(), &asked.shown)
     }
 
     fn take(
