@@ -2,10 +2,11 @@
 import os
 import random
 import re
+from collections import Counter
 
 import clusters
 from audit_lines import MOST_BYTES, lines_of, refusal
-from audit_model import Log, judged, options_of
+from audit_model import MOST, Log, judged, options_of
 from audit_right import why_wrong
 from audit_search import fault_of_search, random_lines, random_words, text_of
 from harness import EXAMPLES, ROOT, Ran, fault_of, processor_time, read, run
@@ -303,8 +304,12 @@ def large_log(count=LARGE):
                 f'{at} (client "client {(at - 1) % CLIENTS}", commit {at}) had ended 9 {began}\n'
             )
     reads = len(said)
-    said.append(f"audit total {counted(count, reads)}\naudit total faults {reads} Order {reads} "
-                "Wrong 0 NotAbove 0 Twice 0 Stray 0\n")
+    said.append(f"audit total {counted(count, reads)}\n")
+    # Whose they are is told of ten: those with most, and of these the first in the log.
+    of = Counter(f'client "client {at % CLIENTS}" ' for at in range(19, count, 20))
+    for whose, its in [("", reads), *of.most_common(MOST)]:
+        said.append(f"audit total {whose}faults {its} Order {its} Wrong 0 NotAbove 0 Twice 0 "
+                    "Stray 0\n")
     return "".join(lines).encode(), "".join(said).encode()
 
 
