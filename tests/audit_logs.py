@@ -139,15 +139,25 @@ def random_logs(_program):
 
 
 def long_logs(_program):
-    """So are longer ones, most with more faults of one kind than are looked up line by line."""
+    """So are longer ones, most with more faults of one kind than are looked up line by line.
+
+    Every other one has more clients and keys with faults than are told.
+    """
     for number in range(LONG):
         dice = random.Random(f"long {number}")
         drawn = [random_lines(dice) for _ in range(3 * JOINED)]
         alike = [it for it in drawn if ("began" in it[0]) == ("began" in drawn[0][0])]
-        given = text_of([line for lines in alike[:JOINED] for line in lines])
-        asked = [*random_words(dice), "--all"]
+        joined = [apart(it, at) if number % 2 else it for at, it in enumerate(alike[:JOINED])]
+        given = text_of([line for lines in joined for line in lines])
+        asked = [*random_words(dice), "--all", *["--json"] * (number % 4 > 1)]
         fault = why_wrong(given, asked, run([PROGRAM, *asked], given))
         yield f"log {number}", fault and f"{fault}, of {given} with {asked}"
+
+
+def apart(lines, at):
+    """The same lines, with clients and keys of their own."""
+    return [{name: f"{it} {at}" if name in ("client", "learn", "key") else it
+             for name, it in line.items()} for line in lines]
 
 
 # ---- simulated clusters

@@ -378,7 +378,7 @@ class Log:
             "members": members}})
 
     def totals(self):
-        """How much was judged, and how many faults there are: in all, and of the groups with most."""
+        """How much was judged, and the faults there are, in all and of the groups with most."""
         if not self.options.totals:
             return []
         found, keys = self.faults(), [] if self.options.key is None else ["key"]

@@ -1,9 +1,10 @@
 //! How many faults the clients, and the texts of a member, with most faults have.
 
-ghost use Rattle.std.specs.Prelude.{◌≡◌, ◌++◌, ◌∷◌, IfOk, List, OnOk, ℕ, drop, map, string_bytes};
+ghost use Rattle.std.specs.Prelude.{◌≡◌, ◌++◌, IfOk, List, OnOk, ℕ, map, string_bytes};
 ghost use Rattle.fdb_lines.specs.declared.reason.Finding.{Finding};
 ghost use Rattle.fdb_audit.specs.Groups.{client_or_null, client_words, group_head, group_lines};
-ghost use Rattle.fdb_audit.specs.Groups.{groupings, of_group, value_or_null, AreMost, AreMostOfEach};
+ghost use Rattle.fdb_audit.specs.Groups.{groupings, of_group, value_or_null, AreMost};
+ghost use Rattle.fdb_audit.specs.Groups.{AreMostOfEach};
 ghost use Rattle.fdb_audit.specs.Totals.{kinds};
 ghost use Rattle.fdb_audit.specs.Text.{line};
 ghost use Rattle.fdb_audit.specs.private.{beside_of, grouping_of, owners_in, shown_in};

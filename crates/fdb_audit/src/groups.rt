@@ -1,7 +1,7 @@
 //! The groups with most faults.
 
-ghost use Rattle.std.specs.Prelude.{◌≡◌, ◌==◌, ◌<◌, ◌+◌, ℕ, All, IfOk, List, OnOk, Option, count_by};
-ghost use Rattle.std.specs.Prelude.{cond, map, take, unwrap_or};
+ghost use Rattle.std.specs.Prelude.{◌≡◌, ◌==◌, ℕ, All, IfOk, List, OnOk, Option, cond, count_by};
+ghost use Rattle.std.specs.Prelude.{take, unwrap_or};
 ghost use Rattle.std.specs.BTreeMap.{get};
 ghost use Rattle.std.specs.Ordering.{nat_cmp};
 ghost use Rattle.fdb_audit.specs.Groups.{number_of, AreRanked};
