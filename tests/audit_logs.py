@@ -2,10 +2,11 @@
 import os
 import random
 import re
+from collections import Counter
 
 import clusters
 from audit_lines import MOST_BYTES, lines_of, refusal
-from audit_model import Log, judged, options_of
+from audit_model import MOST, Log, judged, options_of
 from audit_right import why_wrong
 from audit_search import fault_of_search, random_lines, random_words, text_of
 from harness import EXAMPLES, ROOT, Ran, fault_of, processor_time, read, run
@@ -138,15 +139,25 @@ def random_logs(_program):
 
 
 def long_logs(_program):
-    """So are longer ones, most with more faults of one kind than are looked up line by line."""
+    """So are longer ones, most with more faults of one kind than are looked up line by line.
+
+    Every other one has more clients and keys with faults than are told.
+    """
     for number in range(LONG):
         dice = random.Random(f"long {number}")
         drawn = [random_lines(dice) for _ in range(3 * JOINED)]
         alike = [it for it in drawn if ("began" in it[0]) == ("began" in drawn[0][0])]
-        given = text_of([line for lines in alike[:JOINED] for line in lines])
-        asked = [*random_words(dice), "--all"]
+        joined = [apart(it, at) if number % 2 else it for at, it in enumerate(alike[:JOINED])]
+        given = text_of([line for lines in joined for line in lines])
+        asked = [*random_words(dice), "--all", *["--json"] * (number % 4 > 1)]
         fault = why_wrong(given, asked, run([PROGRAM, *asked], given))
         yield f"log {number}", fault and f"{fault}, of {given} with {asked}"
+
+
+def apart(lines, at):
+    """The same lines, with clients and keys of their own."""
+    return [{name: f"{it} {at}" if name in ("client", "learn", "key") else it
+             for name, it in line.items()} for line in lines]
 
 
 # ---- simulated clusters
@@ -303,8 +314,12 @@ def large_log(count=LARGE):
                 f'{at} (client "client {(at - 1) % CLIENTS}", commit {at}) had ended 9 {began}\n'
             )
     reads = len(said)
-    said.append(f"audit total {counted(count, reads)}\naudit total faults {reads} Order {reads} "
-                "Wrong 0 NotAbove 0 Twice 0 Stray 0\n")
+    said.append(f"audit total {counted(count, reads)}\n")
+    # Whose they are is told of ten: those with most, and of these the first in the log.
+    of = Counter(f'client "client {at % CLIENTS}" ' for at in range(19, count, 20))
+    for whose, its in [("", reads), *of.most_common(MOST)]:
+        said.append(f"audit total {whose}faults {its} Order {its} Wrong 0 NotAbove 0 Twice 0 "
+                    "Stray 0\n")
     return "".join(lines).encode(), "".join(said).encode()
 
 

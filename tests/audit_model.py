@@ -15,6 +15,8 @@ from reader import Refused
 DRAWING, REPORTING, SHOWING = ("commit", "ask"), ("commit", "report"), ("read", "commit", "report")
 # After how many bytes it is told how far reading is.
 TOLD = 67_108_864
+# How many clients, and how many keys, are told with their faults.
+MOST = 10
 FAULTS = ("Order", "Wrong", "NotAbove", "Twice", "Stray")
 # What is escaped in a name besides what JSON escapes.
 UNPRINTABLE = re.compile("[\x7f-\x9f\u061c\u200e\u200f\u2028-\u202e\u2066-\u2069]")
@@ -374,10 +376,33 @@ class Log:
             "members": members}})
 
     def totals(self):
-        """How much was judged, and how many faults there are."""
-        found = tally([fault for _case, fault, _k in self.faults()])
-        said = printed(found) if self.options.json else f"audit total {worded(found)}"
-        return [self.total(), said] if self.options.totals else []
+        """How much was judged, and the faults there are, in all and of the groups with most."""
+        if not self.options.totals:
+            return []
+        found, keys = self.faults(), [] if self.options.key is None else ["key"]
+        counts = tally([fault for _case, fault, _k in found])
+        said = printed(counts) if self.options.json else f"audit total {worded(counts)}"
+        groups = (self.most(member, found) for member in ["client", *keys])
+        return [self.total(), said, *(line for lines in groups for line in lines)]
+
+    def most(self, member, found):
+        """A line for each of the ten clients, or keys, with most faults, by how many."""
+        numbers = {it: at for at, it in enumerate(dict.fromkeys(
+            [None, *(getattr(line, member) for line in self.lines)]))}
+        of = defaultdict(list)
+        for case, fault, k in found:
+            of[getattr(case.lines[k], member)].append(fault)
+        ranked = sorted(of, key=lambda it: (-len(of[it]), numbers[it]))
+        return [self.group(member, it, tally(of[it])) for it in ranked[:MOST]]
+
+    def group(self, member, text, counts):
+        """The line of a client, or of a key, or of those without."""
+        if self.options.json:
+            named = {member: text}
+            return printed({**(named if member == "client" else {"members": named}), **counts})
+        name, parting = ("client", " ") if member == "client" else (printed(member), ":")
+        whose = f"no {name}" if text is None else f"{name}{parting}{printed(text)}"
+        return f"audit total {whose} {worded(counts)}"
 
     def listed(self):
         """The faults that are listed."""

@@ -20,8 +20,9 @@ use Rattle.fdb_lines.specs.Turns.{acts_of, AreTurnsOf, HaveTurns}
 use Rattle.fdb_log_reader.specs.Columns.{ArePrinted, KeyColumn, ShownColumn}
 use Rattle.fdb_log_reader.specs.Printed.{printed}
 use Rattle.fdb_log_reader.specs.Reading.{Reading, reading_with}
+use Rattle.fdb_audit.specs.Groups.{groupings, AreMostOfEach}
 use Rattle.fdb_audit.specs.Objects.{fault_objects, text_or_null, total_object, turn_objects}
-use Rattle.fdb_audit.specs.Text.{Beside, Shown, counts_text, finding_text, history_lines, line, listing_text, owner_of, summary_text}
+use Rattle.fdb_audit.specs.Text.{Beside, Shown, counts_text, history_lines, line, listing_text, owner_of, summary_text}
 use Rattle.fdb_audit.specs.Totals.{faults_line, value_of}
 use Rattle.fdb_audit.specs.declared.judging.Wanted.{Wanted}
 
@@ -139,12 +140,13 @@ IsListing log it keys opts wanted false false first text =
     (finding : Finding) × (finding.found ≡ first) × HasReasonIn log keys opts finding × HasLateIn log keys opts finding
     × (text ≡ list_text wanted.json it (finding ∷ []))
 
--- how much was judged and how many faults were found, if that is wanted
+-- how much was judged and how many faults were found, in all and of the groups with most, if that is wanted
 abbrev pub AreTotals : Lines → Shown → Option (List (Option ℕ)) → AuditOpts → Wanted → Bool → List ℕ → Type 0
 AreTotals log it keys opts wanted false text = text ≡ []
 AreTotals log it keys opts wanted true text =
     (found : List Finding) × AreAll log keys opts found × (counts : Summary) × IsSummary log keys opts counts
-    × (text ≡ line (total_line wanted.json it keys opts counts) ++ line (faults_line wanted.json found))
+    × (groups : List ℕ) × AreMostOfEach wanted.json (groupings it) found groups
+    × (text ≡ line (total_line wanted.json it keys opts counts) ++ line (faults_line wanted.json found) ++ groups)
 
 -- What is printed where faults stand: those that are listed, each with a reason that is true of the lines, and totals.
 abbrev pub IsFaulted : Lines → Shown → Option (List (Option ℕ)) → AuditOpts → Wanted → Found → List ℕ → Type 0

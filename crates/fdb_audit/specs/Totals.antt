@@ -21,7 +21,7 @@ others_text found =
 
 abbrev pub reads_field : List Finding → List ℕ
 reads_field found =
-    codes "{\"faults\":" ++ decimal (length found) ++ codes ",\"Order\":" ++ decimal (how_many_of Order found) ++ codes ",\"Wrong\":"
+    codes "\"faults\":" ++ decimal (length found) ++ codes ",\"Order\":" ++ decimal (how_many_of Order found) ++ codes ",\"Wrong\":"
     ++ decimal (how_many_of Wrong found)
 
 abbrev pub others_field : List Finding → List ℕ
@@ -29,10 +29,17 @@ others_field found =
     codes ",\"NotAbove\":" ++ decimal (how_many_of NotAbove found) ++ codes ",\"Twice\":" ++ decimal (how_many_of Twice found)
     ++ codes ",\"Stray\":" ++ decimal (how_many_of Stray found) ++ codes "}"
 
--- how many faults were found, in all and of each kind
+-- ---- either
+
+-- how many there are, in all and of each kind
+abbrev pub kinds : Bool → List Finding → List ℕ
+kinds false found = reads_text found ++ others_text found
+kinds true found = reads_field found ++ others_field found
+
+-- how many faults were found
 abbrev pub faults_line : Bool → List Finding → List ℕ
-faults_line false found = codes "audit total" ++ reads_text found ++ others_text found
-faults_line true found = reads_field found ++ others_field found
+faults_line false found = codes "audit total" ++ kinds false found
+faults_line true found = codes "{" ++ kinds true found
 
 -- the text of a member that has a number
 abbrev pub value_of : Beside → Option ℕ → Option (List ℕ)

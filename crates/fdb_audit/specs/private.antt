@@ -1,8 +1,9 @@
 -- What a view shows, and what is asked of a log. (this product's own)
-use Rattle.std.specs.Prelude.{◌≡◌, ℕ, Bool, List, [], Option, None, Some, IfSome, length, map, option_map, string_bytes}
+use Rattle.std.specs.Prelude.{◌≡◌, ℕ, ◌==◌, Bool, List, [], Option, None, Some, IfSome, count_by, length, map, option_map, string_bytes}
 use Rattle.fdb_lines.specs.declared.opts.AuditOpts.{AuditOpts}
 use Rattle.fdb_lines.specs.Lines.{Lines}
 use Rattle.fdb_lines.specs.Log.{lines_of}
+use Rattle.fdb_audit.specs.Groups.{by_client, by_member, number_of, Grouping}
 use Rattle.fdb_audit.specs.Text.{Beside, Shown}
 use Rattle.fdb_log_reader.specs.Columns.{HasCells}
 use Rattle.fdb_log_reader.specs.Reading.{Reading}
@@ -11,6 +12,9 @@ use Rattle.fdb_audit.specs.declared.asked.Asked.{Asked}
 use Rattle.fdb_audit.specs.declared.asked.Order.{Order}
 use Rattle.fdb_audit.specs.declared.asked.Order.TheVariants.{One, ByKey}
 use Rattle.fdb_audit.specs.declared.beside.MemberBeside.{MemberBeside}
+use Rattle.fdb_audit.specs.declared.grouped.By.{By}
+use Rattle.fdb_audit.specs.declared.grouped.By.TheVariants.{Client, Member}
+use Rattle.fdb_audit.specs.declared.groups.Group.{Group}
 use Rattle.fdb_audit.specs.declared.view.View.{View}
 
 abbrev pub beside_of : MemberBeside → Beside
@@ -49,3 +53,20 @@ order_text json it (ByKey orders) = orders_text json it orders.items
 -- where keys were kept, each line has its own
 abbrev pub HasOwnKeys : Reading → Type 0
 HasOwnKeys reading = HasCells reading.keys reading.log
+
+-- ---- groups of faults
+
+abbrev pub grouping_of : By → Grouping
+grouping_of (Client view) = by_client (shown_in view)
+grouping_of (Member member) = by_member (beside_of member.now)
+
+-- how many of some owners are a group's
+abbrev pub count_in : List (Option ℕ) → Option ℕ → ℕ
+count_in owners group = count_by (λ owner. number_of owner == number_of group) owners
+
+-- a group has as many faults as it owns
+abbrev pub IsGroupIn : List (Option ℕ) → Group → Type 0
+IsGroupIn owners group = group.faults.0 ≡ count_in owners group.owner
+
+abbrev pub owners_in : List Group → List (Option ℕ)
+owners_in groups = map (λ (group : Group). group.owner) groups

@@ -7,6 +7,8 @@
 mod arguments;
 mod asked;
 mod beside;
+mod grouped;
+mod groups;
 mod judging;
 mod listing;
 mod object;

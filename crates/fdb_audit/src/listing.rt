@@ -9,6 +9,7 @@ ghost use Rattle.fdb_audit.specs.Judged.{HasLateIn, HasReasonIn, IsFaulted};
 ghost use Rattle.fdb_audit.specs.private.{keys_in, log_in, shown_in, HasKeys};
 
 use crate::asked::Asked;
+use crate::grouped::push_most_of_each;
 use crate::judging::{Judgement, Wanted};
 use crate::passing::push_total_line;
 use crate::totals::push_faults;
@@ -103,7 +104,8 @@ fn add_totals(
     }
     let counts = asked.summary(alloc)?;
     push_total_line(out, asked, counts, wanted.json)?;
-    push_faults(out, wanted.json, found)
+    push_faults(out, wanted.json, found)?;
+    push_most_of_each(alloc, out, wanted.json, asked.view, found)
 }
 
 impl View<'_> {

@@ -76,7 +76,7 @@ impl View<'_> {
     }
 
     /// Writes the name of a client, or its number where it has none.
-    fn push_name(self, out: &mut String, number: u32) -> Result<(), AllocError>
+    pub(crate) fn push_name(self, out: &mut String, number: u32) -> Result<(), AllocError>
         ensures { let names = (shown_in self.entry).names in OnOk result (string_bytes out.new
             ≡ string_bytes out.old ++ name_or_number number (slice_get names number)) }
     {

@@ -3,8 +3,8 @@
 ghost use Rattle.std.specs.Prelude.{◌≡◌, ◌++◌, OnOk, string_bytes};
 ghost use Rattle.fdb_audit.specs.Counting.{how_many_of, same_fault};
 ghost use Rattle.fdb_audit.specs.Text.{line};
-ghost use Rattle.fdb_audit.specs.Totals.{faults_line, others_field, others_text, reads_field};
-ghost use Rattle.fdb_audit.specs.Totals.{reads_text};
+ghost use Rattle.fdb_audit.specs.Totals.{faults_line, kinds, others_field, others_text};
+ghost use Rattle.fdb_audit.specs.Totals.{reads_field, reads_text};
 
 use fdb_lines::{Fault, Finding};
 use std::alloc::AllocError;
@@ -16,14 +16,25 @@ pub(crate) fn push_faults(out: &mut String, json: bool, found: &[Finding]) -> Re
         ≡ string_bytes out.old ++ line (faults_line json found.now)) }
 {
     if json {
-        push_reads_field(out, found)?;
-        push_others_field(out, found)?;
+        write!(out, "{{")?;
     } else {
         write!(out, "audit total")?;
-        push_reads(out, found)?;
-        push_others(out, found)?;
     }
+    push_kinds(out, json, found)?;
     writeln!(out)
+}
+
+/// Writes how many of some faults there are, in all and of each kind.
+pub(crate) fn push_kinds(out: &mut String, json: bool, found: &[Finding]) -> Result<(), AllocError>
+    ensures { OnOk result (string_bytes out.new ≡ string_bytes out.old ++ kinds json found.now) }
+{
+    if json {
+        push_reads_field(out, found)?;
+        push_others_field(out, found)
+    } else {
+        push_reads(out, found)?;
+        push_others(out, found)
+    }
 }
 
 /// Writes how many there are, and how many of the kinds of reads.
@@ -56,10 +67,7 @@ fn push_reads_field(out: &mut String, found: &[Finding]) -> Result<(), AllocErro
     let all = found.len();
     let order = how_many_of(Fault::Order, found);
     let wrong = how_many_of(Fault::Wrong, found);
-    write!(
-        out,
-        "{{\"faults\":{all},\"Order\":{order},\"Wrong\":{wrong}"
-    )
+    write!(out, "\"faults\":{all},\"Order\":{order},\"Wrong\":{wrong}")
 }
 
 fn push_others_field(out: &mut String, found: &[Finding]) -> Result<(), AllocError>

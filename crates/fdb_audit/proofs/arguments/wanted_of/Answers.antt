@@ -1,5 +1,4 @@
-use Rattle.std.proofs.Common.{◌∙◌, ap, ap₂, refl}
-use Rattle.std.specs.Prelude.{◌&&◌, ◌||◌, not}
+use Rattle.std.proofs.Common.{◌∙◌, refl}
 use Rattle.fdb_audit.specs.Program.{command}
 use Rattle.fdb_audit.proofs.arguments.wanted_of.Goals as goal
 

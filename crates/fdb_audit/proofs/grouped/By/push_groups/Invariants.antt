@@ -1,0 +1,10 @@
+use Rattle.std.proofs.Common.{◌≡◌, ◌++◌, drop, string_bytes}
+use Rattle.fdb_audit.specs.Groups.{group_lines}
+use Rattle.fdb_audit.specs.private.{grouping_of, owners_in}
+use Rattle.fdb_audit.proofs.grouped.By.push_groups.Given as goal
+
+-- what is written, and the lines of what is left, are all lines
+abbrev pub invariant-loop-group : goal.invariant-loop-group
+invariant-loop-group l =
+    string_bytes l.out ++ group_lines l.json (grouping_of l.self) l.found (owners_in (drop l.group-index l.groups))
+    ≡ string_bytes l.fn.out ++ group_lines l.json (grouping_of l.self) l.found (owners_in l.groups)
