@@ -9,23 +9,20 @@ import zlib
 
 sys.dont_write_bytecode = True
 
+from browsed import BROWSER, BROWSER_WORDS, NODE, scenes_of, view
 from harness import ROOT, read, run
-from picture import BROWSER, BROWSER_WORDS, NODE, page_of, scenes_of, view
+from picture import logs, page_of
 
-DOCUMENT, LOG = "docs/picture.png", "examples/logs/stale"
+DOCUMENT, LOG = "docs/picture.png", "examples/logs/stale.jsonl"
 # The part of the page that is taken, and how many pixels of the image one of its own makes.
 WIDTH, HEIGHT, SCALE, MOST_BYTES = 800, 408, 2, 300_000
 SIGN, SCENE, BEGINS = b"\x89PNG\r\n\x1a\n", b"tEXtscene\0", len(b"\x89PNG\r\n\x1a\n") + 25
 
 
-def drawing():
-    text, said = (read(f"{ROOT}/{LOG}.{it}") for it in ("jsonl", "out"))
-    return page_of.drawing_of(text, said, None, 0, f"{LOG}.jsonl")
-
-
 def scene():
     """A number for what the page draws of the example."""
-    (((scene,), _),) = scenes_of((drawing(), [["scene", view(drawing(), WIDTH)]]))
+    drawing = dict(logs())[LOG]
+    (scene,), _ = scenes_of(drawing, [["scene", view(drawing, WIDTH)]])
     return hashlib.sha256(json.dumps(scene).encode()).hexdigest().encode()
 
 
@@ -33,7 +30,7 @@ def photograph():
     """The top of the page as the browser shows it, with the number of its scene."""
     with tempfile.TemporaryDirectory() as folder:
         with open(f"{folder}/page.html", "w", encoding="utf-8") as it:
-            it.write(page_of.page(drawing()))
+            it.write(page_of.page(dict(logs())[LOG]))
         words = [f"--user-data-dir={folder}/own", f"--screenshot={folder}/page.png",
                  f"--window-size={WIDTH},{HEIGHT}", f"--force-device-scale-factor={SCALE}"]
         run([BROWSER, *BROWSER_WORDS, *words, f"file://{folder}/page.html"], b"", 120)

@@ -95,6 +95,15 @@ MARGIN = 0.12
 LENGTHS, ALONE = 3, 4
 
 
+def counted(count, one, several):
+    return f"{count} {one if count == 1 else several}"
+
+
+def headed(what, lanes, name):
+    """The heading of a page."""
+    return f"A {what} of {counted(len(lanes), 'client', 'clients')}" + (f": {name}" if name else "")
+
+
 def end_of(bar):
     return bar.left if bar.right is None else bar.right
 

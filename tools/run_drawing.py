@@ -1,7 +1,7 @@
 """Draws the text of a run: a column for each call, in the order of the history."""
 from drawing import (
-    AT_FAULT, COLUMN, NAMED, Arrow, Band, Bar, Drawing, Fault, Kind, column_ends, levels_of,
-    sequence,
+    AT_FAULT, COLUMN, NAMED, Arrow, Band, Bar, Drawing, Fault, Kind, column_ends, counted,
+    headed, levels_of, sequence,
 )
 from run_text import CHANGES, EVENTS, FAULTS, REFUSALS
 
@@ -240,11 +240,9 @@ class RunDrawing:
 
     def drawing(self):
         lanes, text = self.lanes(), self.text
-        heading = f"A run of {counted(len(lanes), 'client', 'clients')}"
-        heading += f": {self.name}" if self.name else ""
         about = [ABOUT] + [WITHOUT_HISTORY] * (not text.listed)
         return Drawing(
-            heading, [account(text)], [NOTES], about, "order", 0, lanes, self.bars(), self.bands(),
+            headed("run", lanes, self.name), [account(text)], [NOTES], about, "order", 0, lanes, self.bars(), self.bands(),
             self.arrows(), [self.fault(it) for it in text.faults], KINDS,
             "version live from here on, by a report that changed the record",
         )
@@ -257,10 +255,6 @@ def account(text):
     said += f"{len(raised)} of them raised the live committed version, and "
     said += counted(len(drawn), "commit version was", "commit versions were") + " drawn."
     return said + " The audit found one history that explains all of this." * text.audited
-
-
-def counted(count, one, several):
-    return f"{count} {one if count == 1 else several}"
 
 
 def run_drawing(text, name=None):
