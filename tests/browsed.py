@@ -55,7 +55,7 @@ SHOWN = {"scene": re.compile(r"(?!text tick (?!first)|.*v4$)"),
 PLAIN = {"name", "show", "tick", "first", "lane", "ground", "unfold", "turn0"}
 # Two reports that made one position.
 CLASH = "0 0 0 report 200 raised pos 1\n0 1 0 report 300 raised pos 1\nClash 1"
-LOG, RUN, ALL_FAULTS = (HAND[it][0] for it in ("a log", "a run", "each fault of a log"))
+LOG, RUN, ALL_FAULTS = (HAND[it][1] for it in ("a log", "a run", "each fault of a log"))
 WHOLE = {it: page_of.columns_of(LOG)[it] for it in ("from", "to")}
 PART = {"from": 20, "to": 30}
 words_in = lambda scene: {it["call"]: it["words"] for it in scene["shapes"] if it["tag"] == "bar"}
@@ -100,7 +100,7 @@ def scenes(_program):
         print("(no node here: what the page's code draws is not looked at) ", end="")
         yield "without node", None
         return
-    for name, (drawing, parts) in HAND.items():
+    for name, (_text, drawing, parts) in HAND.items():
         for title in (it for it in parts if it.startswith(tuple(SHOWN))):
             what, width = title.split()
             scene = scenes_of(drawing, [["scene", view(drawing, float(width))]])[0][0]
@@ -347,7 +347,7 @@ def looks(_program):
         yield from without_browser()
         return
     shown = {name: drawn(text) for name, text in texts() if name.startswith("examples/")}
-    shown |= {name: drawing for name, (drawing, _parts) in HAND.items()} | dict(logs())
+    shown |= {name: drawing for name, (_text, drawing, _parts) in HAND.items()} | dict(logs())
     shown |= {f"fault {at} of a log": ALL_FAULTS._replace(faults=[it])
               for at, it in enumerate(ALL_FAULTS.faults)}
     shown |= {f"crowd {at}": logged("\n".join(map(json.dumps, it))) for at, it in enumerate(crowds())}

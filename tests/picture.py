@@ -38,7 +38,8 @@ def loaded(name, path):
 page_of = loaded("picture_page", PICTURE)
 # What of a page could ask for another file.
 OUTSIDE = re.compile(r"https?:|\bsrc=|@import|<link|url\((?!#)|href=\"(?!#)|\bfetch\(|import\(")
-LOGS = 600
+# How many random logs are drawn, and how many runs with a read that is put back.
+LOGS, RUNS = 600, 80
 
 
 # ---- drawings, and what they have
@@ -61,34 +62,33 @@ def logged(text, *words, said=None, name=None):
 
 
 def said_by_hand(text, said, faults):
-    """What was said of a log, with these faults in place of its own."""
-    lines = {str(at): {"line": at, **json.loads(it)} for at, it in enumerate(text.split("\n"), 1)}
-    read_as = lambda name, it: lines[it] if name in log_drawing.ROLES and it != "null" else (
-        json.loads(it) if it == "null" or it.isdigit() else it)
+    """What was said of a log, with these faults in place of its own: members with `=`."""
+    lines = [None, *map(json.loads, text.split("\n"))]
+
+    def value(name, word):
+        it = json.loads(word) if word == "null" or word.isdigit() else word
+        return {"line": it, **lines[it]} if name in log_drawing.ROLES and it else it
+
     pairs = [[it.split("=") for it in fault.split()] for fault in faults]
-    found = [{name: read_as(name, it) for name, it in fault} for fault in pairs]
-    totals = [said.splitlines()[-2], json.dumps({"faults": len(found)})]
-    return "\n".join([*map(json.dumps, found), *totals])
+    objects = [{name: value(name, word) for name, word in fault} for fault in pairs]
+    total = said.splitlines()[-2]
+    return "\n".join([*map(json.dumps, objects), total, json.dumps({"faults": len(objects)})])
 
 
-def hand_cases():
-    """The cases of pictures.txt: their names, each with its drawing and its parts by their titles."""
-    for case in read(f"{ROOT}/tests/pictures.txt").decode().split("\n# ")[1:]:
-        head, *parts = case.strip().split("\n=> ")
-        name, _, text = head.partition("\n")
-        parts = {title: lines.split("\n") if lines else [] for title, _, lines in (
-            it.partition("\n") for it in parts)}
-        asked = next((it for it in parts if it.startswith("said")), None)
-        if asked is None:
-            yield name, text, drawn(text), parts
-            continue
-        said = audited(text, *asked.split()[1:])
-        said = said_by_hand(text, said, parts[asked]) if parts[asked] else said
-        yield name, text, logged(text, said=said), parts
+def hand_case(case):
+    """A case of pictures.txt: its name, and its text, its drawing, and its parts by their titles."""
+    head, *parts = case.strip().split("\n=> ")
+    name, _, text = head.partition("\n")
+    parts = [it.split("\n") for it in parts]
+    if not parts[0][0].startswith("said"):
+        return name, (text, drawn(text), {title: lines for title, *lines in parts})
+    (title, *faults), *parts = parts
+    said = audited(text, *title.split()[1:])
+    said = said_by_hand(text, said, faults) if faults else said
+    return name, (text, logged(text, said=said), {title: lines for title, *lines in parts})
 
 
-HAND = {name: (drawing, parts) for name, _text, drawing, parts in hand_cases()}
-TEXTS = {name: text for name, text, _drawing, _parts in hand_cases()}
+HAND = dict(map(hand_case, read(f"{ROOT}/tests/pictures.txt").decode().split("\n# ")[1:]))
 
 
 def calls_in(drawing):
@@ -128,7 +128,7 @@ def other_line(found, wanted):
 
 def by_hand(_program):
     """What runs and logs come to: each is compared with what was worked out by hand."""
-    for name, (drawing, parts) in HAND.items():
+    for name, (_text, drawing, parts) in HAND.items():
         for title, lines in (("calls", calls_in), ("faults", faults_in)):
             if title in parts:
                 yield f"{name}, {title}", other_line(lines(drawing), parts[title])
@@ -173,21 +173,20 @@ def plain(text):
 def page_fault(drawing):
     """What is wrong with the page of a drawing: it is whole, tells all, and asks for no file."""
     written = page_of.page(drawing)
-    page, outside = Page(written), OUTSIDE.findall(written)
-    if outside or page.fault:
-        return page.fault or f"it asks for {outside}"
-    said, count = page.texts, len(drawing.faults)
-    data = json.loads(json.dumps(page_of.columns_of(drawing)))
+    page, faults_of_it = Page(written), drawing.faults
+    said, count = page.texts, len(faults_of_it)
     told = [drawing.heading, *drawing.account, *drawing.notes, *drawing.about]
-    told += [part for it in drawing.faults for part in (it.title, it.reason)]
+    told += [part for it in faults_of_it for part in (it.title, it.reason)]
     missing = [it for it in told if plain(it) not in plain(said[""])]
     links = [f"#fault-{at}" for at in range(1, count + 1)] * (count > 1)
-    first = [(it.title, it.means, it.reason) for it in drawing.faults[:1]]
+    first = [(it.title, it.means, it.reason) for it in faults_of_it[:1]]
     shown = [tuple(said[it] for it in ("said", "means", "why"))] if "said" in said else []
-    wrong = [f"it does not say {it!r}" for it in missing]
-    wrong += ["its data is another"] * (json.loads(said["drawing"]) != data)
-    wrong += [differing("links", page.links, links), differing("fault", shown, first)]
-    return next(filter(None, wrong), None)
+    data = json.loads(json.dumps(page_of.columns_of(drawing)))
+    return page.fault or next(filter(None, (
+        differing("files", OUTSIDE.findall(written), []), differing("untold", missing, []),
+        differing("links", page.links, links), differing("fault", shown, first),
+        differing("its data is right", json.loads(said["drawing"]) == data, True),
+    )), None)
 
 
 def texts():
@@ -202,74 +201,68 @@ def texts():
 
 
 def logs():
-    """The drawings of the logs of examples/logs."""
+    """The drawings of the logs of examples/logs, by name."""
     for name, given, words, _out in example_cases():
-        text, words = given.decode(), [it for it in words if it not in ("--all", "--history")]
-        yield f"examples/logs/{name}", logged(text, *words, name=f"examples/logs/{name}")
+        words = [it for it in words if it not in ("--all", "--history")]
+        name = f"examples/logs/{name}"
+        yield name, logged(given.decode(), *words, name=name)
 
 
 def pages(_program):
     """The page of each text and log is whole, whatever names are in it."""
     for name, text in texts():
         drawing = drawn(text)
-        yield name, text_fault(text, drawing) or page_fault(drawing)
-    drawings_of_logs = dict(logs())
-    for name, drawing in [*((it, HAND[it][0]) for it in HAND), *drawings_of_logs.items()]:
-        yield name, page_fault(drawing)
+        yield name, text_fault(text, drawing) or order_fault(drawing) or page_fault(drawing)
+    by_name = {**{name: drawing for name, (_, drawing, _) in HAND.items()}, **dict(logs())}
+    yield from ((name, page_fault(drawing)) for name, drawing in by_name.items())
     tag = "</script></style><b>&amp;"
-    text = TEXTS["a log without times"].replace('"a"', json.dumps(tag)).replace('"b"', '"\\"\\n"')
+    text = HAND["a log without times"][0].replace('"a"', json.dumps(tag)).replace('"b"', '"\\"\\n"')
     drawing = logged(text, name=tag)
     is_named = drawing.faults and f"client {tag}" in drawing.faults[0].reason
     yield "names that look like tags", page_fault(drawing) or (None if is_named else drawing.lanes)
-    keyed = drawings_of_logs["examples/logs/keys.jsonl"]
+    keyed = by_name["examples/logs/keys.jsonl"]
     is_apart = not keyed.bands and ", key x, from 30 to 33." in keyed.bars[3].words
     yield "a log by keys", None if is_apart else f"{keyed.bands}, {keyed.bars[3].words}"
 
 
 def text_fault(text, drawing):
-    """Says what of a lawful text is not in its drawing or does not go from left to right."""
+    """Says what of a lawful text is not in its drawing."""
     replies = [it.split() for it in text.split("\n") if it[:1].isdigit()]
     tells = [it for it in replies if it[3] == "tell"]
     clients = [int(it[1]) for it in replies] + [int(it[4]) for it in tells]
     made = sum(it[3] == "report" and it[-3] == "raised" and "not" not in it for it in replies)
-    wanted = (max(clients, default=-1) + 1, len(replies) + len(tells), len(tells), made)
+    wanted = (max(clients, default=-1) + 1, len(replies) + len(tells), len(tells), made, 0)
     makers = [it for it in drawing.bars if it.kind in run_drawing.CHANGES]
-    found = (len(drawing.lanes), len(drawing.bars), len(drawing.arrows), len(makers))
-    untold = [it for it in drawing.bars if it.label.split()[-1] not in it.words]
     begins = {it.left + drawings.FREE for it in drawing.bands}
-    late = [it for it in makers if it.left not in begins]
-    return differing("lanes, calls, arrows, raises", found, wanted) or order_fault(drawing) or (
-        f"its label is not in its words, or it is late: {untold}, {late}" if untold or late
-        else None)
+    wrong = [it for it in drawing.bars if it.label.split()[-1] not in it.words]
+    wrong += [it for it in makers if it.left not in begins]
+    found = (len(drawing.lanes), len(drawing.bars), len(drawing.arrows), len(makers), len(wrong))
+    return differing("lanes, calls, arrows, raises, untold or late", found, wanted)
 
 
 def order_fault(drawing):
     """Says what goes back: bands, an arrow, a client's calls, or one outside of its band."""
+    bars, bands = drawing.bars, drawing.bands
     faulty = {it for fault in drawing.faults for it in fault.faulty}
-    bands = [it.left for it in drawing.bands], [int(it.label) for it in drawing.bands
-                                                 if it.label != "?"]
-    if any(it != sorted(it) for it in bands):
-        return f"bands go back: {bands}"
-    back = [it for it in drawing.arrows
-            if drawing.bars[it.start].right >= drawing.bars[it.end].left]
+    rises = [it.left for it in bands], [int(it.label) for it in bands if it.label != "?"]
+    wrong = [f"bands go back: {it}" for it in rises if it != sorted(it)]
+    wrong += [it for it in drawing.arrows if bars[it.start].right >= bars[it.end].left]
     last = {}
-    for at, it in enumerate(drawing.bars):
-        if drawing.axis == "order" and it.left < last.get(it.lane, 0):
-            return f"{it.name} stands before a call that was earlier"
+    for at, it in enumerate(bars):
+        is_back = drawing.axis == "order" and it.left < last.get(it.lane, 0)
+        wrong += [it] * (is_back or at not in faulty and not stands(drawing, it))
         last[it.lane] = it.left
-        if at not in faulty and not stands(drawing, it):
-            return f"{it.name} stands outside of its band: {it}"
-    return f"an arrow goes back: {back[0]}" if back else None
+    return f"it goes back, or is in another's band: {wrong[0]}" if wrong else None
 
 
 def stands(drawing, bar):
     """Whether a call stands in its band: that of its version, or with times one not newer."""
-    before = [it for it in drawing.bands if it.left < bar.left]
+    before = [it.label for it in drawing.bands if it.left < bar.left]
     if bar.kind not in ("read", "locked", "raised") or not before:
         return True
     if drawing.axis == "time":
-        return bar.kind != "read" or int(bar.label) >= int(before[-1].label)
-    return before[-1].label in ("?", bar.label)
+        return bar.kind != "read" or int(bar.label) >= int(before[-1])
+    return before[-1] in ("?", bar.label)
 
 
 # ---- faults
@@ -278,15 +271,15 @@ def stands(drawing, bar):
 # Lines that stand below a run in place of its audit, and of each the calls that stand out and the
 # whole path, as client and place in its log.
 FAULTS = {
-    "fdb_replay: audit fault: Wrong 1 1": (["1-1"], ["0-2", "1-1"]),
-    "fault: Wrong 1 1": (["1-1"], ["0-2", "1-1"]),
-    "Order 1 1": (["1-1"], ["0-2", "0-3", "1-0", "1-1"]),
-    "Order 0 2": (["0-2"], ["0-2"]),
-    "Clash 1": (["0-2"], ["0-2"]),
-    "Gap 1": (["0-2"], ["0-2"]),
-    "Stray 0 4": ([], []),
-    "Stray 1 1": (["1-1"], ["1-1"]),
-    "NotAbove 0 1: the version </script>200 & more": (["0-1"], ["0-1"]),
+    "fdb_replay: audit fault: Wrong 1 1": ("1-1", "0-2 1-1"),
+    "fault: Wrong 1 1": ("1-1", "0-2 1-1"),
+    "Order 1 1": ("1-1", "0-2 0-3 1-0 1-1"),
+    "Order 0 2": ("0-2", "0-2"),
+    "Clash 1": ("0-2", "0-2"),
+    "Gap 1": ("0-2", "0-2"),
+    "Stray 0 4": ("", ""),
+    "Stray 1 1": ("1-1", "1-1"),
+    "NotAbove 0 1: the version </script>200 & more": ("0-1", "0-1"),
 }
 STALE = """0 0 0 ask prev 0 version 100 ordinal 0 fresh
 0 0 1 ask prev 100 version 200 ordinal 1 fresh
@@ -306,43 +299,42 @@ def faults(_program):
     for line, wanted in FAULTS.items():
         drawing = drawn(STALE, line)
         fault, named = drawing.faults[0], [it.name for it in drawing.bars]
-        short = lambda places: ["-".join(named[it].split()[1::2]) for it in places]
+        short = lambda places: " ".join("-".join(named[it].split()[1::2]) for it in places)
         found = (short(fault.faulty), short(fault.path))
         yield line, differing("calls", found, wanted) or page_fault(drawing)
     for name, drawing in spoilt_runs():
-        fault, links = drawing.faults[0], drawings.links_of(drawing, drawing.faults[0])
+        fault, links = drawing.faults[0], [*drawings.links_of(drawing, drawing.faults[0])]
         is_joined = fault.path[-1:] == fault.faulty and links and all(it.has_tip for it in links)
         yield name, order_fault(drawing) or (None if is_joined else f"its path is {fault.path}")
 
 
 def spoilt_runs():
     """Drawings of runs in which a read is put back to before what its client had seen."""
-    for seed in range(80):
+    for seed in range(RUNS):
         text = judging.lawful_text(seed)
-        logs_of_clients = Text(text.splitlines()).lanes.values()
-        late = [it for log in logs_of_clients for before, it in zip(log, log[1:])
+        of_clients = Text(text.splitlines()).lanes.values()
+        seen = [it for log in of_clients for before, it in zip(log, log[1:])
                 if it.kind == "read" and before.seen]
-        for it in late[:2]:
-            where = f"{it.round} {it.client} {it.place} grv "
-            spoilt = re.sub(rf"^{where}.*", f"{where}1 unlocked none pos 0",
-                            text.partition("audit ok")[0], flags=re.MULTILINE)
-            line = f"Order {it.client} {it.number}"
-            yield f"seed {seed}, {line}", drawn(spoilt, line)
+        for it in seen[:2]:
+            where, fault = f"{it.round} {it.client} {it.place} grv ", f"Order {it.client} {it.number}"
+            spoilt = re.sub(rf"\n{where}.*", f"\n{where}1 unlocked none pos 0", f"\n{text}")
+            yield f"seed {seed}, {fault}", drawn(spoilt[1:].partition("audit ok")[0], fault)
 
 
 def random_logs(_program):
     """Of random logs the path of a fault has what its object names, and each call its place."""
     met = 0
     for name, given, words in random_cases(LOGS):
-        said = audited(text := given.decode(), *words)
+        text = given.decode()
+        said = audited(text, *words).splitlines()
         if not said:
             # (it is refused)
             continue
-        objects = [it for it in map(json.loads, said.splitlines()) if "fault" in it]
+        objects = [it for it in map(json.loads, said) if "fault" in it]
         drawing, met = logged(text, *words), met + len(objects)
         pairs = zip(drawing.faults, objects, strict=True)
         wrong = [it for it in (path_fault(drawing, *both) for both in pairs) if it]
-        yield name, (wrong or [order_fault(drawing) or arrow_fault(drawing)])[0]
+        yield name, (wrong or [order_fault(drawing)])[0]
     yield "enough faults", None if met > LOGS else f"{met}"
 
 
@@ -351,59 +343,43 @@ def path_fault(drawing, fault, said):
     names = ["at", "reported", "drawn", "by", "teller", *["first"] * bool(said.get("late"))]
     named = {said[it]["line"] - 1 for it in names if said.get(it)}
     learns = {it.end for it in drawing.arrows if it.start in fault.path}
-    knower = said.get("reported", said["at"])["line"] - 1 if "known" in said else None
-    known = str(said["known"]) if "known" in said else None
+    known = None, None
+    if "known" in said:
+        known = str(said["known"]), said.get("reported", said["at"])["line"] - 1
     left, right = drawings.window(drawing, fault)
     ends = [(drawing.bars[it].left, drawings.end_of(drawing.bars[it])) for it in fault.path]
     is_right = (
         named <= set(fault.path) and set(fault.path) - named <= learns
-        and (fault.faulty, fault.known, fault.knower) == ([said["at"]["line"] - 1], known, knower)
+        and (fault.faulty, fault.known, fault.knower) == ([said["at"]["line"] - 1], *known)
         and all(left <= begin and end <= right for begin, end in ends)
         and all(it.left <= it.right for it in drawings.links_of(drawing, fault))
     )
     return None if is_right else f"{fault}, of {said}"
 
 
-def arrow_fault(drawing):
-    """Says which learn is not from the last line above of the client that it names."""
-    for start, end in drawing.arrows:
-        client = f"client {drawing.bars[end].label.removeprefix('from ')}"
-        above = [at for at in range(end) if drawing.lanes[drawing.bars[at].lane] == client]
-        if above[-1] != start:
-            return f"{end} is from {start}"
-    return None
-
-
 # ---- texts that are refused
 
 
-# Lines in the place of those of STALE with its audit and history, by number, and the refusal with
-# the number of its line.
-REFUSED_TEXTS = {
-    "a word that is no command": ({5: "1 1 0 get 100 unlocked none pos 1"}, "BadLine 5"),
-    "a misspelt reply": ({3: "0 0 2 report 200 rised pos 1"}, "BadLine 3"),
-    "a refusal that there is not": ({5: "1 1 0 grv refused Closed"}, "BadLine 5"),
-    "a client above 63": ({5: "1 64 0 grv 100 unlocked none pos 1"}, "BadLine 5"),
-    "a tell to itself": ({4: "0 0 3 tell 0 pos 1"}, "BadLine 4"),
-    "a reply twice": ({2: "0 0 0 ask prev 0 version 100 ordinal 0 fresh"}, "BadOrder 2"),
-    "a reply behind the audit": ({7: "1 1 1 grv 200 unlocked none pos 1"}, "BadOrder 7"),
-    "two audits": ({7: AUDITED.strip()}, "BadOrder 7"),
-    "too many events": ({6: "audit ok events 3 raised 1 versions 2"}, "BadAudit 6"),
-    "a history in place of the audit": ({6: HISTORY.split("\n")[0]}, "BadHistory 6"),
-    "an event of another call": (
-        {8: "history 1 client 1 call 0 read 100 unlocked none"}, "BadHistory 8"
-    ),
-    "a record that its reply has not": (
-        {8: "history 1 client 1 call 1 read 100 locked none"}, "BadHistory 8"
-    ),
-    "a history that is cut": ({8: None}, "Cut 7"),
-    "a text that is cut": ({6: None, 7: None, 8: None}, "Cut 5"),
-    "no text": (dict.fromkeys(range(1, 9)), "BadLine 1"),
-    "a fault of a call that is not there": ({9: "Wrong 1 2"}, "BadFault 9"),
-    "a fault of a position that is not there": ({9: "Clash 2"}, "BadFault 9"),
-    "a fault without a call": ({9: "Wrong 1"}, "BadFault 9"),
-    "a position with a call": ({9: "Gap 1 1"}, "BadFault 9"),
-}
+# What stands in the place of which line of STALE with its audit and history, or, without a text,
+# in the place of that one and those below; and the refusal there, or else the one in front.
+REFUSED_TEXTS = """BadLine 5 1 1 0 get 100 unlocked none pos 1
+BadLine 3 0 0 2 report 200 rised pos 1
+BadLine 5 1 1 0 grv refused Closed
+BadLine 5 1 64 0 grv 100 unlocked none pos 1
+BadLine 4 0 0 3 tell 0 pos 1
+BadOrder 2 0 0 0 ask prev 0 version 100 ordinal 0 fresh
+BadOrder 7 1 1 1 grv 200 unlocked none pos 1
+BadOrder 7 audit ok events 2 raised 1 versions 2
+BadAudit 6 audit ok events 3 raised 1 versions 2
+BadHistory 6 history 0 client 0 call 2 report 200 unlocked none raised
+BadHistory 8 history 1 client 1 call 0 read 100 unlocked none
+BadHistory 8 history 1 client 1 call 1 read 100 locked none
+BadFault 9 Wrong 1 2
+BadFault 9 Clash 2
+BadFault 9 Wrong 1
+BadFault 9 Gap 1 1"""
+# Behind how many of its lines the same is cut, and how that is refused.
+CUT_TEXTS = {7: "Cut 7", 5: "Cut 5", 0: "BadLine 1"}
 # Lines of a log that the audit accepts, and of those one in the place of the last.
 TIMED, UNTIMED = '{"read":1,"began":3,"ended":4}', '{"client":"a","read":1}'
 REFUSED_LINES = (
@@ -437,15 +413,18 @@ CHANGED_VERDICTS = (
 
 def refused_texts(_program):
     """Another text is refused with the name and line of what is wrong, and nothing is written."""
-    for name, (changes, refusal) in REFUSED_TEXTS.items():
-        lines = dict(enumerate((STALE + AUDITED + HISTORY).splitlines(), 1))
-        given = [it for it in {**lines, **changes}.values() if it is not None]
-        yield name, refusal_fault(lambda: drawn("\n".join(given)), refusal)
+    right = (STALE + AUDITED + HISTORY).splitlines()
+    for case in REFUSED_TEXTS.splitlines():
+        name, at, line = case.split(" ", 2)
+        given = [*right[: int(at) - 1], line, *right[int(at) :]]
+        yield case, refusal_fault(lambda: drawn("\n".join(given)), f"{name} {at}")
+    for count, refusal in CUT_TEXTS.items():
+        yield refusal, refusal_fault(lambda: drawn("\n".join(right[:count])), refusal)
     total = audited(f"{UNTIMED}\n{UNTIMED}")
     for line in (*REFUSED_LINES, f"{UNTIMED}\n{TIMED}"):
         above = "" if "\n" in line else f"{TIMED if 'began' in line else UNTIMED}\n"
         yield line, refusal_fault(lambda: logged(f"{above}{line}", said=total), "BadLog 2")
-    text = TEXTS["a log"]
+    text = HAND["a log"][0]
     said = audited(text)
     for old, new, refusal in CHANGED_VERDICTS:
         changed = said.replace(old, new, 1)
@@ -467,25 +446,24 @@ def refusal_fault(draw, refusal):
 
 def by_command(log, said):
     """The command writes a page, or tells on standard error why not."""
-    run_of, order = STALE.encode(), drawn(STALE, "Order 1 1")
-    page = page_of.page(logged(log.decode(), said=said.decode(), name="/dev/stdin")).encode()
+    given = STALE.encode()
+    page = page_of.page(logged(log.decode(), said=said.decode(), name="/dev/stdin"))
+    order = page_of.page(drawn(STALE, "Order 1 1"))
+    written = lambda page: Ran(DONE, page.encode(), b"")
     refused = lambda why: Ran(REFUSED, b"", b"picture: text refused: " + why)
     with tempfile.NamedTemporaryFile() as file:
         file.write(said)
         file.flush()
-        for name, given, words, wanted in (
-            ("a log", log, ["/dev/stdin", file.name], Ran(DONE, page, b"")),
-            ("a fault beside a text", run_of, ["--fault", "Order 1 1"],
-             Ran(DONE, page_of.page(order).encode(), b"")),
-            ("a text", run_of, [], refused(b"Cut 5: ")),
-            ("bytes that are no text", run_of + b"\xff\n", [], refused(b"NotText 6: ")),
-            ("another log", b"{}\n", ["/dev/stdin", file.name], refused(b"BadLog 1: ")),
-            ("sentences", log, ["/dev/stdin", f"{EXAMPLES}/first.out"], refused(b"BadVerdict 1: ")),
-            ("a file that is not there", b"", [f"{ROOT}/none"], Ran(NO_STREAM, b"", b"picture: ")),
+        for text, words, wanted in (
+            (log, ["/dev/stdin", file.name], written(page)),
+            (given, ["--fault", "Order 1 1"], written(order)),
+            (given, [], refused(b"Cut 5: ")),
+            (given + b"\xff\n", [], refused(b"NotText 6: ")),
+            (b"{}\n", ["/dev/stdin", file.name], refused(b"BadLog 1: ")),
+            (log, ["/dev/stdin", f"{EXAMPLES}/first.out"], refused(b"BadVerdict 1: ")),
+            (b"", [f"{ROOT}/none"], Ran(NO_STREAM, b"", b"picture: reading failed: ")),
         ):
-            ran = run([PICTURE, *words], given, cwd=ROOT)
+            ran = run([PICTURE, *words], text, cwd=ROOT)
             is_said = ran.err.startswith(wanted.err) and ran.err.count(b"\n") == bool(wanted.err)
             fault = fault_of(ran, wanted._replace(err=None))
-            yield f"{name}, by the command", fault or (None if is_said else f"it said {ran.err!r}")
-
-
+            yield f"tools/picture {words}", fault or (None if is_said else f"it said {ran.err!r}")

@@ -4,8 +4,8 @@ from types import SimpleNamespace
 from typing import NamedTuple, Optional
 
 from drawing import (
-    AT_FAULT, COLUMN, Arrow, Band, Bar, Drawing, Fault, Kind, Refused, column_ends, counted,
-    headed, levels_of, sequence,
+    AT_FAULT, COLUMN, Arrow, Band, Bar, Drawing, Kind, Refused, column_ends, counted, headed,
+    placed, told_fault,
 )
 
 CALLS = ("read", "commit", "ask", "report")
@@ -221,6 +221,7 @@ class LogDrawing:
         self.learnt = {}
         if not self.has_times:
             self.place()
+        self.bars = [self.bar(at) for at in range(len(lines))]
 
     def shown(self, at):
         """The version that a line shows to be there, or 0: no ask does. Of keys nothing is told."""
@@ -241,14 +242,12 @@ class LogDrawing:
         of = lambda *kinds: [it for it in places if self.lines[it].kind in kinds]
         asks = sorted(of("ask") * (not self.said.by_key), key=lambda at: self.lines[at].value)
         shown = [self.shown(it) for it in places]
-        self.levels, needs = levels_of(needs, shown, of("read", "commit", "report"), asks)
-        self.order = sequence(needs, [self.key(it) for it in places])
-        self.column = {at: column for column, at in enumerate(self.order)}
+        fixed = of("read", "commit", "report")
+        self.levels, self.order, self.column = placed(needs, shown, fixed, asks, self.ties)
 
-    def key(self, at):
+    def ties(self, at, level):
         line = self.lines[at]
-        makes = line.kind in ("commit", "report") and line.value == self.levels[at]
-        return self.levels[at], not makes, at
+        return not (line.kind in ("commit", "report") and line.value == level), at
 
     def ends(self, at):
         """From where to where a line goes on the axis; the end may not be known."""
@@ -259,20 +258,16 @@ class LogDrawing:
 
     def bar(self, at):
         line = self.lines[at]
+        is_open = self.has_times and line.ended is None
         label = f"from {line.value}" if line.kind == "learn" else str(line.value)
-        name, words = f"line {at + 1}", self.words(at)
-        return Bar(self.lane[line.client], *self.ends(at), self.kind(line), label, name, words)
-
-    def kind(self, line):
-        return f"open {line.kind}" if self.has_times and line.ended is None else line.kind
-
-    def words(self, at):
-        line = self.lines[at]
         said = f"{client_name(line.client)} {KINDS[line.kind].words.format(version=line.value)}"
         key = "".join(f", {it} {line.said[it]}" for it in self.said.members if it in line.said)
-        ended = "; its end is not known" if line.ended is None else f" to {line.ended}"
+        ended = "; its end is not known" if is_open else f" to {line.ended}"
         until = f", from {line.began}{ended}" if self.has_times else ""
-        return f"Line {at + 1}: {said}{key}{until}."
+        return Bar(
+            self.lane[line.client], *self.ends(at), f"open {line.kind}" if is_open else line.kind,
+            label, f"line {at + 1}", f"Line {at + 1}: {said}{key}{until}.",
+        )
 
     def bands(self):
         """Where what is known rises, each version once; by key that cannot be told."""
@@ -299,19 +294,14 @@ class LogDrawing:
         plain, means, _ = FAULTS[it.kind]
         if it.kind == "Order" and not self.has_times:
             means = STALE_WITHOUT_TIMES
-        said, title = f"{it.kind} {it.at + 1}", f"{plain} ({it.kind}, line {it.at + 1})"
+        more, known = REASONS[it.reason][1], {}
+        if it.known is not None:
+            more = "" if it.by is not None else BEGAN.format(known=it.known)
+            knower = it.at if it.reported is None else it.reported
+            known = {"known": str(it.known), "knower": knower}
         told = [(at, role.format(**vars(it))) for at, role in self.told(it)]
-        reason = [self.words(it.at), *(role + self.words(at) for at, role in told[1:])]
-        reason += [REASONS[it.reason][1]]
-        reason += [BEGAN.format(known=it.known)] * (it.known is not None and it.by is None)
-        roles = dict(reversed(told))
-        path = sorted(roles, key=lambda at: (self.ends(at)[0], at))
-        known = None if it.known is None else str(it.known)
-        return Fault(
-            said, title, means, " ".join(filter(None, reason)), [it.at], path,
-            [roles[at] for at in path], known,
-            None if known is None else it.at if it.reported is None else it.reported,
-        )
+        said, title = f"{it.kind} {it.at + 1}", f"{plain} ({it.kind}, line {it.at + 1})"
+        return told_fault(self.bars, said, title, means, told, more, **known)
 
     def told(self, it):
         """What the lines of a fault are to it: that at fault first, and the way of a version."""
@@ -340,7 +330,7 @@ class LogDrawing:
         axis, rise = ("time", RISE) if self.has_times else ("order", RISE_BY_KNOWN)
         return Drawing(
             headed("log", lanes, self.name), [self.account()], self.notes(), about, axis,
-            self.origin, lanes, [self.bar(at) for at in range(len(self.lines))], self.bands(),
+            self.origin, lanes, self.bars, self.bands(),
             [Arrow(it, at) for at, it in self.learnt.items()],
             [self.fault(it) for it in self.said.faults], KINDS, rise,
         )
