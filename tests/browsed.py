@@ -50,47 +50,46 @@ def shape_line(shape):
 
 # Of the lines of a scene those that are worked out by hand: all but ticks, or what is of the path.
 SHOWN = {"scene": re.compile(r"(?!text tick (?!first)|.*v4$)"),
-         "near": re.compile(r"text version|path path|text label on-path")}
+         "near": re.compile(r"text version|path (path|arrow)|text label on-path")}
 # What needs no sign: names, words of calls and ticks, the edges of lanes, and what is behind all.
 PLAIN = {"name", "show", "tick", "first", "lane", "ground", "unfold", "turn0"}
 # Two reports that made one position.
 CLASH = "0 0 0 report 200 raised pos 1\n0 1 0 report 300 raised pos 1\nClash 1"
 LOG, RUN, ALL_FAULTS = (HAND[it][1] for it in ("a log", "a run", "each fault of a log"))
 WHOLE = {it: page_of.columns_of(LOG)[it] for it in ("from", "to")}
-PART = {"from": 20, "to": 30}
-words_in = lambda scene: {it["call"]: it["words"] for it in scene["shapes"] if it["tag"] == "bar"}
-texts_in = lambda look: lambda scene: [
-    (it["text"], it["x"]) for it in scene["shapes"] if it["class"] == look][:3]
-classes = lambda scene: {it for shape in scene["shapes"] for it in shape["class"].split()}
-itself = lambda answer: answer
-# Of a drawing calls of the page's code, what of each answer is looked at, and what is wanted.
+PART, ALL = {"from": 20, "to": 30}, {"from": 0, "to": 100}
+ROLES = dict(zip(LOG.faults[0].path, LOG.faults[0].roles))
+
+
+def having(name, look):
+    """What the shapes of a look have under a name."""
+    return lambda scene: [it[name] for it in scene["shapes"] if it["class"].startswith(look)]
+
+
+# Of the log calls of the page's code, what of each answer is looked at, and what is wanted.
 ASKED = (
-    (LOG, ["found", "300"], itself, [{"call": it} for it in (1, 4, 6)]),
-    (LOG, ["found", "Client B"], itself, [{"lane": 2}]),
-    (LOG, ["found", "zzz"], itself, []),
-    (LOG, ["found", " Line  4"], itself, [{"call": 3}]),
-    (LOG, ["found", "line"], itself, []),
-    (LOG, ["zoomed", PART, 0.5, 22], itself, {"from": 21, "to": 26}),
-    (LOG, ["zoomed", PART, 100, 22], lambda it: {name: round(it[name], 6) for name in it},
-     {name: round(WHOLE[name], 6) for name in WHOLE}),
-    (LOG, ["moved", PART, -100], itself, {"from": WHOLE["from"], "to": WHOLE["from"] + 10}),
-    (LOG, ["markup", [{"tag": "text", "x": 4, "words": '<b>&"', "text": "</g>&amp;"},
-                      {"tag": "bar", "class": '"', "call": 3, "words": "</title>"}]], itself,
+    (["found", "300"], None, [{"call": it} for it in (1, 4, 6)]),
+    (["found", "Client B"], None, [{"lane": 2}]),
+    (["found", "zzz"], None, []),
+    (["found", " Line  4"], None, [{"call": 3}]),
+    (["found", "line"], None, []),
+    (["opened", None], lambda it: it["lanes"], [0, 1, 2, 3]),
+    (["zoomed", PART, 0.5, 22], None, {"from": 21, "to": 26}),
+    (["zoomed", PART, 100, 22], lambda it: f"{it['from']:.6f}", f"{WHOLE['from']:.6f}"),
+    (["moved", PART, -100], None, {"from": WHOLE["from"], "to": WHOLE["from"] + 10}),
+    (["markup", [{"tag": "text", "x": 4, "words": '<b>&"', "text": "</g>&amp;"},
+                 {"tag": "bar", "class": '"', "call": 3, "words": "</title>"}]], None,
      '<text x="4"><title>&lt;b&gt;&amp;&quot;</title>&lt;/g&gt;&amp;amp;</text>'
      '<rect class="&quot;" data-call="3" role="img"><title>&lt;/title&gt;</title></rect>'),
-    (LOG, ["scene", view(LOG, 520.8, lanes=[0, 1, 2, 3])], words_in, {
-        at: dict(zip(LOG.faults[0].path, LOG.faults[0].roles)).get(at, "") + it.words
-        for at, it in enumerate(LOG.bars)}),
-    (LOG, ["scene", view(LOG, 10)], lambda it: "faulty" in classes(it), True),
-    (LOG, ["scene", view(LOG, 500, **{"from": 0, "to": 44})], texts_in("label on-path"),
-     [("line 1: commit 200", 79.5)]),
-    # (moments at the axis, with their places, and at half of that width)
-    (LOG, ["scene", view(LOG, 520.8)], texts_in("tick "), [("10", 50.4), ("15", 100.4), ("20", 150.4)]),
-    (LOG, ["scene", view(LOG, 260)], texts_in("tick "), [("10", 25.2), ("20", 75.1), ("30", 125)]),
-    # (there is no line where the calls begin)
-    (RUN, ["scene", view(RUN, 580, **{"from": 0, "to": 100})],
-     lambda it: [shape["d"] for shape in it["shapes"] if shape["class"] == "raise"], ["M232 24V184"]),
-    (RUN, ["opened", None], lambda it: it["lanes"], [0, 1, 2]),
+    (["scene", view(LOG, 520.8, lanes=[0, 1, 2, 3])],
+     lambda it: sorted(having("words", "bar")(it)),
+     sorted(ROLES.get(at, "") + it.words for at, it in enumerate(LOG.bars))),
+    (["scene", view(LOG, 10)], having("call", "bar read faulty"), [3]),
+    (["scene", view(LOG, 500, **{**ALL, "to": 44})], having("text", "label on-path"),
+     ["line 1: commit 200"]),
+    # (moments at the axis, at the width that they are worked out for, and at half of it)
+    (["scene", view(LOG, 520.8)], lambda it: having("x", "tick ")(it)[:3], [50.4, 100.4, 150.4]),
+    (["scene", view(LOG, 260)], lambda it: having("text", "tick ")(it)[:3], ["10", "20", "30"]),
 )
 
 
@@ -109,21 +108,19 @@ def scenes(_program):
             kinds = [it["class"].split()[0] for it in scene["shapes"]]
             is_first = kinds.index("path") < kinds.index("label")
             yield f"{name}: no line goes over a label", None if is_first else "one does"
-    for drawing in (LOG, RUN):
-        asked = [it for it in ASKED if it[0] is drawing]
-        answers, _ = scenes_of(drawing, [it[1] for it in asked])
-        for (_, call, part, wanted), answer in zip(asked, answers):
-            found = json.loads(json.dumps(part(answer)))
-            wanted = json.loads(json.dumps(wanted))
-            yield f"{call}"[:80], differing("answer", found, wanted)
-    views = [view(LOG, 520.8, few=False, chosen=1, lanes=[0, 1, 2]), view(RUN, 580)]
-    found = [scenes_of(*it)[0][0] for it in ((LOG, [["scene", views[0]]]), (RUN, [["scene", views[1]]]))]
-    found.append({"shapes": scenes_of(LOG, [["overview", views[0], 44]])[0][0]})
+    for (call, part, wanted), answer in zip(ASKED, scenes_of(LOG, [it[0] for it in ASKED])[0]):
+        yield f"{call}"[:80], differing("answer", part(answer) if part else answer, wanted)
+    whole = scenes_of(RUN, [["scene", view(RUN, 580, **ALL)]])[0][0]
+    lines = having("d", "raise")(whole)
+    yield "no line where the calls begin", differing("lines", lines, ["M232 24V184"])
+    log_view = view(LOG, 520.8, few=False, chosen=1, lanes=[0, 1, 2])
+    of_log = scenes_of(LOG, [["scene", log_view], ["overview", log_view, 44]])[0]
+    shapes = [*whole["shapes"], *of_log[0]["shapes"], *of_log[1]]
     known = re.findall(r'class="(.*?)"', page_of.key(LOG) + page_of.key(RUN))
-    unknown = set().union(*map(classes, found)) - {look for it in known for look in it.split()}
-    yield "the key has what is drawn", differing("it lacks", unknown - PLAIN, set())
-    yield from marked(drawn(CLASH))
-    yield from marked(ALL_FAULTS)
+    known = PLAIN.union(*map(str.split, known))
+    unknown = {look for it in shapes for look in it["class"].split()} - known
+    yield "the key has what is drawn", differing("it lacks", unknown, set())
+    yield from [*marked(drawn(CLASH)), *marked(ALL_FAULTS)]
 
 
 def marked(drawing):
@@ -155,8 +152,7 @@ def largest():
     fault = {"fault": "Order", "at": at, "reason": "known", "known": by["read"], "by": by,
              "means": "ended"}
     total = {"total": {"lines": CALLS}, "arguments": {"margin": 0, "by_key": False, "members": []}}
-    said = (fault, total, {"faults": 1})
-    return ("\n".join(map(json.dumps, it)) for it in (lines, said))
+    return ("\n".join(map(json.dumps, it)) for it in (lines, (fault, total, {"faults": 1})))
 
 
 def large(_program):
@@ -166,18 +162,15 @@ def large(_program):
     drawing = logged(text, said=said)
     written = page_of.page(drawing)
     took = resource.getrusage(resource.RUSAGE_SELF).ru_utime - before
-    yield "its calls", differing("calls", len(drawing.bars), CALLS)
-    yield "its time", None if took < SECONDS else f"{took:.1f} seconds"
-    yield "its size", None if len(written) < BYTES else f"{len(written)} bytes"
+    is_right = len(drawing.bars) == CALLS and took < SECONDS and len(written) < BYTES
+    yield "its page", None if is_right else f"{took:.1f} seconds, {len(written)} bytes"
     if BROWSER:
         answer, fault = answered(at_once(written, OPENED))
         slow = answer and max(answer) > OPENS
         yield "how long it takes to open", fault or (f"{answer} s" if slow else None)
-    if not NODE:
-        return
     whole = {"from": 0, "to": 10 * CALLS, "lanes": [*range(200)], "fault": None, "few": False}
     views = [view(drawing, 1000, **it) for it in ({}, whole, {**whole, "from": 5_000, "to": 9_000})]
-    answers, took = scenes_of(drawing, [["scene", it] for it in views])
+    answers, took = scenes_of(drawing, [["scene", it] for it in views]) if NODE else ([], 0)
     yield "how long its views take", None if took < OPENS else f"{took:.1f} seconds"
     for at, scene in enumerate(answers):
         count = len(scene["shapes"])
@@ -279,8 +272,9 @@ def browsed(_program):
         states = [found[it] for it in ("calls", "path", "faulty", "seen", "buttons", "errors")]
         wanted += [True, answer[0]["buttons"], []]
         is_said = why in found["said"][0] and words in found["said"][1] and (at or found["high"])
-        yield f"step {at}: {do}", differing("calls, path, fault, seen, buttons", states, wanted) or (
-            None if is_said else f"it says {found['said']}, in one screen: {found['high']}")
+        fault = differing("calls, path, fault, seen, buttons", states, wanted)
+        fault = fault or (None if is_said else f"it says {found['said']}, high: {found['high']}")
+        yield f"step {at}: {do}", fault
     if answer:
         (sign, step), key = CHOSEN, answer[0]["key"]
         is_right = AT_FIRST <= {*key} and sign not in key and sign in answer[step]["key"]
@@ -350,7 +344,8 @@ def looks(_program):
     shown |= {name: drawing for name, (_text, drawing, _parts) in HAND.items()} | dict(logs())
     shown |= {f"fault {at} of a log": ALL_FAULTS._replace(faults=[it])
               for at, it in enumerate(ALL_FAULTS.faults)}
-    shown |= {f"crowd {at}": logged("\n".join(map(json.dumps, it))) for at, it in enumerate(crowds())}
+    crowded = ("\n".join(map(json.dumps, it)) for it in crowds())
+    shown |= {f"crowd {at}": logged(text) for at, text in enumerate(crowded)}
     pages = {f"{name} at {width}": (width, html.escape(at_once(page_of.page(it))))
              for name, it in shown.items() for width in WIDTHS}
     frame = f'<iframe width="{{}}" height="{HEIGHT}" srcdoc="{{}}"></iframe>'.format

@@ -76,7 +76,7 @@ def said_by_hand(text, said, faults):
 
 
 def hand_case(case):
-    """A case of pictures.txt: its name, and its text, its drawing, and its parts by their titles."""
+    """A case of pictures.txt: its name, with its text, its drawing, and its parts by title."""
     head, *parts = case.strip().split("\n=> ")
     name, _, text = head.partition("\n")
     parts = [it.split("\n") for it in parts]
@@ -316,8 +316,9 @@ def spoilt_runs():
         seen = [it for log in of_clients for before, it in zip(log, log[1:])
                 if it.kind == "read" and before.seen]
         for it in seen[:2]:
-            where, fault = f"{it.round} {it.client} {it.place} grv ", f"Order {it.client} {it.number}"
-            spoilt = re.sub(rf"\n{where}.*", f"\n{where}1 unlocked none pos 0", f"\n{text}")
+            line = f"\n{it.round} {it.client} {it.place} grv "
+            fault = f"Order {it.client} {it.number}"
+            spoilt = re.sub(f"{line}.*", f"{line}1 unlocked none pos 0", f"\n{text}")
             yield f"seed {seed}, {fault}", drawn(spoilt[1:].partition("audit ok")[0], fault)
 
 

@@ -85,7 +85,7 @@ function choose(call) {
   const left = drawing.left[call], isSeen = left >= view.from && left <= view.to;
   const part = isSeen ? {} : Scene.kept(drawing, left - size / 2, size);
   const { places } = Scene.laidOut(index, { ...view, ...part, lanes });
-  const place = places.find((it) => it.lane === lane);
+  const place = places.get(lane);
   const few = view.few && place.slot(drawing.row[call]) !== undefined;
   change({ ...part, lanes, few, chosen: call });
   reveal(place.top);
