@@ -58,6 +58,7 @@ BY_KEY = """The lines of each {} are judged by themselves, and what one key know
 another: no dashed line tells what was known."""
 RISE = "version known to all from here on"
 RISE_BY_KNOWN = "version known from here on"
+AS_LOGGED = "The lines have no times, so calls stand as they do in the log."
 BY_KNOWN = """The lines have no times, so calls stand by what their clients knew, and not by when
 they were. A client knows each version that its earlier calls showed, and by a learn what another
 client knew by then. It may read none older than the newest that it knows. Right of a dashed line
@@ -341,7 +342,7 @@ class LogDrawing:
         rising = RISING.format(BEHIND_END.format(margin) if self.said.margin else AT_END)
         by_key = BY_KEY.format(" and ".join(self.said.members)) if self.said.by_key else ""
         if not self.has_times:
-            return [by_key or BY_KNOWN, *of_log]
+            return [f"{AS_LOGGED} {by_key}" if by_key else BY_KNOWN, *of_log]
         knew = [KNEW] * any(it.known is not None for it in self.said.faults)
         by_time = " ".join([TIME, by_key or rising, OWN, *knew])
         return [*[MARGIN.format(margin)] * bool(self.said.margin), by_time, *of_log]

@@ -6,60 +6,30 @@ from drawing import (
 from run_text import CHANGES, EVENTS, FAULTS, REFUSALS
 
 REPORTED = "client {client} reported {version} as committed, which "
-KINDS = {
-    "raised": Kind(
-        "report",
-        "report that raised the live committed version",
-        REPORTED + "raised the live committed version and made position {position}",
-    ),
-    "min raised": Kind(
-        "report",
-        "report that raised the minimum known committed version alone",
-        REPORTED + "raised the minimum known committed version alone and made position {position}",
-    ),
-    "not raised": Kind(
-        "report",
-        "report that changed nothing",
-        REPORTED + "changed nothing at position {position}",
-    ),
-    "read": Kind(
-        "read",
-        "read, and the version that it got",
-        "client {client} read {version} at position {position}",
-    ),
-    "locked": Kind(
-        "locked",
-        "read that the lock turned away",
-        "client {client} read {version} at position {position}, which was refused: the database is "
-        "locked, and the read is not lock-aware",
-    ),
-    "fresh": Kind(
-        "ask",
-        "commit version that was drawn",
-        "client {client} drew the commit version {version}, the one after {prev}; "
-        "its place in the chain is {ordinal}",
-    ),
-    "kept": Kind(
-        "ask",
-        "commit version that was answered again",
-        "client {client} got its earlier answer again, the commit version {version}",
-    ),
-    "tell": Kind(
-        "tell",
-        "tell, with an arrow to where it was learnt",
-        "client {client} told client {to} that it had seen position {position}",
-    ),
-    "learn": Kind(
-        "learn",
-        "what another told is learnt",
-        "client {client} learnt from client {tell.client} of position {position}",
-    ),
-    "refused": Kind(
-        "refused",
-        "call that was refused, and why",
-        "client {client} called {do}, which was refused: {why}",
-    ),
-}
+READ = "client {client} read {version} at position {position}"
+KINDS = {name: Kind(*it) for name, it in {
+    "raised": ("report", "report that raised the live committed version",
+               REPORTED + "raised the live committed version and made position {position}"),
+    "min raised": ("report", "report that raised the minimum known committed version alone",
+                   REPORTED + "raised the minimum known committed version alone and made position "
+                   "{position}"),
+    "not raised": ("report", "report that changed nothing",
+                   REPORTED + "changed nothing at position {position}"),
+    "read": ("read", "read, and the version that it got", READ),
+    "locked": ("locked", "read that the lock turned away", READ + ", which was refused: the "
+               "database is locked, and the read is not lock-aware"),
+    "fresh": ("ask", "commit version that was drawn",
+              "client {client} drew the commit version {version}, the one after {prev}; its place "
+              "in the chain is {ordinal}"),
+    "kept": ("ask", "commit version that was answered again",
+             "client {client} got its earlier answer again, the commit version {version}"),
+    "tell": ("tell", "tell, with an arrow to where it was learnt",
+             "client {client} told client {to} that it had seen position {position}"),
+    "learn": ("learn", "what another told is learnt",
+              "client {client} learnt from client {tell.client} of position {position}"),
+    "refused": ("refused", "call that was refused, and why",
+                "client {client} called {do}, which was refused: {why}"),
+}.items()}
 FURTHER = {
     "minimum": ", and the minimum known committed version {}",
     "used": "; the read uses {}",
@@ -72,6 +42,7 @@ that all arrows go to the right."""
 ABOUT = """The page shows what the clients of fdb_replay called, and what they were answered. A
 version is the number of a state of the database: each commit gets one, and a read gets the newest
 that was reported as committed, the live one."""
+RISE = "version live from here on, by a report that changed the record"
 WITHOUT_HISTORY = """This page was made from the replies alone: their positions order the reads and
 reports. With the text of --history it says, too, what each report told beside its version."""
 
@@ -103,12 +74,8 @@ def words(call):
 
 def label(call):
     """What stands at a call's bar beside the name of its kind."""
-    said = vars(call)
-    if call.kind == "refused":
-        return f"{call.do} {call.why}"
-    other = f"to {call.to}" if call.kind == "tell" else ""
-    other = f"from {call.tell.client}" if call.kind == "learn" else other
-    return other or str(said.get("version", ""))
+    forms = {"refused": "{do} {why}", "tell": "to {to}", "learn": "from {tell.client}"}
+    return forms.get(call.kind, "{version}").format_map(vars(call))
 
 
 class RunDrawing:
@@ -119,6 +86,7 @@ class RunDrawing:
         self.calls = text.calls()
         self.at = {call: at for at, call in enumerate(self.calls)}
         self.place()
+        self.bars = [self.bar(at) for at in range(len(self.calls))]
 
     def place(self):
         """Gives each call its level, the position that had been come to, and its column.
@@ -169,35 +137,21 @@ class RunDrawing:
         found += [maker] * (maker is not None and maker not in found)
         return found[::-1]
 
-    def bars(self):
-        names = self.lanes()
-        found = []
-        for at, call in enumerate(self.calls):
-            lane, ends = names.index(f"client {call.client}"), column_ends(self.column[at])
-            what = f"client {call.client} call {call.number}"
-            found.append(Bar(lane, *ends, call.kind, label(call), what, words(call)))
-        return found
-
-    def lanes(self):
-        return [f"client {it}" for it in range(max(self.text.lanes, default=-1) + 1)]
+    def bar(self, at):
+        call, ends = self.calls[at], column_ends(self.column[at])
+        name = f"client {call.client} call {call.number}"
+        return Bar(call.client, *ends, call.kind, label(call), name, words(call))
 
     def bands(self):
         """Where the level rises: a position, and the live committed version there."""
-        found, before = [], None
+        begins = {}
         for column, at in enumerate(self.order):
-            level = self.levels[at]
-            if level != before:
-                live = self.live(level)
-                said = f"From position {level} on, the live committed version is {live}."
-                if live is None:
-                    said = f"Position {level}; the text does not say which version was live."
-                found.append(Band(column * COLUMN, "?" if live is None else str(live), said))
-            before = level
-        return found
-
-    def arrows(self):
-        learns = self.text.calls("learn")
-        return [Arrow(self.at[it.tell], self.at[it]) for it in learns]
+            begins.setdefault(self.levels[at], column * COLUMN)
+        for level, left in begins.items():
+            live = self.live(level)
+            said = f"From position {level} on, the live committed version is {live}."
+            unsaid = f"Position {level}; the text does not say which version was live."
+            yield Band(left, "?", unsaid) if live is None else Band(left, str(live), said)
 
     def fault(self, it):
         """A fault, with the calls by which its client had seen more, or what made its position."""
@@ -210,18 +164,18 @@ class RunDrawing:
         told += [(self.at[call], role) for call in more if call not in (None, *it.calls)]
         said = f"{it.name} {it.at}" + ("" if it.call is None else f" {it.call}")
         found = told_fault(
-            self.drawn, said, said, FAULTS[it.name], told, "" if told else NO_CALL.format(it.at),
+            self.bars, said, said, FAULTS[it.name], told, "" if told else NO_CALL.format(it.at),
             lambda at: f"{brief(self.calls[at])} (call {self.calls[at].number}).",
         )
         return found._replace(reason=it.reason) if it.reason else found
 
     def drawing(self):
-        lanes, text, self.drawn = self.lanes(), self.text, self.bars()
-        about = [ABOUT] + [WITHOUT_HISTORY] * (not text.listed)
+        text, about = self.text, [ABOUT] + [WITHOUT_HISTORY] * (not self.text.listed)
+        lanes = [f"client {it}" for it in range(max(text.lanes, default=-1) + 1)]
+        arrows = [Arrow(self.at[it.tell], self.at[it]) for it in text.calls("learn")]
         return Drawing(
             headed("run", lanes, self.name), [account(text)], [NOTES], about, "order", 0, lanes,
-            self.drawn, self.bands(), self.arrows(), [self.fault(it) for it in text.faults], KINDS,
-            "version live from here on, by a report that changed the record",
+            self.bars, [*self.bands()], arrows, [self.fault(it) for it in text.faults], KINDS, RISE,
         )
 
 
