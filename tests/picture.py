@@ -39,7 +39,7 @@ page_of = loaded("picture_page", PICTURE)
 # What of a page could ask for another file.
 OUTSIDE = re.compile(r"https?:|\bsrc=|@import|<link|url\((?!#)|href=\"(?!#)|\bfetch\(|import\(")
 # How many random logs are drawn, and how many runs with a read that is put back.
-LOGS, RUNS = 600, 80
+LOGS, RUNS = 3_000, 80
 
 
 # ---- drawings, and what they have
@@ -220,6 +220,10 @@ def pages(_program):
     drawing = logged(text, name=tag)
     is_named = drawing.faults and f"client {tag}" in drawing.faults[0].reason
     yield "names that look like tags", page_fault(drawing) or (None if is_named else drawing.lanes)
+    text = HAND["a log"][0]
+    digits = re.sub(r"(?<=:)(\d+)", r'"\1"', text).replace('"a"', "7")
+    is_same = logged(digits) == logged(text.replace('"a"', '"7"'))
+    yield "numbers in texts, and a client's number", differing("the same", is_same, True)
     keyed = by_name["examples/logs/keys.jsonl"]
     is_apart = not keyed.bands and ", key x, from 30 to 33." in keyed.bars[3].words
     yield "a log by keys", None if is_apart else f"{keyed.bands}, {keyed.bars[3].words}"
@@ -305,6 +309,7 @@ def faults(_program):
     for name, drawing in spoilt_runs():
         fault, links = drawing.faults[0], [*drawings.links_of(drawing, drawing.faults[0])]
         is_joined = fault.path[-1:] == fault.faulty and links and all(it.has_tip for it in links)
+        is_joined = is_joined and drawing.bars[fault.path[0]].kind in run_drawing.CHANGES
         yield name, order_fault(drawing) or (None if is_joined else f"its path is {fault.path}")
 
 
@@ -343,14 +348,19 @@ def path_fault(drawing, fault, said):
     """Says what of a fault's object its path, its links and its view have not."""
     names = ["at", "reported", "drawn", "by", "teller", *["first"] * bool(said.get("late"))]
     named = {said[it]["line"] - 1 for it in names if said.get(it)}
-    learns = {it.end for it in drawing.arrows if it.start in fault.path}
+    way = []
+    if "teller" in said:
+        way = [at for at in sorted(fault.path) if at not in named or at == said["teller"]["line"] - 1]
+        way.insert(0, said["by"]["line"] - 1)
+    who = [drawing.lanes[drawing.bars[it].lane].replace("client", "from") for it in way]
     known = None, None
     if "known" in said:
         known = str(said["known"]), said.get("reported", said["at"])["line"] - 1
     left, right = drawings.window(drawing, fault)
     ends = [(drawing.bars[it].left, drawings.end_of(drawing.bars[it])) for it in fault.path]
     is_right = (
-        named <= set(fault.path) and set(fault.path) - named <= learns
+        named <= set(fault.path) <= {*named, *way} and way == sorted(way)
+        and [drawing.bars[it].label for it in way[1:]] == who[:-1]
         and (fault.faulty, fault.known, fault.knower) == ([said["at"]["line"] - 1], *known)
         and all(left <= begin and end <= right for begin, end in ends)
         and all(it.left <= it.right for it in drawings.links_of(drawing, fault))
@@ -373,6 +383,7 @@ BadOrder 7 1 1 1 grv 200 unlocked none pos 1
 BadOrder 7 audit ok events 2 raised 1 versions 2
 BadAudit 6 audit ok events 3 raised 1 versions 2
 BadHistory 6 history 0 client 0 call 2 report 200 unlocked none raised
+BadHistory 7 history 1 client 1 call 1 read 100 unlocked none
 BadHistory 8 history 1 client 1 call 0 read 100 unlocked none
 BadHistory 8 history 1 client 1 call 1 read 100 locked none
 BadFault 9 Wrong 1 2
@@ -394,6 +405,7 @@ REFUSED_LINES = (
 CHANGED_VERDICTS = (
     ('"client":"b"', '"client":"a"', "BadFault 1"),
     ('"began":10,', '"began":11,', "BadFault 1"),
+    ('"ended":14}', '"ended":15}', "BadFault 1"),
     ('"by":{"line":1', '"by":{"line":9', "BadFault 1"),
     ('"commit":200', '"report":200', "BadFault 1"),
     ('"commit":200', '"commit":300', "BadFault 1"),
