@@ -350,8 +350,8 @@ def path_fault(drawing, fault, said):
     named = {said[it]["line"] - 1 for it in names if said.get(it)}
     way = []
     if "teller" in said:
-        way = [at for at in sorted(fault.path) if at not in named or at == said["teller"]["line"] - 1]
-        way.insert(0, said["by"]["line"] - 1)
+        by, teller = (said[it]["line"] - 1 for it in ("by", "teller"))
+        way = [by, *(at for at in sorted(fault.path) if at not in named), teller]
     who = [drawing.lanes[drawing.bars[it].lane].replace("client", "from") for it in way]
     known = None, None
     if "known" in said:

@@ -118,7 +118,8 @@ def window(drawing, fault):
     """The smallest part that shows a fault, and a margin; where it names no call, all."""
     calls = [drawing.bars[it] for it in fault.path]
     first, last = span(drawing)
-    left, right = min((it.left for it in calls), default=first), max(map(end_of, calls), default=last)
+    left = min((it.left for it in calls), default=first)
+    right = max(map(end_of, calls), default=last)
     if len(calls) == 1:
         more = LENGTHS * (right - left) if drawing.axis == "time" else ALONE * COLUMN
         left, right = max(left - more, min(first, left)), min(right + more, max(last, right))
