@@ -10,7 +10,6 @@ import json
 import multiprocessing
 import os
 import random
-import re
 import shutil
 import signal
 import socket
@@ -25,7 +24,6 @@ ALL_RIGHT = bool(os.environ.get("RIGHT"))
 CLIENTS = "abcdefgh"
 # The one that only reads, and not in the right way unless all do.
 READER = CLIENTS[-1]
-FAULT = re.compile(r"^audit fault: (\w+) (\d+)", re.MULTILINE)
 ENDING = [signal.SIGINT, signal.SIGTERM, signal.SIGHUP]
 
 
@@ -175,13 +173,13 @@ def is_as_said(log):
     ran = subprocess.run([AUDIT, log, "--all"], stdout=subprocess.PIPE)
     if ran.returncode not in (0, 4):
         return False
-    said = ran.stdout.decode()
-    with open(os.path.join(os.path.dirname(log), "said"), "w") as out:
-        out.write(said)
-    print(*[it for it in said.splitlines() if " total " not in it][:2], sep="\n")
-    faults = FAULT.findall(said)
-    of_order = [int(number) - 1 for kind, number in faults if kind == "Order"]
-    stale = collections.Counter(lines[it]["client"] for it in of_order)
+    told = ran.stdout.decode().splitlines()
+    print(*[it for it in told if " total " not in it][:2], sep="\n")
+    with open(os.path.join(os.path.dirname(log), "said"), "w+") as said:
+        subprocess.run([AUDIT, log, "--json"], stdout=said, stderr=subprocess.DEVNULL)
+        said.seek(0)
+        faults = [it for it in map(json.loads, said) if "fault" in it]
+    stale = collections.Counter(it["at"]["client"] for it in faults if it["fault"] == "Order")
     by, of = stale.pop(READER, 0), reads.pop(READER, 0)
     others = f"{sum(stale.values())} of {sum(reads.values())} by the others"
     print(f"stale reads: {by} of {of} by client {READER}, {others}")

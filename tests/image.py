@@ -1,59 +1,37 @@
 """docs/picture.png, a photograph of the page of an example: python3 tests/image.py --write"""
-import hashlib
-import json
-import os
 import struct
 import sys
 import tempfile
-import zlib
 
 sys.dont_write_bytecode = True
 
+from browsed import BROWSER, BROWSER_WORDS
 from harness import ROOT, read, run
-from picture import BROWSER, BROWSER_WORDS, NODE, page_of, scenes_of, view
+from picture import logs, page_of
 
-DOCUMENT, LOG = "docs/picture.png", "examples/logs/stale"
+DOCUMENT, LOG = f"{ROOT}/docs/picture.png", "examples/logs/stale.jsonl"
 # The part of the page that is taken, and how many pixels of the image one of its own makes.
 WIDTH, HEIGHT, SCALE, MOST_BYTES = 800, 408, 2, 300_000
-SIGN, SCENE, BEGINS = b"\x89PNG\r\n\x1a\n", b"tEXtscene\0", len(b"\x89PNG\r\n\x1a\n") + 25
-
-
-def drawing():
-    text, said = (read(f"{ROOT}/{LOG}.{it}") for it in ("jsonl", "out"))
-    return page_of.drawing_of(text, said, None, 0, f"{LOG}.jsonl")
-
-
-def scene():
-    """A number for what the page draws of the example."""
-    (((scene,), _),) = scenes_of((drawing(), [["scene", view(drawing(), WIDTH)]]))
-    return hashlib.sha256(json.dumps(scene).encode()).hexdigest().encode()
 
 
 def photograph():
-    """The top of the page as the browser shows it, with the number of its scene."""
+    """The top of the page as the browser shows it."""
     with tempfile.TemporaryDirectory() as folder:
         with open(f"{folder}/page.html", "w", encoding="utf-8") as it:
-            it.write(page_of.page(drawing()))
+            it.write(page_of.page(dict(logs())[LOG]))
         words = [f"--user-data-dir={folder}/own", f"--screenshot={folder}/page.png",
                  f"--window-size={WIDTH},{HEIGHT}", f"--force-device-scale-factor={SCALE}"]
         run([BROWSER, *BROWSER_WORDS, *words, f"file://{folder}/page.html"], b"", 120)
-        image = read(f"{folder}/page.png")
-    said = SCENE + scene()
-    told = struct.pack(">I", len(said) - 4) + said + struct.pack(">I", zlib.crc32(said))
-    return image[:BEGINS] + told + image[BEGINS:]
+        return read(f"{folder}/page.png")
 
 
 def image_of_documents(_program):
-    """The image of the documents is there, and shows what the page draws today."""
-    image = read(f"{ROOT}/{DOCUMENT}") if os.path.isfile(f"{ROOT}/{DOCUMENT}") else b""
-    size = struct.unpack(">II", image[16:24]) if image.startswith(SIGN) else None
-    is_right = size == (WIDTH * SCALE, HEIGHT * SCALE) and len(image) <= MOST_BYTES
-    yield DOCUMENT, None if is_right else f"it is no image of the page: {size}, {len(image)} bytes"
-    if NODE and BROWSER:
-        is_same = SCENE + scene() in image
-        yield "its scene", None if is_same else "python3 tests/image.py --write makes it anew"
+    """The image of the documents is there, and of the size that is asked of the browser."""
+    image, size = read(DOCUMENT), struct.pack(">II", WIDTH * SCALE, HEIGHT * SCALE)
+    is_right = image.startswith(b"\x89PNG") and image[16:24] == size and len(image) <= MOST_BYTES
+    yield "docs/picture.png", None if is_right else f"it is no such image: {len(image)} bytes"
 
 
 if __name__ == "__main__" and sys.argv[1:] == ["--write"]:
-    with open(f"{ROOT}/{DOCUMENT}", "wb") as it:
+    with open(DOCUMENT, "wb") as it:
         it.write(photograph())

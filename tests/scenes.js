@@ -1,20 +1,14 @@
 "use strict";
-// Answers calls of the page's code, for tests/picture.py: from a list of drawings, each with calls, to
-// a list of what each returned, and how much processor time each drawing took, in seconds.
+// Answers calls of the page's code on a drawing, for tests/browsed.py: what each returned, and how
+// much processor time they took, in seconds.
 const Scene = require(process.argv[2]);
 let given = "";
 process.stdin.on("data", (it) => { given += it; });
 process.stdin.on("end", () => {
-  const answers = JSON.parse(given).map(([text, calls]) => {
-    const begun = process.cpuUsage();
-    const drawing = JSON.parse(text), index = Scene.indexed(drawing);
-    const firsts = { scene: index, overview: index, laidOut: index, markup: null };
-    const answered = calls.map(([name, ...rest]) => {
-      const first = name in firsts ? firsts[name] : drawing;
-      return Scene[name](...(first ? [first] : []), ...rest);
-    });
-    const { user, system } = process.cpuUsage(begun);
-    return [answered, (user + system) / 1e6];
-  });
-  process.stdout.write(JSON.stringify(answers));
+  const [text, calls] = JSON.parse(given), begun = process.cpuUsage();
+  const drawing = JSON.parse(text), index = Scene.indexed(drawing);
+  const first = { scene: [index], overview: [index], markup: [] };
+  const answers = calls.map(([name, ...rest]) => Scene[name](...(first[name] || [drawing]), ...rest));
+  const { user, system } = process.cpuUsage(begun);
+  process.stdout.write(JSON.stringify([answers, (user + system) / 1e6]));
 });

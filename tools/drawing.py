@@ -86,13 +86,22 @@ class Drawing(NamedTuple):
 
 
 # What a call is to a fault, in front of its own words.
-AT_FAULT, NAMED = "At fault: ", "Named by the fault: "
+AT_FAULT = "At fault: "
 # A column of an axis without times, in its units, and what of it is free at each side of a bar.
 COLUMN, FREE = 10, 1
 # How much of a fault's part is left free at each side: a share of it, or of columns one.
 MARGIN = 0.12
 # How far a call that stands alone is seen: so many of its lengths, or so many columns.
 LENGTHS, ALONE = 3, 4
+
+
+def counted(count, one, several):
+    return f"{count} {one if count == 1 else several}"
+
+
+def headed(what, lanes, name):
+    """The heading of a page."""
+    return f"A {what} of {counted(len(lanes), 'client', 'clients')}" + (f": {name}" if name else "")
 
 
 def end_of(bar):
@@ -108,17 +117,12 @@ def span(drawing):
 def window(drawing, fault):
     """The smallest part that shows a fault, and a margin; where it names no call, all."""
     calls = [drawing.bars[it] for it in fault.path]
-    if not calls:
-        return padded(drawing, *span(drawing))
-    left, right = min(it.left for it in calls), max(map(end_of, calls))
+    first, last = span(drawing)
+    left = min((it.left for it in calls), default=first)
+    right = max(map(end_of, calls), default=last)
     if len(calls) == 1:
         more = LENGTHS * (right - left) if drawing.axis == "time" else ALONE * COLUMN
-        first, last = span(drawing)
         left, right = max(left - more, min(first, left)), min(right + more, max(last, right))
-    return padded(drawing, left, right)
-
-
-def padded(drawing, left, right):
     more = max(1, MARGIN * (right - left)) if drawing.axis == "time" else COLUMN
     return left - more, right + more
 
@@ -159,27 +163,29 @@ def links_of(drawing, fault):
     An arrow goes from the end of a call to the begin of a later one. Calls that overlap are joined
     without a tip, where the second begins; one whose end is not known, from where it began.
     """
-    found = []
     for start, end in zip(fault.path, fault.path[1:]):
         one, two = drawing.bars[start], drawing.bars[end]
-        is_open = one.right is None
-        has_tip = not is_open and one.right <= two.left
-        left = one.left if is_open else min(one.right, two.left)
-        found.append(Link(start, end, left, two.left, has_tip))
-    return found
+        has_tip = one.right is not None and one.right <= two.left
+        yield Link(start, end, min(end_of(one), two.left), two.left, has_tip)
+
+
+def told_fault(bars, said, title, means, told, more="", brief=None, **known):
+    """A fault from what its calls are to it; those at fault come first.
+
+    The reason has the words of each, or brief ones, and more.
+    """
+    brief = brief or (lambda at: bars[at].words)
+    faulty = [at for at, role in told if role == AT_FAULT]
+    roles = dict(reversed(told))
+    path = sorted(roles, key=lambda at: (bars[at].left, at))
+    reason = [("" if role == AT_FAULT else role) + brief(at) for at, role in told]
+    reason = " ".join([*reason, *[more] * bool(more)])
+    return Fault(said, title, means, reason, faulty, path, [roles[at] for at in path], **known)
 
 
 def column_ends(column):
     """From where to where the bar of a column goes."""
     return column * COLUMN + FREE, (column + 1) * COLUMN - FREE
-
-
-def ranked(needs, own):
-    """How far each call has come: its own level, or a higher one of what came before it."""
-    levels = list(own)
-    for at in sequence(needs, [0] * len(needs)) or ():
-        levels[at] = max([levels[at], *(levels[it] for it in needs[at])])
-    return levels
 
 
 def sequence(needs, keys):
@@ -201,16 +207,25 @@ def sequence(needs, keys):
     return found if len(found) == len(needs) else None
 
 
-def levels_of(needs, own, fixed, chain):
-    """The levels of the calls, and what each needs.
+def ranked(needs, own):
+    """How far each call has come: its own level, or a higher one of what came before it."""
+    levels, order = list(own), sequence(needs, own)
+    for at in order or ():
+        levels[at] = max([levels[at], *(levels[it] for it in needs[at])])
+    return order and levels
+
+
+def placed(needs, own, fixed, chain, ties):
+    """The level of each call, the calls in their order, and the column of each in it.
 
     The chain of commit versions goes in its order, unless that would lift one of the fixed calls.
+    Calls of one level go by their ties.
     """
-    levels, known = ranked(needs, own), [list(it) for it in needs]
+    known = [list(it) for it in needs]
     for before, after in zip(chain, chain[1:]):
         known[after].append(before)
-    if sequence(known, [0] * len(needs)) is None:
-        return levels, needs
-    lifted = ranked(known, own)
-    is_lifted = any(lifted[it] != levels[it] for it in fixed)
-    return (levels, needs) if is_lifted else (lifted, known)
+    levels, lifted = ranked(needs, own), ranked(known, own)
+    if lifted and all(lifted[it] == levels[it] for it in fixed):
+        levels, needs = lifted, known
+    order = sequence(needs, [(level, *ties(at, level)) for at, level in enumerate(levels)])
+    return levels, order, {at: column for column, at in enumerate(order)}

@@ -17,11 +17,9 @@ function open(fault) {
 
 // What is said of a fault, once.
 function tell(fault) {
-  const { title, means, reason } = drawing.faults[fault];
-  at("said").textContent = title;
-  at("means").textContent = means;
-  at("why").textContent = reason;
-  at("count").textContent = `fault ${fault + 1} of ${drawing.faults.length}`;
+  const { title, means, reason } = drawing.faults[fault], count = drawing.faults.length;
+  const said = { said: title, means, why: reason, count: `fault ${fault + 1} of ${count}` };
+  for (const [id, text] of Object.entries(said)) at(id).textContent = text;
   document.querySelectorAll("#faults a").forEach((it, place) => {
     if (place !== fault) return it.removeAttribute("aria-current");
     it.setAttribute("aria-current", "true");
@@ -60,41 +58,30 @@ function isDrawn(item) {
 }
 
 function show(svg, shapes, width, height) {
-  svg.setAttribute("viewBox", `0 0 ${width} ${height}`);
-  svg.setAttribute("width", width);
-  svg.setAttribute("height", height);
+  const sizes = { viewBox: `0 0 ${width} ${height}`, width, height };
+  for (const [name, it] of Object.entries(sizes)) svg.setAttribute(name, it);
   svg.querySelector("g").innerHTML = Scene.markup(shapes);
 }
 
-function zoom(factor, about = (view.from + view.to) / 2) {
+const zoom = (factor, about = (view.from + view.to) / 2) =>
   change(Scene.zoomed(drawing, view, factor, about));
-}
-
-function move(share) {
-  change(Scene.moved(drawing, view, share * (view.to - view.from)));
-}
-
-function say(call) {
+const move = (share) => change(Scene.moved(drawing, view, share * (view.to - view.from)));
+const say = (call) => {
   at("words").textContent = call === null ? "" : Scene.wordsOf(drawing, view, call);
-}
+};
 
 // Chooses a call, and shows its lane and its part of the axis where they are not in view.
 function choose(call) {
-  const lane = drawing.lane[call], size = view.to - view.from;
+  const lane = drawing.lane[call], left = drawing.left[call], size = view.to - view.from;
   const lanes = view.lanes.includes(lane) ? view.lanes : [...view.lanes, lane];
-  const left = drawing.left[call], isSeen = left >= view.from && left <= view.to;
-  const part = isSeen ? {} : Scene.kept(drawing, left - size / 2, size);
-  const { places } = Scene.laidOut(index, { ...view, ...part, lanes });
-  const place = places.find((it) => it.lane === lane);
-  const few = view.few && place.slot(drawing.row[call]) !== undefined;
+  const isIn = left >= view.from && left <= view.to;
+  const part = isIn ? {} : Scene.kept(drawing, left - size / 2, size);
+  const { top, slot } = Scene.laidOut(index, { ...view, ...part, lanes }).places.get(lane);
+  const few = view.few && slot(drawing.row[call]) !== undefined;
   change({ ...part, lanes, few, chosen: call });
-  reveal(place.top);
-  say(call);
-}
-
-function reveal(top) {
   const isSeen = top >= figure.scrollTop && top + LEAST_LANE <= figure.scrollTop + view.height;
   if (!isSeen) requestAnimationFrame(() => { figure.scrollTop = top; });
+  say(call);
 }
 
 // The call before or after the chosen one, of the lanes in view.
@@ -114,9 +101,7 @@ function turn(by) {
   follow();
 }
 
-function isFolded() {
-  return view.few || view.lanes.length < drawing.lanes.length;
-}
+const isFolded = () => view.few || view.lanes.length < drawing.lanes.length;
 
 // Whether a fault's view, or the first one, leaves something out.
 function mayFold() {
@@ -218,21 +203,15 @@ window.addEventListener("hashchange", follow);
 window.addEventListener("beforeprint", () =>
   document.querySelectorAll("details").forEach((it) => { it.open = true; }));
 
-const BUTTONS = {
-  in: () => zoom(0.5), out: () => zoom(2), whole: KEYS[0], back: () => open(view.fault), all: unfold,
-  next: () => turn(1), last: () => turn(-1),
-};
-for (const [id, press] of Object.entries(BUTTONS)) {
-  if (at(id)) at(id).addEventListener("click", press);
+const BUTTONS = { in: "+", out: "-", whole: "0", back: "Home", all: "a", next: "f", last: "F" };
+for (const [id, key] of Object.entries(BUTTONS)) {
+  if (at(id)) at(id).addEventListener("click", KEYS[key]);
 }
 
 at("find").addEventListener("submit", (event) => {
   event.preventDefault();
   const text = at("wanted").value;
-  if (!finds.length || finds.text !== text) {
-    finds = Scene.found(drawing, text);
-    Object.assign(finds, { text, next: 0 });
-  }
+  if (finds.text !== text) finds = Object.assign(Scene.found(drawing, text), { text, next: 0 });
   if (!finds.length) {
     at("words").textContent = `There is no client, version or call ${text}.`;
     return;
@@ -251,8 +230,8 @@ function follow() {
 // The words of a fault have room for the longest, so that the buttons below stay where they are.
 function reserve() {
   const { faults } = drawing, section = at("found");
-  if (faults.length < 2) return;
   const size = ({ title, means, reason }) => title.length + means.length + reason.length;
+  if (faults.length < 2) return;
   tell(faults.reduce((most, it, place) => (size(it) > size(faults[most]) ? place : most), 0));
   section.style.minHeight = "";
   section.style.minHeight = `${section.getBoundingClientRect().height}px`;

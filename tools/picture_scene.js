@@ -19,14 +19,13 @@ const FAR = 1e6;
 
 // Adds to a drawing what its views need: the calls of each lane and of all, by their begins.
 function indexed(drawing) {
-  const count = drawing.left.length;
-  const all = Array.from({ length: count }, (_, it) => it);
+  const all = drawing.left.map((_, it) => it);
   all.sort((a, b) => drawing.left[a] - drawing.left[b] || a - b);
-  const calls = drawing.lanes.map(() => []);
-  const rows = drawing.lanes.map(() => 1);
+  const calls = drawing.lanes.map(() => []), rows = drawing.lanes.map(() => 1);
   for (const it of all) {
-    calls[drawing.lane[it]].push(it);
-    rows[drawing.lane[it]] = Math.max(rows[drawing.lane[it]], drawing.row[it] + 1);
+    const lane = drawing.lane[it];
+    calls[lane].push(it);
+    rows[lane] = Math.max(rows[lane], drawing.row[it] + 1);
   }
   return { drawing, all: ends(drawing, all), calls: calls.map((it) => ends(drawing, it)), rows };
 }
@@ -34,8 +33,7 @@ function indexed(drawing) {
 // Calls by their begins, each with the last end up to it.
 function ends(drawing, list) {
   let last = -Infinity;
-  const until = list.map((it) => (last = Math.max(last, endOf(drawing, it))));
-  return { list, until };
+  return { list, until: list.map((it) => (last = Math.max(last, endOf(drawing, it)))) };
 }
 
 function endOf(drawing, it) {
@@ -64,12 +62,12 @@ function within(drawing, { list, until }, from, to) {
 function laidOut(index, view) {
   const { drawing } = index;
   let top = 0;
-  const places = view.lanes.map((lane) => {
+  const places = new Map(view.lanes.map((lane) => {
     const calls = within(drawing, index.calls[lane], view.from, view.to);
     const place = { lane, top, calls, ...rowsOf(index, view, lane, calls) };
     top += NAME + ROW * place.rows;
-    return place;
-  });
+    return [lane, place];
+  }));
   const folded = drawing.lanes.length - view.lanes.length;
   return { places, folded, height: top + (folded ? OTHERS : 0), othersTop: top };
 }
@@ -78,14 +76,18 @@ function laidOut(index, view) {
 function rowsOf(index, view, lane, calls) {
   const { drawing } = index;
   if (!view.few) return { slot: (row) => row, rows: index.rows[lane], hidden: 0 };
-  const path = view.fault === null ? [] : drawing.faults[view.fault].path;
-  const named = path.filter((it) => drawing.lane[it] === lane).map((it) => drawing.row[it]);
+  const named = pathOf(drawing, view).filter((it) => drawing.lane[it] === lane)
+    .map((it) => drawing.row[it]);
   const others = calls.map((it) => drawing.row[it]).sort((a, b) => a - b);
   const used = [...new Set([...named, ...others])];
   const kept = used.slice(0, Math.max(FEW, new Set(named).size)).sort((a, b) => a - b);
   const slots = new Map(kept.map((row, at) => [row, at]));
-  const hidden = used.length - kept.length;
-  return { slot: (row) => slots.get(row), rows: Math.max(1, kept.length), hidden };
+  const rows = Math.max(1, kept.length), hidden = used.length - kept.length;
+  return { slot: (row) => slots.get(row), rows, hidden };
+}
+
+function pathOf(drawing, { fault }) {
+  return fault === null ? [] : drawing.faults[fault].path;
 }
 
 // A view's window in pixels.
@@ -100,58 +102,53 @@ function round(it) {
 
 // From where to where a call is drawn.
 function extent(drawing, x, it) {
-  const left = x(drawing.left[it]);
-  const open = drawing.right[it] === null;
-  return [left, open ? left + OPEN : Math.max(left + LEAST, x(drawing.right[it]))];
+  const left = x(drawing.left[it]), right = drawing.right[it];
+  return [left, right === null ? left + OPEN : Math.max(left + LEAST, x(right))];
 }
 
 // The shapes of a view: its window from..to, its width, its lanes, a fault or null, the call that is
 // chosen or null, and which part of the lanes is seen: so many pixels high, from a top on.
 function scene(index, view) {
-  const { drawing } = index, x = scaleOf(view);
-  const layout = laidOut(index, view);
-  const seen = Math.min(view.height, layout.height);
-  const fault = view.fault === null ? null : drawing.faults[view.fault];
-  const path = new Set(fault ? fault.path : []);
-  const faulty = new Set(fault ? fault.faulty : []);
-  const isMarked = (it) => path.has(it) || faulty.has(it) || it === view.chosen;
-  const middle = new Map();
-  const shapes = bandShapes(drawing, view, x, HEAD + seen);
-  for (const place of layout.places) {
+  const { drawing } = index, x = scaleOf(view), layout = laidOut(index, view);
+  const seen = Math.min(view.height, layout.height), bottom = HEAD + seen;
+  // The middle of a call, or undefined where it is not shown.
+  const middle = (it) => {
+    const place = layout.places.get(drawing.lane[it]), slot = place && place.slot(drawing.row[it]);
+    return slot === undefined ? undefined :
+      HEAD + place.top - view.top + NAME + slot * ROW + BAR / 2;
+  };
+  const shapes = bandShapes(drawing, view, x, bottom);
+  for (const place of layout.places.values()) {
     const top = HEAD + place.top - view.top;
-    for (const it of fault ? fault.path : []) {
-      if (drawing.lane[it] === place.lane) middle.set(it, middleOf(drawing, place, it, top));
-    }
-    if (top > HEAD + seen || top + NAME + ROW * place.rows < HEAD) continue;
-    shapes.push(...laneShapes(index, view, x, place, top, isMarked, path, faulty));
+    const isSeen = top <= bottom && top + NAME + ROW * place.rows >= HEAD;
+    if (isSeen) shapes.push(...laneShapes(index, view, x, place, top));
   }
   if (layout.folded) shapes.push(...otherShapes(index, view, x, HEAD + layout.othersTop - view.top));
-  shapes.push(...arrowShapes(index, view, x, layout));
-  for (const link of fault ? fault.links : []) {
-    if (middle.has(link.start) && middle.has(link.end)) {
-      shapes.push(linkShape(drawing, x, link, middle.get(link.start), middle.get(link.end)));
-    }
+  shapes.push(...arrowShapes(drawing, view, x, middle));
+  for (const link of view.fault === null ? [] : drawing.faults[view.fault].links) {
+    const [one, two] = [link.start, link.end].map(middle);
+    if (one !== undefined && two !== undefined) shapes.push(linkShape(drawing, x, link, one, two));
   }
   // No line goes over a text.
   shapes.sort((one, two) => (one.tag === "text") - (two.tag === "text"));
   if (layout.height > seen) {
     const ground = { tag: "rect", class: "ground", x: 0, width: view.width };
-    shapes.push({ ...ground, y: 0, height: HEAD - 10 }, { ...ground, y: HEAD + seen, height: FOOT });
+    shapes.push({ ...ground, y: 0, height: HEAD - 10 }, { ...ground, y: bottom, height: FOOT });
   }
-  shapes.push(...versionShapes(drawing, view, x), ...tickShapes(drawing, view, x, HEAD + seen));
-  return { shapes, height: HEAD + seen + FOOT, inner: layout.height };
+  shapes.push(...versionShapes(drawing, view, x), ...tickShapes(drawing, view, x, bottom));
+  return { shapes, height: bottom + FOOT, inner: layout.height };
 }
 
-function middleOf(drawing, place, it, top) {
-  return top + NAME + place.slot(drawing.row[it]) * ROW + BAR / 2;
-}
-
-function wayShape(look, way, tip) {
-  return { tag: "path", class: look, d: way, ...(tip ? { "marker-end": `url(#tip-${tip})` } : {}) };
+function wayShape(look, d, tip) {
+  return { tag: "path", class: look, d, ...(tip ? { "marker-end": `url(#tip-${tip})` } : {}) };
 }
 
 function lineShape(look, left, top, right, bottom, tip) {
   return wayShape(look, `M${round(left)} ${round(top)}L${round(right)} ${round(bottom)}`, tip);
+}
+
+function textShape(look, x, y, text) {
+  return { tag: "text", class: look, x: round(x), y, text };
 }
 
 // What joins two calls of a path, whose middles are at top and bottom.
@@ -168,25 +165,26 @@ function linkShape(drawing, x, link, top, bottom) {
 function hopOf(drawing, x, { start, end, left, right, has_tip }) {
   if (!has_tip || x(right) - x(left) >= NEAR) return null;
   const [one, two] = [start, end].map((it) => extent(drawing, x, it));
-  const from = Math.max((one[0] + one[1]) / 2, one[1] - HOP);
-  return [from, Math.min((two[0] + two[1]) / 2, two[0] + HOP)];
+  return [Math.max((one[0] + one[1]) / 2, one[1] - HOP), Math.min((two[0] + two[1]) / 2, two[0] + HOP)];
+}
+
+// The first band of a window, and the one behind its last.
+function bandsIn({ bands: { left } }, { from, to }) {
+  const first = Math.max(0, firstPlace(left.length, (it) => left[it] > from) - 1);
+  return [first, firstPlace(left.length, (it) => left[it] > to)];
 }
 
 // The bands: shaded in turn where they are wide enough. Of calls in order the first one has no line,
 // since nothing is left of it.
 function bandShapes(drawing, view, x, bottom) {
-  const { left, words } = drawing.bands, shapes = [];
-  const first = Math.max(0, firstPlace(left.length, (it) => left[it] > view.from) - 1);
-  const end = firstPlace(left.length, (it) => left[it] > view.to);
-  if (end - first <= view.width / 6) {
-    for (let it = first; it < end; it++) {
-      const start = Math.max(0, x(left[it]));
-      const stop = it + 1 < left.length ? Math.min(view.width, x(left[it + 1])) : view.width;
-      shapes.push({ tag: "rect", class: `band turn${it % 2}`, x: round(start), y: HEAD - 10,
-        width: round(Math.max(0, stop - start)), height: bottom - HEAD + 10, words: words[it] });
-      if (x(left[it]) >= 0 && (left[it] > 0 || drawing.axis === "time")) {
-        shapes.push({ tag: "path", class: "raise", d: `M${round(x(left[it]))} ${HEAD - 10}V${bottom}` });
-      }
+  const { left, words } = drawing.bands, shapes = [], [first, end] = bandsIn(drawing, view);
+  for (let it = first; it < end && end - first <= view.width / 6; it++) {
+    const start = Math.max(0, x(left[it]));
+    const stop = it + 1 < left.length ? Math.min(view.width, x(left[it + 1])) : view.width;
+    shapes.push({ tag: "rect", class: `band turn${it % 2}`, x: round(start), y: HEAD - 10,
+      width: round(Math.max(0, stop - start)), height: bottom - HEAD + 10, words: words[it] });
+    if (x(left[it]) >= 0 && (left[it] > 0 || drawing.axis === "time")) {
+      shapes.push(wayShape("raise", `M${round(x(left[it]))} ${HEAD - 10}V${bottom}`));
     }
   }
   return shapes;
@@ -194,11 +192,9 @@ function bandShapes(drawing, view, x, bottom) {
 
 // The versions above the bands, wherever there is room: that of the fault first and in any case.
 function versionShapes(drawing, view, x) {
-  const { left, label } = drawing.bands, shapes = [];
-  const first = Math.max(0, firstPlace(left.length, (it) => left[it] > view.from) - 1);
-  const end = firstPlace(left.length, (it) => left[it] > view.to);
+  const { left, label } = drawing.bands, shapes = [], [first, end] = bandsIn(drawing, view);
   const put = (it, start, size) => {
-    shapes.push({ tag: "text", class: "version", x: round(start + 3), y: HEAD - 15, text: label[it] });
+    shapes.push(textShape("version", start + 3, HEAD - 15, label[it]));
     return [start, start + size];
   };
   const sizeOf = (it) => label[it].length * BOLD + 10;
@@ -230,20 +226,33 @@ function bandOf(drawing, at) {
 }
 
 // A lane: its name, its bars, and labels where they do not run into one another.
-function laneShapes(index, view, x, place, top, isMarked, path, faulty) {
-  const { drawing } = index, { lane } = place;
-  const shapes = [], first = [], labels = [], open = [];
-  shapes.push({ tag: "path", class: "lane", d: `M0 ${top}H${view.width}` });
-  shapes.push({ tag: "text", class: "name", x: 4, y: top + 13, text: nameOf(drawing, view, place),
-    words: drawing.lanes[lane] });
-  const flush = (block) => {
-    if (block.count === 1) {
-      shapes.push(barShape(drawing, view, block.call, block, top, ""));
-      labels.push([block.call, block]);
-    } else {
-      shapes.push(blockShape(drawing, block, top));
-    }
+function laneShapes(index, view, x, place, top) {
+  const { drawing } = index, { lane } = place, fault = drawing.faults[view.fault];
+  const path = new Set(pathOf(drawing, view)), faulty = new Set(fault ? fault.faulty : []);
+  const isMarked = (it) => path.has(it) || faulty.has(it) || it === view.chosen;
+  const name = textShape("name", 4, top + 13, nameOf(drawing, view, place));
+  const shapes = [wayShape("lane", `M0 ${top}H${view.width}`), { ...name, words: drawing.lanes[lane] }];
+  const first = [], labels = [];
+  const put = (it, bar, look, to) => {
+    shapes.push(barShape(drawing, view, it, bar, top, look));
+    to.push([it, bar]);
   };
+  for (const block of blocksOf(drawing, x, place, isMarked)) {
+    if (block.count === 1) put(block.call, block, "", labels);
+    else shapes.push(blockShape(drawing, block, top));
+  }
+  for (const it of index.calls[lane].list.filter(isMarked)) {
+    const [left, right] = extent(drawing, x, it), row = place.slot(drawing.row[it]);
+    const look = (faulty.has(it) ? " faulty" : path.has(it) ? " on-path" : "") +
+      (it === view.chosen ? " chosen" : "");
+    if (row !== undefined) put(it, { left, right, row }, look, first);
+  }
+  return shapes.concat(labelShapes(drawing, view, place, [...first, ...labels], top, path));
+}
+
+// The calls of a lane that are not marked, those together that are too near to be told apart.
+function blocksOf(drawing, x, place, isMarked) {
+  const blocks = [], open = [];
   for (const it of place.calls) {
     const [left, right] = extent(drawing, x, it), row = place.slot(drawing.row[it]);
     if (isMarked(it) || row === undefined) continue;
@@ -254,21 +263,10 @@ function laneShapes(index, view, x, place, top, isMarked, path, faulty) {
       block.last = it;
       continue;
     }
-    if (block) flush(block);
+    if (block) blocks.push(block);
     open[row] = { call: it, last: it, left, right, count: 1, narrow, row };
   }
-  open.forEach(flush);
-  const marked = index.calls[lane].list.filter(isMarked);
-  for (const it of marked) {
-    const [left, right] = extent(drawing, x, it);
-    const look = (faulty.has(it) ? " faulty" : path.has(it) ? " on-path" : "") +
-      (it === view.chosen ? " chosen" : "");
-    const bar = { left, right, row: place.slot(drawing.row[it]) };
-    if (bar.row === undefined) continue;
-    shapes.push(barShape(drawing, view, it, bar, top, look));
-    first.push([it, bar]);
-  }
-  return shapes.concat(labelShapes(drawing, view, place, [...first, ...labels], top, path));
+  return blocks.concat(open.filter((it) => it));
 }
 
 function nameOf(drawing, view, { lane, hidden }) {
@@ -283,9 +281,8 @@ function cut(text, width) {
 
 // The words of a call, with what it is to the fault that is looked at.
 function wordsOf(drawing, view, it) {
-  const fault = view.fault === null ? null : drawing.faults[view.fault];
-  const at = fault ? fault.path.indexOf(it) : -1;
-  return (at < 0 ? "" : fault.roles[at]) + drawing.words[it];
+  const at = pathOf(drawing, view).indexOf(it);
+  return (at < 0 ? "" : drawing.faults[view.fault].roles[at]) + drawing.words[it];
 }
 
 function barShape(drawing, view, it, { left, right, row }, top, look) {
@@ -294,10 +291,10 @@ function barShape(drawing, view, it, { left, right, row }, top, look) {
     words: wordsOf(drawing, view, it) };
 }
 
-function blockShape(drawing, block, top) {
-  return { tag: "rect", class: "block", x: round(block.left), y: top + NAME + block.row * ROW,
-    width: round(block.right - block.left), height: BAR,
-    words: `${block.count} calls, from ${drawing.name[block.call]} to ${drawing.name[block.last]}` };
+function blockShape(drawing, { left, right, row, count, call, last }, top) {
+  return { tag: "rect", class: "block", x: round(left), y: top + NAME + row * ROW,
+    width: round(right - left), height: BAR,
+    words: `${count} calls, from ${drawing.name[call]} to ${drawing.name[last]}` };
 }
 
 // The labels of a lane: those of the path first and in any case, below or above their bars, others
@@ -316,13 +313,12 @@ function labelShapes(drawing, view, place, labels, top, path) {
     const others = (above.get(space) || []).filter((one) => one.key !== key);
     const isFree = 2 * half <= view.width &&
       others.every((one) => Math.abs(one.at - at) > one.half + half + 3);
-    if (!isFree && !more.isSure) return false;
     const isOver = more.isClear && labels.some(([other, its]) => other !== it && its.row === row &&
       its.left < at + half && its.right > at - half);
-    if (isOver) return false;
+    if (isOver || (!isFree && !more.isSure)) return false;
     above.set(space, [...others, { key, at, half }]);
     const look = `label${isOnPath ? " on-path" : ""}${more.look || ""}`;
-    found.set(key, { tag: "text", class: look, x: round(at), y, text });
+    found.set(key, textShape(look, at, y, text));
     return true;
   };
   putPath(drawing, view, labels.filter(([it]) => path.has(it)), put);
@@ -359,8 +355,10 @@ function putPath(drawing, view, labels, put) {
   for (const [it, bar] of labels) {
     const isApart = it === knower && [0, -1].some((side) =>
       put(it, bar, `knew ${known}`, ABOVE, side, { isClear: true, look: " knew" }));
-    const texts = pathLabels(drawing, it, it === knower && !isApart ? `, knew ${known}` : "");
-    const name = texts[0].split(":")[0], two = (text) => [[text, BELOW], [text, ABOVE]];
+    const name = drawing.name[it].replace(`${drawing.lanes[drawing.lane[it]]} `, "");
+    const said = `${name}: ${called(drawing, it)}`;
+    const texts = it === knower && !isApart ? [`${said}, knew ${known}`, said] : [said];
+    const two = (text) => [[text, BELOW], [text, ABOVE]];
     const clear = texts.flatMap(two).flatMap((how) =>
       SIDES.map((side) => [...how, side, { isClear: true }]));
     const tries = [...clear, ...[...texts, name].flatMap(two), [name, ABOVE, 0, { isSure: true }]];
@@ -372,69 +370,52 @@ function called(drawing, it) {
   return `${drawing.kinds[drawing.kind[it]].short} ${drawing.label[it]}`.trim();
 }
 
-// What may stand at a call of a fault's path: its name, what it was, and what it knew.
-function pathLabels(drawing, it, knew) {
-  const name = drawing.name[it].replace(`${drawing.lanes[drawing.lane[it]]} `, "");
-  const said = `${name}: ${called(drawing, it)}`;
-  return knew ? [said + knew, said] : [said];
-}
-
 // The clients that are folded away: one strip in which their calls are.
 function otherShapes(index, view, x, top) {
   const { drawing } = index, shown = new Set(view.lanes);
   const folded = drawing.lanes.length - view.lanes.length;
   let way = "", left = 0, right = -Infinity;
+  const flush = () => {
+    if (right > left) way += `M${round(left)} ${top + 20}H${round(right)}`;
+  };
   for (const it of within(drawing, index.all, view.from, view.to)) {
     if (shown.has(drawing.lane[it])) continue;
     const [from, to] = extent(drawing, x, it);
     if (from > right + 1) {
-      if (right > left) way += `M${round(left)} ${top + 20}H${round(right)}`;
+      flush();
       [left, right] = [from, to];
     }
     right = Math.max(right, to);
   }
-  if (right > left) way += `M${round(left)} ${top + 20}H${round(right)}`;
+  flush();
   const said = `${folded} other client${folded === 1 ? "" : "s"}: show`;
   return [
     { tag: "rect", class: "unfold", x: 0, y: top, width: view.width, height: OTHERS, words: said },
-    { tag: "path", class: "others", d: way || `M0 ${top + 20}` },
-    { tag: "text", class: "name show", x: 4, y: top + 13, text: said },
+    wayShape("others", way || `M0 ${top + 20}`), textShape("name show", 4, top + 13, said),
   ];
 }
 
 // Arrows from call to call, if few enough are in the window to be told apart.
-function arrowShapes(index, view, x, layout) {
-  const { drawing } = index, places = new Map(layout.places.map((it) => [it.lane, it]));
-  const isShown = (it) => places.has(drawing.lane[it]) &&
-    places.get(drawing.lane[it]).slot(drawing.row[it]) !== undefined;
-  const found = drawing.arrows.filter(([start, end]) =>
-    drawing.left[end] >= view.from && drawing.right[start] <= view.to &&
-    isShown(start) && isShown(end));
-  if (found.length > MOST_ARROWS) return [];
-  const y = (it) => {
-    const place = places.get(drawing.lane[it]);
-    return middleOf(drawing, place, it, HEAD + place.top - view.top);
-  };
-  return found.map(([start, end]) => lineShape("arrow", x(drawing.right[start]), y(start),
-    x(drawing.left[end]), y(end), "arrow"));
+function arrowShapes(drawing, view, x, middle) {
+  const { left, right } = drawing;
+  const found = drawing.arrows.filter(([start, end]) => left[end] >= view.from &&
+    right[start] <= view.to && middle(start) !== undefined && middle(end) !== undefined);
+  return found.length > MOST_ARROWS ? [] : found.map(([start, end]) => lineShape("arrow",
+    x(right[start]), middle(start), x(left[end]), middle(end), "arrow"));
 }
 
 // What stands below: round moments, or that the calls stand in order.
 function tickShapes(drawing, view, x, top) {
-  const shapes = [{ tag: "path", class: "lane", d: `M0 ${top}H${view.width}` }];
-  const text = (at, said, look) =>
-    shapes.push({ tag: "text", class: `tick ${look}`, x: round(at), y: top + 16, text: said });
-  if (drawing.axis !== "time") {
-    text(4, "in order →", "first");
-    return shapes;
-  }
-  const widest = (moment(drawing, view.to).length + 2) * LETTER;
+  const shapes = [wayShape("lane", `M0 ${top}H${view.width}`)];
+  if (drawing.axis !== "time") return [...shapes, textShape("tick first", 4, top + 16, "in order →")];
+  const widest = (moment(drawing, view.to).length + 2) * LETTER, half = widest / 2;
   const step = stepOf((view.to - view.from) / Math.max(1, view.width / widest));
   const past = Number(BigInt(drawing.origin) % BigInt(step));
   for (let at = Math.ceil((view.from + past) / step) * step - past; at <= view.to; at += step) {
-    const half = widest / 2;
-    shapes.push({ tag: "path", class: "lane", d: `M${round(x(at))} ${top}v4` });
-    if (x(at) >= half && x(at) <= view.width - half) text(x(at), moment(drawing, at), "");
+    shapes.push(wayShape("lane", `M${round(x(at))} ${top}v4`));
+    if (x(at) >= half && x(at) <= view.width - half) {
+      shapes.push(textShape("tick ", x(at), top + 16, moment(drawing, at)));
+    }
   }
   return shapes;
 }
@@ -461,12 +442,10 @@ function overview(index, view, height) {
   const most = Math.sqrt(Math.max(1, ...bins)), space = height - 12;
   const way = bins.map((count, at) => count &&
     `M${at * 2} ${height}v${-round(2 + (Math.sqrt(count) / most) * (space - 2))}h2V${height}Z`);
-  const shapes = [{ tag: "path", class: "density", d: way.filter((it) => it).join("") || "M0 0" }];
-  const marks = new Set();
-  drawing.faults.forEach((fault) => fault.faulty.forEach((it) =>
-    marks.add(Math.round(x(drawing.left[it])))));
-  const mark = (at) => `M${at - 4} 1h8l-4 8Z`;
-  if (marks.size) shapes.push({ tag: "path", class: "mark", d: [...marks].map(mark).join("") });
+  const shapes = [wayShape("density", way.filter((it) => it).join("") || "M0 0")];
+  const faulty = drawing.faults.flatMap((it) => it.faulty);
+  const marks = [...new Set(faulty.map((it) => Math.round(x(drawing.left[it]))))];
+  if (marks.length) shapes.push(wayShape("mark", marks.map((at) => `M${at - 4} 1h8l-4 8Z`).join("")));
   const left = Math.max(0, x(view.from)), right = Math.min(view.width, x(view.to));
   shapes.push({ tag: "rect", class: "window", x: round(left), y: 0.5,
     width: round(Math.max(4, right - left)), height: height - 1 });
@@ -478,8 +457,7 @@ function overview(index, view, height) {
 function zoomed(drawing, view, factor, about) {
   const whole = drawing.to - drawing.from, least = drawing.axis === "time" ? 4 : 20;
   const size = Math.min(whole, Math.max(least, (view.to - view.from) * factor));
-  const share = (about - view.from) / (view.to - view.from);
-  return kept(drawing, about - share * size, size);
+  return kept(drawing, about - ((about - view.from) / (view.to - view.from)) * size, size);
 }
 
 function moved(drawing, view, by) {
@@ -491,14 +469,12 @@ function kept(drawing, from, size) {
   return { from: start, to: start + size };
 }
 
-// What a typed text finds: clients by a part of their name, and calls by their version or name.
+// What a typed text finds: calls by their version or name, and clients by a part of their name.
 function found(drawing, text) {
   const wanted = text.trim().toLowerCase().replace(/\s+/g, " ");
   if (!wanted) return [];
-  const calls = [];
-  for (let it = 0; it < drawing.left.length; it++) {
-    if (drawing.label[it] === wanted || drawing.name[it] === wanted) calls.push({ call: it });
-  }
+  const calls = drawing.left.map((_, call) => ({ call }))
+    .filter(({ call }) => [drawing.label[call], drawing.name[call]].includes(wanted));
   const lanes = [];
   drawing.lanes.forEach((name, lane) => {
     const is = name.toLowerCase();
@@ -510,14 +486,10 @@ function found(drawing, text) {
 
 // The view that a fault opens with, or, without one, all of the drawing.
 function opened(drawing, at) {
-  const fault = drawing.faults[at];
-  if (!fault) {
-    const lanes = drawing.lanes.map((_, lane) => lane).slice(0, drawing.most_lanes);
-    const all = { from: drawing.from, to: drawing.to, lanes };
-    return { ...all, fault: null, chosen: null, top: 0, few: false };
-  }
-  const { from, to, lanes } = fault;
-  return { from, to, lanes, fault: at, chosen: null, top: 0, few: true };
+  const fault = drawing.faults[at] || null;
+  const all = drawing.lanes.map((_, lane) => lane).slice(0, drawing.most_lanes);
+  const { from, to, lanes } = fault || { ...drawing, lanes: all };
+  return { from, to, lanes, fault: fault && at, chosen: null, top: 0, few: fault !== null };
 }
 
 function escaped(text) {
@@ -527,14 +499,12 @@ function escaped(text) {
 
 // Shapes as the inside of an SVG.
 function markup(shapes) {
-  return shapes.map((shape) => {
-    const { tag, words, text, call, ...rest } = shape;
+  return shapes.map(({ tag, words, text, call, ...rest }) => {
     const title = words ? `<title>${escaped(words)}</title>` : "";
-    const label = words && tag !== "text" ? ' role="img"' : "";
-    const named = call === undefined ? "" : ` data-call="${call}"`;
     const said = Object.entries(rest).map(([name, it]) => ` ${name}="${escaped(it)}"`).join("");
     if (tag === "text") return `<text${said}>${title}${escaped(text)}</text>`;
-    const name = tag === "bar" ? "rect" : tag;
+    const name = tag === "bar" ? "rect" : tag, label = words ? ' role="img"' : "";
+    const named = call === undefined ? "" : ` data-call="${call}"`;
     return `<${name}${said}${named}${label}>${title}</${name}>`;
   }).join("");
 }

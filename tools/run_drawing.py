@@ -1,65 +1,35 @@
 """Draws the text of a run: a column for each call, in the order of the history."""
 from drawing import (
-    AT_FAULT, COLUMN, NAMED, Arrow, Band, Bar, Drawing, Fault, Kind, column_ends, levels_of,
-    sequence,
+    AT_FAULT, COLUMN, Arrow, Band, Bar, Drawing, Kind, column_ends, counted, headed, placed,
+    told_fault,
 )
 from run_text import CHANGES, EVENTS, FAULTS, REFUSALS
 
 REPORTED = "client {client} reported {version} as committed, which "
-KINDS = {
-    "raised": Kind(
-        "report",
-        "report that raised the live committed version",
-        REPORTED + "raised the live committed version and made position {position}",
-    ),
-    "min raised": Kind(
-        "report",
-        "report that raised the minimum known committed version alone",
-        REPORTED + "raised the minimum known committed version alone and made position {position}",
-    ),
-    "not raised": Kind(
-        "report",
-        "report that changed nothing",
-        REPORTED + "changed nothing at position {position}",
-    ),
-    "read": Kind(
-        "read",
-        "read, and the version that it got",
-        "client {client} read {version} at position {position}",
-    ),
-    "locked": Kind(
-        "locked",
-        "read that the lock turned away",
-        "client {client} read {version} at position {position}, which was refused: the database is "
-        "locked, and the read is not lock-aware",
-    ),
-    "fresh": Kind(
-        "ask",
-        "commit version that was drawn",
-        "client {client} drew the commit version {version}, the one after {prev}; "
-        "its place in the chain is {ordinal}",
-    ),
-    "kept": Kind(
-        "ask",
-        "commit version that was answered again",
-        "client {client} got its earlier answer again, the commit version {version}",
-    ),
-    "tell": Kind(
-        "tell",
-        "tell, with an arrow to where it was learnt",
-        "client {client} told client {to} that it had seen position {position}",
-    ),
-    "learn": Kind(
-        "learn",
-        "what another told is learnt",
-        "client {client} learnt from client {tell.client} of position {position}",
-    ),
-    "refused": Kind(
-        "refused",
-        "call that was refused, and why",
-        "client {client} called {do}, which was refused: {why}",
-    ),
-}
+READ = "client {client} read {version} at position {position}"
+KINDS = {name: Kind(*it) for name, it in {
+    "raised": ("report", "report that raised the live committed version",
+               REPORTED + "raised the live committed version and made position {position}"),
+    "min raised": ("report", "report that raised the minimum known committed version alone",
+                   REPORTED + "raised the minimum known committed version alone and made position "
+                   "{position}"),
+    "not raised": ("report", "report that changed nothing",
+                   REPORTED + "changed nothing at position {position}"),
+    "read": ("read", "read, and the version that it got", READ),
+    "locked": ("locked", "read that the lock turned away", READ + ", which was refused: the "
+               "database is locked, and the read is not lock-aware"),
+    "fresh": ("ask", "commit version that was drawn",
+              "client {client} drew the commit version {version}, the one after {prev}; its place "
+              "in the chain is {ordinal}"),
+    "kept": ("ask", "commit version that was answered again",
+             "client {client} got its earlier answer again, the commit version {version}"),
+    "tell": ("tell", "tell, with an arrow to where it was learnt",
+             "client {client} told client {to} that it had seen position {position}"),
+    "learn": ("learn", "what another told is learnt",
+              "client {client} learnt from client {tell.client} of position {position}"),
+    "refused": ("refused", "call that was refused, and why",
+                "client {client} called {do}, which was refused: {why}"),
+}.items()}
 FURTHER = {
     "minimum": ", and the minimum known committed version {}",
     "used": "; the read uses {}",
@@ -72,47 +42,40 @@ that all arrows go to the right."""
 ABOUT = """The page shows what the clients of fdb_replay called, and what they were answered. A
 version is the number of a state of the database: each commit gets one, and a read gets the newest
 that was reported as committed, the live one."""
+RISE = "version live from here on, by a report that changed the record"
 WITHOUT_HISTORY = """This page was made from the replies alone: their positions order the reads and
 reports. With the text of --history it says, too, what each report told beside its version."""
 
 
+# What calls are to a fault beside those at fault, and what is said where no call is.
+SEEN, MADE = "Its client had seen this: ", "This made its position: "
+NO_CALL = "No call of client {} got it."
+
+
 def brief(call):
-    """What a call was, in a few words."""
+    """What a call was."""
     text = KINDS[call.kind].words.format_map(vars(call))
-    return text + (f", {REFUSALS[call.why.split()[0]]}" if call.kind == "refused" else "")
-
-
-def said_of(call):
-    """What a call was, in words."""
-    said, text = vars(call), brief(call)
-    if "lock" in said:
-        text += f"; the record is {call.lock}, {metadata_words(call.metadata)}"
-    for name, form in FURTHER.items():
-        text += form.format(said[name]) if said.get(name) else ""
-    return text
-
-
-def words(call):
-    """What is said of a call where the pointer rests on it."""
-    text = said_of(call)
-    place = f"command {call.place}" if "place" in vars(call) else "once it is over"
-    text += f". Round {call.round}, {place}; call {call.number} of the client's log"
-    text += f"; event {call.event}." if "event" in vars(call) else "."
+    text += f", {REFUSALS[call.why.split()[0]]}" if call.kind == "refused" else ""
     return text[0].upper() + text[1:]
 
 
-def metadata_words(metadata):
-    return "with no metadata version" if metadata == "none" else f"with metadata version {metadata}"
+def words(call):
+    """What is said of a call: what it was, what it told, and where it stands."""
+    said, text = vars(call), brief(call)
+    if "lock" in said:
+        has = "no metadata version"
+        has = has if call.metadata == "none" else f"metadata version {call.metadata}"
+        text += f"; the record is {call.lock}, with {has}"
+    text += "".join(form.format(said[name]) for name, form in FURTHER.items() if said.get(name))
+    place = f"command {call.place}" if "place" in said else "once it is over"
+    text += f". Round {call.round}, {place}; call {call.number} of the client's log"
+    return text + (f"; event {call.event}." if "event" in said else ".")
 
 
 def label(call):
     """What stands at a call's bar beside the name of its kind."""
-    said = vars(call)
-    if call.kind == "refused":
-        return f"{call.do} {call.why}"
-    other = f"to {call.to}" if call.kind == "tell" else ""
-    other = f"from {call.tell.client}" if call.kind == "learn" else other
-    return other or str(said.get("version", ""))
+    forms = {"refused": "{do} {why}", "tell": "to {to}", "learn": "from {tell.client}"}
+    return forms.get(call.kind, "{version}").format_map(vars(call))
 
 
 class RunDrawing:
@@ -123,6 +86,7 @@ class RunDrawing:
         self.calls = text.calls()
         self.at = {call: at for at, call in enumerate(self.calls)}
         self.place()
+        self.bars = [self.bar(at) for at in range(len(self.calls))]
 
     def place(self):
         """Gives each call its level, the position that had been come to, and its column.
@@ -135,14 +99,12 @@ class RunDrawing:
         fixed = [at for at, call in enumerate(self.calls) if call.kind in EVENTS]
         drawn = sorted(self.text.calls("fresh"), key=lambda it: it.ordinal)
         chain = [self.at[it] for it in drawn]
-        self.levels, needs = levels_of(needs, own, fixed, chain)
-        self.order = sequence(needs, [self.key(at) for at in range(len(self.calls))])
-        self.column = {at: column for column, at in enumerate(self.order)}
+        self.levels, self.order, self.column = placed(needs, own, fixed, chain, self.ties)
 
-    def key(self, at):
+    def ties(self, at, level):
         call = self.calls[at]
-        makes = call.kind in CHANGES and call.position == self.levels[at]
-        return self.levels[at], not makes, call.client, call.number
+        makes = call.kind in CHANGES and call.position == level
+        return not makes, call.client, call.number
 
     def maker(self, position):
         """The report that made a position, or None."""
@@ -175,78 +137,45 @@ class RunDrawing:
         found += [maker] * (maker is not None and maker not in found)
         return found[::-1]
 
-    def path(self, fault):
-        """The calls that show why a fault stands."""
-        found = list(fault.calls)
-        if fault.name in ("Order", "NotAbove"):
-            found = self.way(fault.calls[0]) + found
-        elif fault.name == "Wrong" and "position" in vars(fault.calls[0]):
-            maker = self.maker(fault.calls[0].position)
-            found = [maker] * (maker not in (None, fault.calls[0])) + found
-        return sorted({self.at[it] for it in found}, key=self.column.get)
-
-    def reason(self, fault):
-        """Why a fault stands, in words: those of the audit, or else what the path shows."""
-        calls = [f"{brief(it)} (call {it.number})" for it in fault.calls]
-        if fault.reason or not calls:
-            return fault.reason or f"No call of client {fault.at} got it."
-        told = "; ".join(calls) + "."
-        call, way = fault.calls[0], self.way(fault.calls[0])
-        if fault.name in ("Order", "NotAbove") and way:
-            seen = self.text.lanes[call.client][call.number - 1].seen
-            told += f" Its client had come to position {seen} before, where {self.live(seen)} was"
-            told += f" live: {'; '.join(f'{brief(it)} (call {it.number})' for it in way)}."
-        elif fault.name == "Wrong" and "position" in vars(call):
-            told += f" At position {call.position} the live committed version was"
-            told += f" {self.live(call.position)}."
-        return told[0].upper() + told[1:]
-
-    def bars(self):
-        names = self.lanes()
-        found = []
-        for at, call in enumerate(self.calls):
-            lane, ends = names.index(f"client {call.client}"), column_ends(self.column[at])
-            what = f"client {call.client} call {call.number}"
-            found.append(Bar(lane, *ends, call.kind, label(call), what, words(call)))
-        return found
-
-    def lanes(self):
-        return [f"client {it}" for it in range(max(self.text.lanes, default=-1) + 1)]
+    def bar(self, at):
+        call, ends = self.calls[at], column_ends(self.column[at])
+        name = f"client {call.client} call {call.number}"
+        return Bar(call.client, *ends, call.kind, label(call), name, words(call))
 
     def bands(self):
         """Where the level rises: a position, and the live committed version there."""
-        found, before = [], None
+        begins = {}
         for column, at in enumerate(self.order):
-            level = self.levels[at]
-            if level != before:
-                live = self.live(level)
-                said = f"From position {level} on, the live committed version is {live}."
-                if live is None:
-                    said = f"Position {level}; the text does not say which version was live."
-                found.append(Band(column * COLUMN, "?" if live is None else str(live), said))
-            before = level
-        return found
-
-    def arrows(self):
-        learns = self.text.calls("learn")
-        return [Arrow(self.at[it.tell], self.at[it]) for it in learns]
+            begins.setdefault(self.levels[at], column * COLUMN)
+        for level, left in begins.items():
+            live = self.live(level)
+            said = f"From position {level} on, the live committed version is {live}."
+            unsaid = f"Position {level}; the text does not say which version was live."
+            yield Band(left, "?", unsaid) if live is None else Band(left, str(live), said)
 
     def fault(self, it):
-        faulty = [self.at[call] for call in it.calls]
+        """A fault, with the calls by which its client had seen more, or what made its position."""
+        more, role = [], SEEN
+        if it.name in ("Order", "NotAbove"):
+            more = self.way(it.calls[0])
+        elif it.name == "Wrong" and "position" in vars(it.calls[0]):
+            more, role = [self.maker(it.calls[0].position)], MADE
+        told = [(self.at[call], AT_FAULT) for call in it.calls]
+        told += [(self.at[call], role) for call in more if call not in (None, *it.calls)]
         said = f"{it.name} {it.at}" + ("" if it.call is None else f" {it.call}")
-        path = self.path(it)
-        roles = [AT_FAULT if at in faulty else NAMED for at in path]
-        return Fault(said, said, FAULTS[it.name], self.reason(it), faulty, path, roles)
+        found = told_fault(
+            self.bars, said, said, FAULTS[it.name], told, "" if told else NO_CALL.format(it.at),
+            lambda at: f"{brief(self.calls[at])} (call {self.calls[at].number}).",
+        )
+        return found._replace(reason=it.reason) if it.reason else found
 
     def drawing(self):
-        lanes, text = self.lanes(), self.text
-        heading = f"A run of {counted(len(lanes), 'client', 'clients')}"
-        heading += f": {self.name}" if self.name else ""
-        about = [ABOUT] + [WITHOUT_HISTORY] * (not text.listed)
+        text, about = self.text, [ABOUT] + [WITHOUT_HISTORY] * (not self.text.listed)
+        lanes = [f"client {it}" for it in range(max(text.lanes, default=-1) + 1)]
+        arrows = [Arrow(self.at[it.tell], self.at[it]) for it in text.calls("learn")]
         return Drawing(
-            heading, [account(text)], [NOTES], about, "order", 0, lanes, self.bars(), self.bands(),
-            self.arrows(), [self.fault(it) for it in text.faults], KINDS,
-            "version live from here on, by a report that changed the record",
+            headed("run", lanes, self.name), [account(text)], [NOTES], about, "order", 0, lanes,
+            self.bars, [*self.bands()], arrows, [self.fault(it) for it in text.faults], KINDS, RISE,
         )
 
 
@@ -257,10 +186,6 @@ def account(text):
     said += f"{len(raised)} of them raised the live committed version, and "
     said += counted(len(drawn), "commit version was", "commit versions were") + " drawn."
     return said + " The audit found one history that explains all of this." * text.audited
-
-
-def counted(count, one, several):
-    return f"{count} {one if count == 1 else several}"
 
 
 def run_drawing(text, name=None):

@@ -124,15 +124,9 @@ class Text:
     def end_round(self):
         """What clients were told in a round they learn when it is over, by a call for each tell."""
         for tell in self.told:
-            self.learn(tell.to, tell, round=tell.round, position=tell.position)
+            it = self.call("learn", tell.to, tell=tell, round=tell.round, position=tell.position)
+            it.needs.append(tell)
         self.told = []
-
-    def learn(self, client, tell, **said):
-        """Adds a call by which a client learns what was seen at this one."""
-        before = [it.seen for it in self.lanes.get(client, [])[-1:]]
-        is_news = said["position"] > max(before, default=0)
-        learn = self.call("learn", client, tell=tell, is_news=is_news, **said)
-        learn.needs.append(tell)
 
     def end_replies(self):
         """Puts the events in the order of the history, which the replies determine."""
@@ -159,15 +153,14 @@ class Text:
 
     def history(self, index, client, call, change="read", **record):
         """Takes an event of the history. It says more of a record than the reply to a report."""
-        if not self.audited or index != self.listed or index >= len(self.events):
+        if not (self.audited and index == self.listed < len(self.events)):
             self.refuse("BadHistory", "no such event is due here")
         event = self.events[index]
         kind = "read" if event.kind == "locked" else event.kind
-        if (event.client, event.number, kind) != (client, call, change):
-            self.refuse("BadHistory", "the replies have another event here")
         parts = RECORD_PARTS if event.kind == "read" else ("version",)
-        if any(vars(event).get(name) != record.get(name) for name in parts):
-            self.refuse("BadHistory", "its reply says something else")
+        is_other = any(vars(event).get(name) != record.get(name) for name in parts)
+        if is_other or (event.client, event.number, kind) != (client, call, change):
+            self.refuse("BadHistory", "the replies have another event here")
         vars(event).update(record)
         self.listed += 1
 
