@@ -125,23 +125,9 @@ def scenes(_program):
     known = PLAIN.union(*map(str.split, known))
     unknown = {look for it in shapes for look in it["class"].split()} - known
     yield "the key has what is drawn", differing("it lacks", unknown, set())
-    yield from [*marked(drawn(CLASH)), *marked(ALL_FAULTS)]
-
-
-def marked(drawing):
-    """Each call of a fault is marked where it is looked at, and those of all in the overview."""
-    columns, count = page_of.columns_of(drawing), len(drawing.faults)
-    whole = {"lanes": [*range(len(drawing.lanes))], "few": False, "height": 5_000,
-             "from": columns["from"], "to": columns["to"]}
-    views = [view(drawing, 900, fault=at, **whole) for at in range(count)]
-    asked = [*(["scene", it] for it in views), ["overview", views[0], 44]]
-    (*found, overview), _ = scenes_of(drawing, asked)
-    for fault, scene in zip(drawing.faults, found):
-        faulty = [it["call"] for it in scene["shapes"] if "faulty" in it["class"].split()]
-        yield f"calls at {fault.said}", differing("calls", sorted(faulty), sorted(fault.faulty))
-    wanted = len({drawing.bars[it].left for fault in drawing.faults for it in fault.faulty})
+    overview = scenes_of(ALL_FAULTS, [["overview", view(ALL_FAULTS, 900), 44]])[0][0]
     marks = sum(it["d"].count("M") for it in overview if it["class"] == "mark")
-    yield f"marks of {count} faults", differing("marks", marks, wanted)
+    yield "marks of faults at lines 2 to 6", differing("marks", marks, 5)
 
 
 def crowds():
@@ -173,18 +159,22 @@ def meeting(scene, width):
 
 
 def readable(_program):
-    """Views of narrow and wide pages: all of their texts can be read."""
+    """In views of each fault, narrow and wide, its calls are marked, and all texts can be read."""
     shown = {name: drawn(text) for name, text in texts() if name.startswith("examples/")}
     shown |= {name: drawing for name, (_text, drawing, _parts) in HAND.items()} | dict(logs())
     crowded = ("\n".join(map(json.dumps, it)) for it in crowds())
     shown |= {f"crowd {at}": logged(text) for at, text in enumerate(crowded)}
+    shown["two reports that made one position"] = drawn(CLASH)
     for name, drawing in shown.items() if NODE else ():
-        views = [view(drawing, width, at) for at in range(max(1, len(drawing.faults)))
-                 for width in WIDTHS]
+        faults = [(it.title, it.faulty) for it in drawing.faults] or [("no fault", [])]
+        views = [view(drawing, width, at) for at in range(len(faults)) for width in WIDTHS]
         answers, _ = scenes_of(drawing, [["scene", it] for it in views])
-        wrong = [it for seen, scene in zip(views, answers) for it in meeting(scene, seen["width"])]
-        yield name, f"{wrong} meet" if wrong else None
-    yield "the crowds", None
+        for at, (seen, scene) in enumerate(zip(views, answers)):
+            (title, faulty), wrong = faults[at // len(WIDTHS)], [*meeting(scene, seen["width"])]
+            marked = [it["call"] for it in scene["shapes"] if "faulty" in it["class"].split()]
+            fault = differing("calls", sorted(marked), sorted(faulty))
+            yield f"{name}, {title}", fault or (f"{wrong} meet" if wrong else None)
+    yield "those that node is asked of", None
 
 
 # ---- the largest log
