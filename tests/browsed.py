@@ -1,5 +1,6 @@
 """What the code of a picture's page draws, with node and in a browser, where they are."""
 import html
+import itertools
 import json
 import re
 import resource
@@ -34,11 +35,14 @@ def scenes_of(drawing, calls):
     return json.loads(ran.out)
 
 
-def view(drawing, width, **changed):
-    """The view that a drawing opens with."""
-    fault = page_of.columns_of(drawing)["faults"][0]
-    return {"from": fault["from"], "to": fault["to"], "lanes": fault["lanes"], "fault": 0,
-            "chosen": None, "top": 0, "few": True, "width": width, "height": 500, **changed}
+def view(drawing, width, fault=0, **changed):
+    """The view that a fault of a drawing opens with, or without one the whole."""
+    columns, fault = page_of.columns_of(drawing), fault if drawing.faults else None
+    shown = columns if fault is None else columns["faults"][fault]
+    lanes = [*range(len(drawing.lanes))] if fault is None else shown["lanes"]
+    return {"from": shown["from"], "to": shown["to"], "lanes": lanes, "fault": fault,
+            "few": fault is not None, "chosen": None, "top": 0, "width": width, "height": 500,
+            **changed}
 
 
 def shape_line(shape):
@@ -53,6 +57,7 @@ SHOWN = {"scene": re.compile(r"(?!text tick (?!first)|.*v4$)"),
          "near": re.compile(r"text version|path (path|arrow)|text label on-path")}
 # What needs no sign: names, words of calls and ticks, the edges of lanes, and what is behind all.
 PLAIN = {"name", "show", "tick", "first", "lane", "ground", "unfold", "turn0"}
+WIDTHS = (400, 1200)
 # Two reports that made one position.
 CLASH = "0 0 0 report 200 raised pos 1\n0 1 0 report 300 raised pos 1\nClash 1"
 LOG, RUN, ALL_FAULTS = (HAND[it][1] for it in ("a log", "a run", "each fault of a log"))
@@ -120,23 +125,56 @@ def scenes(_program):
     known = PLAIN.union(*map(str.split, known))
     unknown = {look for it in shapes for look in it["class"].split()} - known
     yield "the key has what is drawn", differing("it lacks", unknown, set())
-    yield from [*marked(drawn(CLASH)), *marked(ALL_FAULTS)]
-
-
-def marked(drawing):
-    """Each call of a fault is marked where it is looked at, and those of all in the overview."""
-    columns, count = page_of.columns_of(drawing), len(drawing.faults)
-    whole = {"lanes": [*range(len(drawing.lanes))], "few": False, "height": 5_000,
-             "from": columns["from"], "to": columns["to"]}
-    views = [view(drawing, 900, fault=at, **whole) for at in range(count)]
-    asked = [*(["scene", it] for it in views), ["overview", views[0], 44]]
-    (*found, overview), _ = scenes_of(drawing, asked)
-    for fault, scene in zip(drawing.faults, found):
-        faulty = [it["call"] for it in scene["shapes"] if "faulty" in it["class"].split()]
-        yield f"calls at {fault.said}", differing("calls", sorted(faulty), sorted(fault.faulty))
-    wanted = len({drawing.bars[it].left for fault in drawing.faults for it in fault.faulty})
+    overview = scenes_of(ALL_FAULTS, [["overview", view(ALL_FAULTS, 900), 44]])[0][0]
     marks = sum(it["d"].count("M") for it in overview if it["class"] == "mark")
-    yield f"marks of {count} faults", differing("marks", marks, wanted)
+    yield "marks of faults at lines 2 to 6", differing("marks", marks, 5)
+
+
+def crowds():
+    """Logs whose last call is a stale read: of one client of many with long names, large versions
+    and times, of one that knew it by itself, and of one that did something else meanwhile, so that
+    two labels stand between its rows.
+    """
+    worker = lambda client, kind, version, began: {
+        "client": f"worker {client} of a rather long name", kind: 10**15 + version,
+        "began": 10**15 + began, "ended": 10**15 + began + 4}
+    yield [*(worker(at, "commit", at, 9 * at) for at in range(60)), worker(40, "read", 0, 600)]
+    yield [worker(0, "commit", 9, 10), worker(0, "read", 0, 15)]
+    yield [{"client": "a", "commit": 120, "began": 10, "ended": 20},
+           {"client": "b", "read": 120, "began": 30, "ended": 50},
+           {"client": "b", "read": 110, "began": 35, "ended": 45}]
+
+
+def meeting(scene, width):
+    """Texts of a scene that run into one another or over its edges, of letters of a wide font."""
+    boxes = []
+    for it in (it for it in scene["shapes"] if it["tag"] == "text"):
+        size = len(it["text"]) * (8.4 if re.search("on-path|version", it["class"]) else 7.7)
+        left = it["x"] - size / 2 * bool(re.match("label|tick $", it["class"]))
+        boxes.append((it["text"], it["y"], left, left + size))
+    yield from (it for it in boxes if it[2] < -1 or it[3] > width + 1)
+    for (one, y, *ends), (two, at, *its) in itertools.combinations(boxes, 2):
+        if abs(at - y) < 9 and ends[0] < its[1] and its[0] < ends[1]:
+            yield one, two
+
+
+def readable(_program):
+    """In views of each fault, narrow and wide, its calls are marked, and all texts can be read."""
+    shown = {name: drawn(text) for name, text in texts() if name.startswith("examples/")}
+    shown |= {name: drawing for name, (_text, drawing, _parts) in HAND.items()} | dict(logs())
+    crowded = ("\n".join(map(json.dumps, it)) for it in crowds())
+    shown |= {f"crowd {at}": logged(text) for at, text in enumerate(crowded)}
+    shown["two reports that made one position"] = drawn(CLASH)
+    for name, drawing in shown.items() if NODE else ():
+        faults = [(it.title, it.faulty) for it in drawing.faults] or [("no fault", [])]
+        views = [view(drawing, width, at) for at in range(len(faults)) for width in WIDTHS]
+        answers, _ = scenes_of(drawing, [["scene", it] for it in views])
+        for at, (seen, scene) in enumerate(zip(views, answers)):
+            (title, faulty), wrong = faults[at // len(WIDTHS)], [*meeting(scene, seen["width"])]
+            marked = [it["call"] for it in scene["shapes"] if "faulty" in it["class"].split()]
+            fault = differing("calls", sorted(marked), sorted(faulty))
+            yield f"{name}, {title}", fault or (f"{wrong} meet" if wrong else None)
+    yield "those that node is asked of", None
 
 
 # ---- the largest log
@@ -164,11 +202,7 @@ def large(_program):
     took = resource.getrusage(resource.RUSAGE_SELF).ru_utime - before
     is_right = len(drawing.bars) == CALLS and took < SECONDS and len(written) < BYTES
     yield "its page", None if is_right else f"{took:.1f} seconds, {len(written)} bytes"
-    if BROWSER:
-        answer, fault = answered(at_once(written, OPENED))
-        slow = answer and max(answer) > OPENS
-        yield "how long it takes to open", fault or (f"{answer} s" if slow else None)
-    whole = {"from": 0, "to": 10 * CALLS, "lanes": [*range(200)], "fault": None, "few": False}
+    whole = {"from": 0, "to": 10 * CALLS, "lanes": [*range(200)], "fault": None}
     views = [view(drawing, 1000, **it) for it in ({}, whole, {**whole, "from": 5_000, "to": 9_000})]
     answers, took = scenes_of(drawing, [["scene", it] for it in views]) if NODE else ([], 0)
     yield "how long its views take", None if took < OPENS else f"{took:.1f} seconds"
@@ -198,7 +232,8 @@ function state() {
   return {
     calls: bars.map((it) => it.dataset.call).sort().join(""), path: all("#picture .path").length,
     faulty: all("#picture .faulty").map((it) => it.dataset.call).join(""),
-    seen: bars.every((it) => place(it).height > 0),
+    seen: bars.every((it) => place(it).height > 0) &&
+      document.documentElement.scrollWidth <= innerWidth,
     buttons: all("button:not(#all)").map((it) => [it.textContent, place(it).left, place(it).top]),
     said: ["why", "words"].map((id) => (at(id) || {}).textContent),
     key: all(".key li").filter((it) => it.offsetHeight).map((it) => it.textContent.trim()),
@@ -225,17 +260,11 @@ STEPS = (
 )
 # Signs that the page opens with, and one that a choice brings.
 AT_FIRST, CHOSEN = {"call at fault", "overview: a fault"}, ("call that is chosen", 3)
-# Seconds until a page is drawn, and those that it takes to draw all clients and all of the axis.
-OPENED = """<script>
-const opened = performance.now() / 1000;
-document.getElementById("all").click();
-document.getElementById("whole").click();
-answer([opened, performance.now() / 1000 - opened]);
-</script>"""
 
 
-def answered(page):
-    """What a page in a browser answers, or what it said in place of that."""
+def answered(page, behind):
+    """What a script behind a page answers, or what the browser said in place of that."""
+    page = page.replace("<body>", AT_ONCE).replace("</body>", f"{behind}</body>")
     with tempfile.TemporaryDirectory() as folder:
         with open(f"{folder}/page.html", "w", encoding="utf-8") as it:
             it.write(page)
@@ -250,23 +279,14 @@ def answered(page):
     return None, f"it did not end: {ran.err[-300:]!r}"
 
 
-def at_once(page, behind=""):
-    """A page that is drawn at once, with a script behind it."""
-    return page.replace("<body>", AT_ONCE).replace("</body>", f"{behind}</body>")
-
-
-def without_browser():
-    print("(no browser here: no page is opened) ", end="")
-    return [("without a browser", None)]
-
-
 def browsed(_program):
     """A page in a browser: what it opens with, and what keys and clicks make of it."""
     if not BROWSER:
-        yield from without_browser()
+        print("(no browser here: no page is opened) ", end="")
+        yield "without a browser", None
         return
     driver = DRIVER.replace("STEPS", json.dumps([it[0] for it in STEPS]))
-    answer, fault = answered(at_once(page_of.page(ALL_FAULTS), driver))
+    answer, fault = answered(page_of.page(ALL_FAULTS), driver)
     yield "the page", fault
     for at, (found, (do, *wanted, why, words)) in enumerate(zip(answer or [], STEPS)):
         states = [found[it] for it in ("calls", "path", "faulty", "seen", "buttons", "errors")]
@@ -279,77 +299,3 @@ def browsed(_program):
         (sign, step), key = CHOSEN, answer[0]["key"]
         is_right = AT_FIRST <= {*key} and sign not in key and sign in answer[step]["key"]
         yield "its key, and what unfolds", None if is_right and answer[0]["isLink"] else f"{key}"
-
-
-# Pages side by side in frames, and what is wrong with how each looks: what goes over its edges,
-# texts that run into one another, signs of the key that run into their words, a fault that goes out
-# of sight where all is unfolded, and what is still folded on paper.
-WIDTHS, HEIGHT = (400, 1200), 800
-BESIDE = """<script>
-const boxOf = (it) => it.getBoundingClientRect();
-const meet = (one, two) => one.left < two.right && two.left < one.right &&
-  one.top + 3 < two.bottom && two.top + 3 < one.bottom;
-function faultOf(frame) {
-  const { document, errors } = frame.contentWindow, wrong = [...errors];
-  const all = (what) => [...document.querySelectorAll(what)];
-  if (document.documentElement.scrollWidth > frame.clientWidth) wrong.push("it is too wide");
-  const edge = boxOf(document.getElementById("picture"));
-  const texts = all("#picture text").map((it) => [it.textContent, boxOf(it)]);
-  texts.forEach(([text, box], at) => {
-    if (box.left < edge.left - 1 || box.right > edge.right + 1) wrong.push(`${text} is cut`);
-    texts.slice(0, at).forEach(([other, its]) => {
-      if (meet(its, box)) wrong.push(`${other} and ${text} meet`);
-    });
-  });
-  all(".key li:not([hidden])").forEach((it) => {
-    const words = document.createRange(), signs = [...it.querySelectorAll("svg, svg *")];
-    words.selectNodeContents(it.lastChild);
-    const right = Math.max(...signs.map((sign) => boxOf(sign).right));
-    if (boxOf(words).left < right + 1) wrong.push(`the sign of ${it.textContent} meets it`);
-  });
-  frame.contentWindow.dispatchEvent(new Event("beforeprint"));
-  if (all("details").some((it) => !it.open)) wrong.push("something is folded on paper");
-  const faulty = () => all("#picture .faulty").map(boxOf), count = faulty().length;
-  document.getElementById("all").click();
-  const seen = boxOf(document.getElementById("figure"));
-  const kept = faulty().filter((it) => it.top >= seen.top && it.bottom <= seen.bottom);
-  if (kept.length < count) wrong.push("its fault is out of sight");
-  return wrong[0] || null;
-}
-onload = () => answer([...document.querySelectorAll("iframe")].map(faultOf));
-</script>"""
-
-
-def crowds():
-    """Logs whose last call is a stale read: of one client of many with long names, large versions
-    and times, of one that knew it by itself, and of one that did something else meanwhile, so that
-    two labels stand between its rows.
-    """
-    worker = lambda client, kind, version, began: {
-        "client": f"worker {client} of a rather long name", kind: 10**15 + version,
-        "began": 10**15 + began, "ended": 10**15 + began + 4}
-    yield [*(worker(at, "commit", at, 9 * at) for at in range(60)), worker(40, "read", 0, 600)]
-    yield [worker(0, "commit", 9, 10), worker(0, "read", 0, 15)]
-    yield [{"client": "a", "commit": 120, "began": 10, "ended": 20},
-           {"client": "b", "read": 120, "began": 30, "ended": 50},
-           {"client": "b", "read": 110, "began": 35, "ended": 45}]
-
-
-def looks(_program):
-    """Pages in a browser, narrow and wide: all of their texts can be read."""
-    if not BROWSER:
-        yield from without_browser()
-        return
-    shown = {name: drawn(text) for name, text in texts() if name.startswith("examples/")}
-    shown |= {name: drawing for name, (_text, drawing, _parts) in HAND.items()} | dict(logs())
-    shown |= {f"fault {at} of a log": ALL_FAULTS._replace(faults=[it])
-              for at, it in enumerate(ALL_FAULTS.faults)}
-    crowded = ("\n".join(map(json.dumps, it)) for it in crowds())
-    shown |= {f"crowd {at}": logged(text) for at, text in enumerate(crowded)}
-    pages = {f"{name} at {width}": (width, html.escape(at_once(page_of.page(it))))
-             for name, it in shown.items() for width in WIDTHS}
-    frame = f'<iframe width="{{}}" height="{HEIGHT}" srcdoc="{{}}"></iframe>'.format
-    frames = "".join(frame(*it) for it in pages.values())
-    found, fault = answered(f"<!doctype html>{AT_ONCE}{frames}{BESIDE}</body>")
-    yield "the frames", fault
-    yield from zip(pages, found or [])

@@ -3,13 +3,12 @@
 Values that were worked out by hand stand in pictures.txt. What the page's code makes of a drawing
 is looked at by browsed.py.
 """
-import importlib.machinery
-import importlib.util
 import json
 import os
 import re
 import sys
 import tempfile
+import types
 from html.parser import HTMLParser
 
 import judging
@@ -26,16 +25,10 @@ import log_drawing
 import run_drawing
 from run_text import Text
 
-
-def loaded(name, path):
-    """A module whose file has no ending."""
-    loader = importlib.machinery.SourceFileLoader(name, path)
-    module = importlib.util.module_from_spec(importlib.util.spec_from_loader(name, loader))
-    loader.exec_module(module)
-    return module
-
-
-page_of = loaded("picture_page", PICTURE)
+# (a module whose file has no ending)
+page_of = types.ModuleType("picture_page")
+page_of.__file__ = PICTURE
+exec(compile(read(PICTURE), PICTURE, "exec"), vars(page_of))
 # What of a page could ask for another file.
 OUTSIDE = re.compile(r"https?:|\bsrc=|@import|<link|url\((?!#)|href=\"(?!#)|\bfetch\(|import\(")
 # How many random logs are drawn, and how many runs with a read that is put back.
@@ -276,7 +269,6 @@ def stands(drawing, bar):
 # whole path, as client and place in its log.
 FAULTS = {
     "fdb_replay: audit fault: Wrong 1 1": ("1-1", "0-2 1-1"),
-    "fault: Wrong 1 1": ("1-1", "0-2 1-1"),
     "Order 1 1": ("1-1", "0-2 0-3 1-0 1-1"),
     "Order 0 2": ("0-2", "0-2"),
     "Clash 1": ("0-2", "0-2"),

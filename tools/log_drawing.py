@@ -343,7 +343,8 @@ class LogDrawing:
         by_key = BY_KEY.format(" and ".join(self.said.members)) if self.said.by_key else ""
         if not self.has_times:
             return [f"{AS_LOGGED} {by_key}" if by_key else BY_KNOWN, *of_log]
-        knew = [KNEW] * any(it.known is not None for it in self.said.faults)
+        is_known = any(it.known is not None for it in self.said.faults)
+        knew = [KNEW] * (is_known and not self.said.by_key)
         by_time = " ".join([TIME, by_key or rising, OWN, *knew])
         return [*[MARGIN.format(margin)] * bool(self.said.margin), by_time, *of_log]
 
