@@ -32,6 +32,7 @@ class Line(NamedTuple):
     began: Optional[int] = None
     ended: Optional[int] = None
     key: Optional[str] = None
+    said: dict = {}
 
 
 def refusal(number, why):
@@ -83,7 +84,7 @@ def line_of(text, names, has_times, member=None):
         raise Refused("SomeTimes")
     wrong_if(began is not None and kind == "learn", "learn")
     wrong_if(began is None and client is None, "client")
-    return Line(client, kind, value, began, ended, key)
+    return Line(client, kind, value, began, ended, key, said)
 
 
 def times_of(said):

@@ -24,11 +24,12 @@ UNPRINTABLE = re.compile("[\x7f-\x9f\u061c\u200e\u200f\u2028-\u202e\u2066-\u2069
 
 class Options(NamedTuple):
     """What is asked for: START, where the log has all calls; how far clocks may be apart; by which
-    member each key is judged by itself; and what is written, and how."""
+    member each key is judged by itself; which are shown; and what is written, and how."""
 
     complete: Optional[int] = None
     margin: int = 0
     key: Optional[str] = None
+    show: tuple = ()
     all: bool = False
     totals: bool = False
     json: bool = False
@@ -63,8 +64,7 @@ class Case:
         self.at = range(len(lines)) if at is None else at
         lines = [lines[it] for it in self.at]
         self.lines, self.margin = lines, options.margin
-        self.member = None if options.key is None else "key"
-        self.json = options.json
+        self.options, self.json = options, options.json
         self.is_complete, self.start = options.complete is not None, options.complete or 0
         self.has_times = bool(lines) and lines[0].began is not None
         self.places = range(len(lines))
@@ -210,7 +210,8 @@ class Case:
         return f"line {self.at[j] + 1}"
 
     def beside(self, line):
-        return "" if line.key is None else f" {printed(self.member)}:{printed(line.key)}"
+        texts = texts_beside(line, self.options)
+        return "".join(f" {printed(name)}:{it}" for name, it in texts if it is not None)
 
     def mention(self, j):
         line = self.lines[j]
@@ -261,7 +262,9 @@ class Case:
         said |= {"client": line.client} if line.client is not None else {}
         said |= {line.kind: line.value}
         said |= {"began": line.began, "ended": line.ended} if self.has_times else {}
-        return said | ({"members": {self.member: line.key}} if self.member is not None else {})
+        texts = texts_beside(line, self.options)
+        members = {name: None if it is None else json.loads(it) for name, it in texts}
+        return said | ({"members": members} if members else {})
 
     def fault_object(self, fault, k, reason):
         late, by = self.late(fault, k), reason.by
@@ -318,12 +321,12 @@ class Case:
         """The line of a turn, which is others' where k is None."""
         if self.json:
             at = None if k is None else self.line_object(k)
-            key = {} if self.member is None else {"key": self.lines[0].key}
+            key = {} if self.options.key is None else {"key": self.lines[0].key}
             return printed({"history": number, what: version, "at": at, **key, "shared": is_shared})
         if k is None:
-            has_none = self.member is not None and self.lines[0].key is None
-            whose = f"others{self.beside(self.lines[0])}"
-            whose += f" no {printed(self.member)}" if has_none else ""
+            name, key = self.options.key, self.lines[0].key
+            named = f" no {printed(name)}" if key is None else f" {printed(name)}:{printed(key)}"
+            whose = "others" + (named if name is not None else "")
         else:
             line = self.lines[k]
             client = "" if line.client is None else f" {name_of(line)}"
@@ -370,43 +373,58 @@ class Log:
         asked, counts = self.options, self.counts()
         if not asked.json:
             return f"audit total {worded(counts)}"
-        members = [] if asked.key is None else ["key"]
+        members = [name for name, _ in texts_beside(self.lines[0], asked)]
         return printed({"total": counts, "arguments": {
-            "complete": asked.complete, "margin": asked.margin, "by_key": bool(members),
+            "complete": asked.complete, "margin": asked.margin, "by_key": asked.key is not None,
             "members": members}})
 
     def totals(self):
         """How much was judged, and the faults there are, in all and of the groups with most."""
         if not self.options.totals:
             return []
-        found, keys = self.faults(), [] if self.options.key is None else ["key"]
+        found = self.faults()
         counts = tally([fault for _case, fault, _k in found])
         said = printed(counts) if self.options.json else f"audit total {worded(counts)}"
-        groups = (self.most(member, found) for member in ["client", *keys])
+        groups = (self.most(at, found) for at in range(len(owners_of(self.lines[0], self.options))))
         return [self.total(), said, *(line for lines in groups for line in lines)]
 
-    def most(self, member, found):
-        """A line for each of the ten clients, or keys, with most faults, by how many."""
-        numbers = {it: at for at, it in enumerate(dict.fromkeys(
-            [None, *(getattr(line, member) for line in self.lines)]))}
+    def most(self, at, found):
+        """A line for each of the ten clients, keys or shown texts with most faults, by how many."""
+        owner = lambda line: owners_of(line, self.options)[at]
+        first = [(it[0], None) for it in [owner(self.lines[0])]]
+        numbers = {it: at for at, it in enumerate(dict.fromkeys([*first, *map(owner, self.lines)]))}
         of = defaultdict(list)
         for case, fault, k in found:
-            of[getattr(case.lines[k], member)].append(fault)
+            of[owner(case.lines[k])].append(fault)
         ranked = sorted(of, key=lambda it: (-len(of[it]), numbers[it]))
-        return [self.group(member, it, tally(of[it])) for it in ranked[:MOST]]
+        return [self.group(*it, tally(of[it])) for it in ranked[:MOST]]
 
     def group(self, member, text, counts):
-        """The line of a client, or of a key, or of those without."""
+        """The line of a client (of no member), or of a text, or of those without."""
         if self.options.json:
-            named = {member: text}
-            return printed({**(named if member == "client" else {"members": named}), **counts})
-        name, parting = ("client", " ") if member == "client" else (printed(member), ":")
-        whose = f"no {name}" if text is None else f"{name}{parting}{printed(text)}"
+            named = {member or "client": None if text is None else json.loads(text)}
+            return printed({**({"members": named} if member is not None else named), **counts})
+        name, parting = ("client", " ") if member is None else (printed(member), ":")
+        whose = f"no {name}" if text is None else f"{name}{parting}{text}"
         return f"audit total {whose} {worded(counts)}"
 
     def listed(self):
         """The faults that are listed."""
         return self.faults()[: None if self.options.all else not self.options.totals]
+
+
+def texts_beside(line, options):
+    """The members that are printed beside a line: its key, and what is shown, or None."""
+    key = [] if options.key is None else [(options.key, line.key)]
+    texts = [(name, None if it is None else printed(it)) for name, it in key]
+    return texts + [(it, printed(line.said[it]) if it in line.said else None)
+                    for it in options.show]
+
+
+def owners_of(line, options):
+    """What faults are grouped by: the client, by no member, and each member beside a line."""
+    client = None if line.client is None else printed(line.client)
+    return [(None, client), *texts_beside(line, options)]
 
 
 def tally(faults):
@@ -446,6 +464,8 @@ def options_of(words):
             found[word[2:]] = int(next(words))
         elif word == "--key":
             found["key"] = next(words)
+        elif word == "--show":
+            found["show"] = tuple(next(words).split(","))
         elif word.startswith("--"):
             found[word[2:]] = True
     is_short, is_json = found.pop("summary", False), found.get("json", False)

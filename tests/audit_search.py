@@ -129,6 +129,8 @@ def random_lines(dice):
             line |= {"began": began, "ended": None if unknown else ended}
         if dice.random() < keyed:
             line["key"] = dice.choice((1, "1", "x\u2028", "y"))
+        if dice.random() < 0.3:
+            line["note"] = dice.choice((None, True, 1, "1", [], [{"a": "\u202e\n"}]))
         lines.append(line)
     if has_times and dice.random() < 0.5:
         dice.shuffle(lines)
@@ -145,6 +147,7 @@ def text_of(lines, dice=None):
 def random_words(dice):
     """Arguments without those that only say what is printed, and without a file."""
     words = ["--key", dice.choice(("key", "client"))] if dice.random() < 0.3 else []
+    words += ["--show", dice.choice(("note", "read,note"))] * (dice.random() < 0.3)
     if dice.random() < 0.5:
         words += ["--complete", str(dice.choice((0, 0, 1, 2)))]
     if dice.random() < 0.5:
