@@ -1,5 +1,5 @@
 -- A line in the usual form is read as the value that its members tell.
-use Rattle.std.proofs.Common.{◌≡◌, ℕ, ◌<◌, ◌≤◌, true, false, List, [], ◌∷◌, ◌++◌, Some, None, Option, Result, Ok, Err, option_map, option_and_then, is_some, decimal, length, nat_le, nat_lt, ◌==◌, if◌then◌else◌, refl, sym, ap, ap₂, map, ◌∙◌, arith, append_assoc, append-nil}
+use Rattle.std.proofs.Common.{◌≡◌, ℕ, ◌<◌, ◌≤◌, true, false, List, [], ◌∷◌, ◌++◌, Some, None, Option, IfSome, MatchResult, OnOk, ◌⊎◌, Result, Ok, Err, option_map, option_and_then, decimal, length, nat_le, nat_lt, ◌==◌, if◌then◌else◌, refl, subst, sym, ap, ap₂, map, ◌∙◌, arith, append_assoc, append-nil}
 use Rattle.std.proofs.lemmas.Slice.Eq.{bytes_eq-Decides}
 use Rattle.std.proofs.lemmas.Bool.{false≢true}
 use Rattle.std.proofs.lemmas.Bool.Decides.{nat_tests}
@@ -17,9 +17,10 @@ use Rattle.serde_json.specs.Find.{get, get_member}
 use Rattle.serde_json.specs.Read.{max_depth, of_json, of_members, read}
 use Rattle.serde_json.proofs.Numbers.{number_of-decimal}
 use Rattle.serde_json.proofs.Views.{get_member-put, get_member-put_other}
-use Rattle.fdb_log_reader.specs.declared.error.Why.TheVariants.{TooLong, TooMany}
+use Rattle.fdb_log_reader.specs.declared.error.Why.TheVariants.{BadMember, Memory, TooLong, TooMany}
 use Rattle.fdb_log_reader.specs.declared.error.Why.{Why}
 use Rattle.fdb_lines.specs.declared.line.Call.{Call}
+use Rattle.fdb_lines.specs.Lines.{is_learn, kind_of}
 use Rattle.fdb_log_reader.specs.declared.member.Member.{Member}
 use Rattle.fdb_log_reader.specs.declared.member.Member.TheVariants.{Client, Read, Commit, Ask, Report, Learn, Began, Ended}
 use Rattle.fdb_log_reader.specs.declared.usual.Told.{Told}
@@ -28,12 +29,13 @@ use Rattle.fdb_log_reader.specs.declared.usual.Usual.{Usual}
 use Rattle.fdb_lines.specs.declared.log.TheConstants.{MAX_LINES}
 use Rattle.fdb_log_reader.specs.declared.reader.TheConstants.{MAX_LINE_BYTES}
 use Rattle.fdb_log_reader.specs.Members.{and_then, call_of, client_of, name_of, times_of}
-use Rattle.fdb_log_reader.specs.Columns.{KeyColumn, ShownColumn, all_shown, column_of, keyed, shown_of}
-use Rattle.fdb_log_reader.specs.declared.keys.Keys.{Keys}
+use Rattle.fdb_log_reader.specs.Columns.{KeyColumn, ShownColumn, all_shown, key_in, keyed, shown_of, with_key}
 use Rattle.fdb_log_reader.specs.declared.shown.Shown.{Shown}
 use Rattle.fdb_log_reader.specs.Numbers.{client_in, with_client}
-use Rattle.fdb_log_reader.specs.Reading.{Reading, or_not_json, pushed, value_of, with_line, with_said, with_value}
-use Rattle.fdb_log_reader.specs.private.Usual.{IsReadAs, IsSmall, Reads, Says, StandsFor, says_of, told_data, told_json, told_text, with_told}
+use Rattle.fdb_log_reader.specs.Reading.{Reading, or_not_json, pushed, reading_of, value_of, with_line, with_said, with_value}
+use Rattle.fdb_log_reader.specs.declared.named_log.NamedLog.{NamedLog}
+use Rattle.fdb_log_reader.specs.private.{shows}
+use Rattle.fdb_log_reader.specs.private.Usual.{IsReadAs, IsSmall, IsTold, Reads, Says, SaysFurther, SaysMember, StandsFor, beside_of, says_of, told_data, told_json, told_text, with_told}
 
 told_reads : (told : Told) → IsSmall told → of_json (told_json told) ≡ Some (told_data told)
 told_reads (Number n) small = ap (option_map number) (number_of-decimal n small)
@@ -84,13 +86,23 @@ object_read those all numbers flat is =
 
 -- ---- what members say
 
-put_says : (name : List ℕ) (told : Told) (found : Members) (line next : Usual) → ((m : Member) → get_member (name_of m) found ≡ says_of line m) → Says name told line next
-    → (m : Member) → get_member (name_of m) (put name (told_data told) found) ≡ says_of next m
-put_says name told found line next says more m =
-    elim (bytes_eq name (name_of m)) as (λ b. bytes_eq name (name_of m) ≡ b → get_member (name_of m) (put name (told_data told) found) ≡ (if b then Some (told_data told) else says_of line m)) [
-      | true ↦ λ e. ap (λ q. get_member q (put name (told_data told) found)) (sym ((bytes_eq-Decides name (name_of m)).0 e)) ∙ get_member-put name (told_data told) found
-      | false ↦ λ e. get_member-put_other (name_of m) name (told_data told) found (λ same. false≢true (sym e ∙ (bytes_eq-Decides name (name_of m)).1 (sym same))) ∙ says m
-    ] refl ∙ sym (more m)
+put_said : (name q : List ℕ) (told : Told) (found : Members) (was now : Option Data) → get_member q found ≡ was
+    → now ≡ (if bytes_eq name q then Some (told_data told) else was) → get_member q (put name (told_data told) found) ≡ now
+put_said name q told found was now says more =
+    elim (bytes_eq name q) as (λ b. bytes_eq name q ≡ b → get_member q (put name (told_data told) found) ≡ (if b then Some (told_data told) else was)) [
+      | true ↦ λ e. ap (λ n. get_member n (put name (told_data told) found)) (sym ((bytes_eq-Decides name q).0 e)) ∙ get_member-put name (told_data told) found
+      | false ↦ λ e. get_member-put_other q name (told_data told) found (λ same. false≢true (sym e ∙ (bytes_eq-Decides name q).1 (sym same))) ∙ says
+    ] refl ∙ sym more
+
+put_further : (further : Option (List ℕ)) (name : List ℕ) (told : Told) (found : Members) (line next : Usual) → IfSome further (λ q. get_member q found ≡ beside_of line q)
+    → SaysFurther further name told line next → IfSome further (λ q. get_member q (put name (told_data told) found) ≡ beside_of next q)
+put_further None name told found line next says more = tt
+put_further (Some q) name told found line next says more = put_said name q told found (beside_of line q) (beside_of next q) says more
+
+put_says : (further : Option (List ℕ)) (name : List ℕ) (told : Told) (found : Members) (line next : Usual) → IsTold (λ q. get_member q found) further line
+    → Says further name told line next → IsTold (λ q. get_member q (put name (told_data told) found)) further next
+put_says further name told found line next says more =
+    (λ m. put_said name (name_of m) told found (says_of line m) (says_of next m) (says.0 m) (more.0 m), put_further further name told found line next says.1 more.1)
 
 says_with : (line : Usual) (told : Told) (member m : Member) → says_of (with_told line member told) m ≡ (if bytes_eq (name_of member) (name_of m) then Some (told_data told) else says_of line m)
 says_with line told Client Client = refl
@@ -158,26 +170,60 @@ says_with line told Ended Learn = refl
 says_with line told Ended Began = refl
 says_with line told Ended Ended = refl
 
-pub named : (line : Usual) (name : List ℕ) (told : Told) (member : Member) → name ≡ name_of member → Says name told line (with_told line member told)
+pub named : (line : Usual) (name : List ℕ) (told : Told) (member : Member) → name ≡ name_of member → SaysMember name told line (with_told line member told)
 named line name told member is m = says_with line told member m ∙ ap (λ n. if bytes_eq n (name_of m) then Some (told_data told) else says_of line m) (sym is)
 
-pub unnamed : (line : Usual) (name : List ℕ) (told : Told) → ((m : Member) → bytes_eq name (name_of m) ≡ false) → Says name told line line
+pub unnamed : (line : Usual) (name : List ℕ) (told : Told) → ((m : Member) → bytes_eq name (name_of m) ≡ false) → SaysMember name told line line
 unnamed line name told none m = ap (λ b. if b then Some (told_data told) else says_of line m) (sym (none m))
+
+pub same_further : (line : Usual) (told : Told) (member : Member) → (with_told line member told).further ≡ line.further
+same_further line told Client = refl
+same_further line told Read = refl
+same_further line told Commit = refl
+same_further line told Ask = refl
+same_further line told Report = refl
+same_further line told Learn = refl
+same_further line told Began = refl
+same_further line told Ended = refl
+
+-- what the members say does not change with the further one
+pub same_members : (line : Usual) (further : Option Told) (member : Member) → says_of (record { client = line.client; read = line.read; commit = line.commit; ask = line.ask; report = line.report; learn = line.learn; began = line.began; ended = line.ended; further = further }) member ≡ says_of line member
+same_members line further Client = refl
+same_members line further Read = refl
+same_members line further Commit = refl
+same_members line further Ask = refl
+same_members line further Report = refl
+same_members line further Learn = refl
+same_members line further Began = refl
+same_members line further Ended = refl
+
+pub both : (further : Option (List ℕ)) (name : List ℕ) (told : Told) (line between next : Usual) → SaysMember name told line between → between.further ≡ line.further
+    → SaysFurther further name told between next → ((m : Member) → says_of next m ≡ says_of between m) → Says further name told line next
+both further name told line between next said same more others = (λ m. others m ∙ said m, of_further further more)
+  where
+    of_further : (further : Option (List ℕ)) → SaysFurther further name told between next → SaysFurther further name told line next
+    of_further None more = tt
+    of_further (Some kept) more = more ∙ ap (λ o. if bytes_eq name kept then Some (told_data told) else option_map told_data o) same
 
 -- ---- a member at a time
 
-pub begun : (bytes rest : List ℕ) (line : Usual) → bytes ≡ 123 ∷ rest → ((m : Member) → says_of line m ≡ None) → Reads bytes rest line
-begun bytes rest line is none = record {
+none_further : (further : Option (List ℕ)) (line : Usual) → line.further ≡ None → IfSome further (λ name. None ≡ beside_of line name)
+none_further None line none = tt
+none_further (Some name) line none = sym (ap (option_map told_data) none)
+
+pub begun : (bytes rest : List ℕ) (further : Option (List ℕ)) (line : Usual) → bytes ≡ 123 ∷ rest → ((m : Member) → says_of line m ≡ None) → line.further ≡ None
+    → Reads bytes further rest line
+begun bytes rest further line is none nothing = record {
   found = no_members;
-  says = λ m. sym (none m);
+  says = (λ m. sym (none m), none_further further line nothing);
   goes = λ name said more all numbers flat text of. ap read (is ∙ ap (λ l. 123 ∷ l) text) ∙ object_read (json.member name said more) all numbers flat of;
 }
 
-pub goes_on : (bytes rest after more name : List ℕ) (told : Told) (line next : Usual) → Reads bytes rest line
-    → rest ≡ quoted name ++ 58 ∷ (told_text told ++ after) → IsSmall told → Says name told line next → after ≡ 44 ∷ more → Reads bytes more next
-goes_on bytes rest after more name told line next reads is small says comes = record {
+pub goes_on : (bytes rest after more name : List ℕ) (further : Option (List ℕ)) (told : Told) (line next : Usual) → Reads bytes further rest line
+    → rest ≡ quoted name ++ 58 ∷ (told_text told ++ after) → IsSmall told → Says further name told line next → after ≡ 44 ∷ more → Reads bytes further more next
+goes_on bytes rest after more name further told line next reads is small says comes = record {
   found = put name (told_data told) reads.found;
-  says = put_says name told reads.found line next reads.says says;
+  says = put_says further name told reads.found line next reads.says says;
   goes = λ key said others all numbers flat text of.
       let tail = json.member key said others in
       let spelt : after ≡ print_from true (members_tokens tail) = comes ∙ ap (λ l. 44 ∷ l) text ∙ comma key said others in
@@ -186,24 +232,30 @@ goes_on bytes rest after more name told line next reads is small says comes = re
       (ap (option_and_then (λ d. of_members tail (put name d reads.found))) (told_reads told small) ∙ of);
 }
 
-pub ended : (bytes rest after name : List ℕ) (told : Told) (line next : Usual) → Reads bytes rest line
-    → rest ≡ quoted name ++ 58 ∷ (told_text told ++ after) → IsSmall told → Says name told line next → after ≡ 125 ∷ [] → IsReadAs bytes next
-ended bytes rest after name told line next reads is small says comes =
+pub ended : (bytes rest after name : List ℕ) (further : Option (List ℕ)) (told : Told) (line next : Usual) → Reads bytes further rest line
+    → rest ≡ quoted name ++ 58 ∷ (told_text told ++ after) → IsSmall told → Says further name told line next → after ≡ 125 ∷ [] → IsReadAs bytes further next
+ended bytes rest after name further told line next reads is small says comes =
     let all = put name (told_data told) reads.found in
     let spelt : after ≡ print_from true (members_tokens json.no_members) = comes ∙ closed in (
       object all,
       reads.goes name (told_json told) json.no_members all (told_number told small, tt) (omega (arith, told_depth told))
           (is ∙ ap (λ l. quoted name ++ 58 ∷ (told_text told ++ l)) spelt ∙ sym (member_text name told json.no_members))
           (ap (option_and_then (λ d. of_members json.no_members (put name d reads.found))) (told_reads told small)),
-      put_says name told reads.found line next reads.says says,
+      put_says further name told reads.found line next reads.says says,
     )
 
 -- ---- the whole line
 
--- where no keys are kept, what further members say is not read
-beside_nothing : (reading : Reading) (says : Member → Option Data) (beside : List ℕ → Option Data) → reading.keys ≡ None → reading.shown ≡ []
-    → with_said reading says beside ≡ with_said reading says (λ _. None)
-beside_nothing reading says beside none hidden =
+-- of what members say beside those with a name of their own, just that is read which has the key
+keyed_same : (keys : Option KeyColumn) (call : Call) (beside said : List ℕ → Option Data) → IfSome (option_map (λ column. column.member) keys) (λ name. beside name ≡ said name)
+    → keyed keys call beside ≡ keyed keys call said
+keyed_same None call beside said same = refl
+keyed_same (Some column) call beside said same =
+    ap (λ (key : Option Data). if is_learn (kind_of call) then Err (BadMember Learn) else and_then (key_in key) (λ key. Ok (Some (with_key column key)))) same
+
+beside_same : (reading : Reading) (says : Member → Option Data) (beside said : List ℕ → Option Data) → IfSome (option_map (λ column. column.member) reading.keys) (λ name. beside name ≡ said name)
+    → reading.shown ≡ [] → with_said reading says beside ≡ with_said reading says said
+beside_same reading says beside said same hidden =
     ap₂ (λ (keys_with : Call → Result (Option KeyColumn) Why) (shown : List ShownColumn).
     and_then (client_of says) (λ client.
     and_then (call_of reading.names says) (λ call.
@@ -212,31 +264,39 @@ beside_nothing reading says beside none hidden =
     let names = with_client reading.names client in
     and_then (pushed reading.log (record { client = client_in names client; call = call; times = times })) (λ log.
     Ok (record { log = log; names = names; keys = keys; shown = shown })))))))
-    (λ i call. (ap (λ keys. keyed keys call beside) none ∙ sym (ap (λ keys. keyed keys call (λ _. None)) none)) i)
-    (ap (all_shown beside) hidden ∙ sym (ap (all_shown (λ _. None)) hidden))
+    (λ i call. keyed_same reading.keys call beside said same i)
+    (ap (all_shown beside) hidden ∙ sym (ap (all_shown said) hidden))
 
-pub stands : (bytes : List ℕ) (line : Usual) → IsUtf8 bytes → IsReadAs bytes line → StandsFor bytes line
-stands bytes line text is = (
+pub stands : (bytes : List ℕ) (further : Option (List ℕ)) (line : Usual) → IsUtf8 bytes → IsReadAs bytes further line → StandsFor bytes further line
+stands bytes further line text is = (
   is.0,
   ap (λ b. or_not_json (if b then read bytes else None)) (is_utf8-from_IsUtf8 bytes text) ∙ ap or_not_json is.1,
-  λ i m. is.2 m i,
+  (λ i m. is.2.0 m i),
+  is.2.1,
 )
-
-pub none_kept : (keys : Option Keys) → is_some keys ≡ false → option_map column_of keys ≡ None
-none_kept None none = refl
-none_kept (Some keys) none = absurd (false≢true (sym none))
 
 pub none_shown : (shown : List Shown) → (length shown == 0) ≡ true → map shown_of shown ≡ []
 none_shown [] none = refl
 none_shown (one ∷ more) none = absurd (grind (arith, nat_tests))
 
--- what has been read with such a line more, where no keys are kept
-pub with_usual : (reading : Reading) (bytes : List ℕ) (line : Usual) → reading.keys ≡ None → reading.shown ≡ [] → length bytes ≤ MAX_LINE_BYTES → length reading.log.lines < MAX_LINES → StandsFor bytes line
-    → with_line reading bytes ≡ with_said reading (says_of line) (λ _. None)
-with_usual reading bytes line none hidden short few is =
+-- what has been read is all, where nothing is shown
+pub shown_nothing : {T : Type 0} (result : Result T Why) (old new : NamedLog) (read : Result Reading Why) (beside : List ℕ → Option Data) → (reading_of old).shown ≡ []
+    → OnOk result (new.shown ≡ old.shown)
+    → MatchResult result (λ _. read ≡ Ok (shows (all_shown beside (reading_of old).shown) (reading_of new))) (λ why. (why ≡ Memory) ⊎ (read ≡ Err why))
+    → MatchResult result (λ _. read ≡ Ok (reading_of new)) (λ why. (why ≡ Memory) ⊎ (read ≡ Err why))
+shown_nothing (Ok said) old new read beside hidden same is =
+    is ∙ ap (λ columns. Ok (shows columns (reading_of new))) (ap (all_shown beside) hidden ∙ sym (ap (λ shown. map shown_of shown.items) same ∙ hidden))
+shown_nothing (Err why) old new read beside hidden same is = is
+
+-- what has been read with such a line more, where the further member has the keys, and nothing is shown
+pub with_usual : (reading : Reading) (bytes : List ℕ) (further : Option (List ℕ)) (line : Usual) → further ≡ option_map (λ column. column.member) reading.keys → reading.shown ≡ []
+    → length bytes ≤ MAX_LINE_BYTES → length reading.log.lines < MAX_LINES → StandsFor bytes further line
+    → with_line reading bytes ≡ with_said reading (says_of line) (beside_of line)
+with_usual reading bytes further line keyed_by hidden short few is =
     let short_enough : nat_lt MAX_LINE_BYTES (length bytes) ≡ false = grind (arith, nat_tests) in
     let few_enough : nat_le MAX_LINES (length reading.log.lines) ≡ false = grind (arith, nat_tests) in
     ap (λ b. if b then Err TooLong else (if nat_le MAX_LINES (length reading.log.lines) then Err TooMany else and_then (value_of bytes) (with_value reading))) short_enough
     ∙ ap (λ b. if b then Err TooMany else and_then (value_of bytes) (with_value reading)) few_enough
     ∙ ap (λ value. and_then value (with_value reading)) is.1
-    ∙ (ap (λ says. with_said reading says (λ name. get name is.0)) is.2 ∙ beside_nothing reading (says_of line) (λ name. get name is.0) none hidden)
+    ∙ (ap (λ says. with_said reading says (λ name. get name is.0)) is.2
+    ∙ beside_same reading (says_of line) (λ name. get name is.0) (beside_of line) (subst (λ name. IfSome name (λ name. get name is.0 ≡ beside_of line name)) keyed_by is.3) hidden)

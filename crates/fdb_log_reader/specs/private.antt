@@ -10,7 +10,7 @@ use Rattle.fdb_lines.specs.Log.{lines_of}
 use Rattle.fdb_log_reader.specs.declared.named_log.NamedLog.{NamedLog}
 use Rattle.fdb_log_reader.specs.Columns.{HasCells, KeyColumn, ShownColumn, column_of, shown_of}
 use Rattle.fdb_log_reader.specs.Names.{names_of}
-use Rattle.fdb_log_reader.specs.Reading.{is_line_feed}
+use Rattle.fdb_log_reader.specs.Reading.{Reading, is_line_feed}
 
 -- there are no more keys than lines
 abbrev pub HasFewKeys : Option KeyColumn → Lines → Type 0
@@ -20,13 +20,20 @@ HasFewKeys column log = IfSome column (λ column. length column.keys ≤ length 
 abbrev pub HaveCells : ℕ → List ShownColumn → Type 0
 HaveCells lines columns = All (λ column. length column.values ≡ lines) columns
 
--- There are no more names and keys than lines, and each line has its cells.
-abbrev pub HasRoom : NamedLog → Type 0
-HasRoom named =
+-- There are no more names and keys than lines, and each line has a key's cell, where keys are kept.
+abbrev pub HasPlaces : NamedLog → Type 0
+HasPlaces named =
     (length (names_of named.names) ≤ length (lines_of named.log).lines)
     × HasFewKeys (option_map column_of named.keys) (lines_of named.log)
     × HasCells (option_map column_of named.keys) (lines_of named.log)
-    × HaveCells (length (lines_of named.log).lines) (map shown_of named.shown.items)
+
+-- and what is shown has a cell for each line
+abbrev pub HasRoom : NamedLog → Type 0
+HasRoom named = HasPlaces named × HaveCells (length (lines_of named.log).lines) (map shown_of named.shown.items)
+
+-- what has been read, with these columns shown
+abbrev pub shows : List ShownColumn → Reading → Reading
+shows columns reading = record { log = reading.log; names = reading.names; keys = reading.keys; shown = columns }
 
 -- names of which the first are these
 abbrev pub IsMore : List (List ℕ) → List (List ℕ) → Type 0

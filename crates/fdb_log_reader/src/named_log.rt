@@ -1,12 +1,14 @@
 //! A log with the names of its clients, and how a line is added to it.
 
-ghost use Rattle.std.specs.Prelude.{◌≡◌, ◌⊎◌, ◌≤◌, ◌<◌, Err, Ok, IfOk, IfSome, MatchResult, OnOk};
+ghost use Rattle.std.specs.Prelude.{◌≡◌, ◌⊎◌, ◌+◌, ◌≤◌, ◌<◌, Err, Ok, IfOk, IfSome, MatchResult, OnOk};
 ghost use Rattle.std.specs.Prelude.{length, option_map};
-ghost use Rattle.fdb_log_reader.specs.Columns.{column_of, keyed};
+ghost use Rattle.fdb_log_reader.specs.Columns.{all_shown, column_of, keyed};
 ghost use Rattle.fdb_log_reader.specs.Names.{names_of};
 ghost use Rattle.fdb_log_reader.specs.Numbers.{client_in, with_client};
-ghost use Rattle.fdb_log_reader.specs.Reading.{reading_of, with_line, with_said};
-ghost use Rattle.fdb_log_reader.specs.private.{HasRoom, IsFlat};
+ghost use Rattle.fdb_log_reader.specs.Reading.{reading_of, with_line, with_said, with_value};
+ghost use Rattle.fdb_log_reader.specs.private.{HasPlaces, HasRoom, IsFlat, shows};
+ghost use Rattle.serde_json.specs.Find.{get};
+ghost use Rattle.serde_json.specs.View.{view};
 
 use crate::error::Why;
 use crate::keys::Keys;
@@ -20,6 +22,7 @@ use crate::shown::Shown;
 use crate::usual::usual_of;
 use fdb_lines::{Call, Line, Log, MAX_LINES};
 use itoa::Buffer;
+use serde_json::Value;
 use std::alloc::{AllocError, Global};
 
 /// A log, and the names of its clients, as a text has them.
@@ -47,25 +50,55 @@ pub(crate) fn add_line(named: &mut NamedLog, alloc: Global, bytes: &[u8]) -> Res
     if named.log.lines().len() >= MAX_LINES {
         return Err(Why::TooMany);
     }
-    if named.keys.is_none()
-        && named.shown.is_empty()
-        && let Some(line) = usual_of(bytes)
+    if named.shown.is_empty()
+        && let Some(line) = usual_of(bytes, key_member(&named.keys))
     {
         return add_said(named, alloc, &line);
     }
     let value = value_of(alloc, bytes)?;
-    add_said(named, alloc, &value)
+    add_value(named, alloc, &value)
 }
 
-/// Adds a line, by what its members say. After an error the log is not to be read on.
-fn add_said<S: Said>(named: &mut NamedLog, alloc: Global, line: &S) -> Result<(), Why>
+/// The name of the member that has the keys, where they are kept.
+fn key_member(keys: &Option<Keys>) -> Option<&str>
+    ensures { option_map (λ member. member.now) result
+        ≡ option_map (λ column. column.member) (option_map column_of keys.now) }
+{
+    match keys {
+        Some(keys) => Some(keys.member()),
+        None => None,
+    }
+}
+
+/// Adds a line, by its JSON value. After an error the log is not to be read on.
+fn add_value(named: &mut NamedLog, alloc: Global, value: &Value) -> Result<(), Why>
     requires has_room { HasRoom named.old }
     requires few { length (reading_of named.old).log.lines < MAX_LINES }
-    requires flat { IsFlat (S.says_beside line.now) }
+    requires flat { IsFlat (λ name. get name (view value.now)) }
     ensures has_room { OnOk result (HasRoom named.new) }
     ensures read { MatchResult result
+        (λ _. with_value (reading_of named.old) (view value.now) ≡ Ok (reading_of named.new))
+        (λ why. (why ≡ Why.Memory)
+        ⊎ (with_value (reading_of named.old) (view value.now) ≡ Err why)) }
+{
+    add_said(named, alloc, value)?;
+    add_shown(&mut named.shown, alloc, value)?;
+    Ok(())
+}
+
+/// Adds a line, by what its members say, but not what is shown of it. After an error the log is not
+/// to be read on.
+fn add_said<S: Said>(named: &mut NamedLog, alloc: Global, line: &S) -> Result<(), Why>
+    requires has_places { HasPlaces named.old }
+    requires few { length (reading_of named.old).log.lines < MAX_LINES }
+    ensures has_places { OnOk result (HasPlaces named.new) }
+    ensures one { OnOk result (length (reading_of named.new).log.lines
+        ≡ length (reading_of named.old).log.lines + 1) }
+    ensures shown { OnOk result (named.new.shown ≡ named.old.shown) }
+    ensures read { MatchResult result
         (λ _. with_said (reading_of named.old) (S.says line.now) (S.says_beside line.now)
-        ≡ Ok (reading_of named.new))
+        ≡ Ok (shows (all_shown (S.says_beside line.now) (reading_of named.old).shown)
+        (reading_of named.new)))
         (λ why. (why ≡ Why.Memory)
         ⊎ (with_said (reading_of named.old) (S.says line.now) (S.says_beside line.now)
         ≡ Err why)) }
@@ -75,7 +108,6 @@ fn add_said<S: Said>(named: &mut NamedLog, alloc: Global, line: &S) -> Result<()
     let call = call_of(line, &named.names)?;
     let times = times_of(line)?;
     add_key(&mut named.keys, alloc, &call, line)?;
-    add_shown(&mut named.shown, alloc, line)?;
     let client = add_client(&mut named.names, alloc, name)?;
     named.log.push(Line {
         client,

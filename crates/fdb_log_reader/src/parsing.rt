@@ -92,23 +92,25 @@ pub(crate) fn key_in<'a, S: Said>(
         (λ key. key_in (S.says_beside line.now member.now) ≡ Ok (option_map (λ key. key.now) key))
         (λ why. key_in (S.says_beside line.now member.now) ≡ Err why) }
 {
-    let Some(said) = line.further(member) else {
+    if !line.has_beside(member) {
         return Ok(None);
-    };
-    match name_from(said, digits) {
+    }
+    match name_beside(line, member, digits) {
         Some(key) => Ok(Some(key)),
         None => Err(Why::BadKey),
     }
 }
 
-/// The name that a value is: a text, or a whole number, whose digits go to the buffer.
-fn name_from<'a>(said: &'a Value, digits: &'a mut Buffer) -> Option<&'a str>
-    ensures { option_map (λ name. name.now) result ≡ as_name (view said.now) }
+/// A name that a further member says, in the same way.
+#[tactic(auto, using(crate::proofs::Digits::name_said))]
+fn name_beside<'a, S: Said>(line: &'a S, member: &str, digits: &'a mut Buffer) -> Option<&'a str>
+    ensures { option_map (λ name. name.now) result
+        ≡ option_and_then as_name (S.says_beside line.now member.now) }
 {
-    match said.as_str() {
+    match line.text_beside(member) {
         Some(text) => Some(text),
         None => {
-            let number = said.as_u64()?;
+            let number = line.number_beside(member)?;
             Some(digits.format(number))
         }
     }

@@ -35,9 +35,18 @@ pub(crate) trait Said {
     fn is_null(&self, member: Member) -> bool
         ensures { result ≡ is_some (option_and_then as_null (says self.now member)) };
 
-    /// What a further member says, by its name.
-    fn further(&self, name: &str) -> Option<&Value>
-        ensures { option_map (λ value. view value.now) result ≡ says_beside self.now name.now };
+    /// Whether a further member is there, by its name.
+    fn has_beside(&self, name: &str) -> bool
+        ensures { result ≡ is_some (says_beside self.now name.now) };
+
+    /// What a further member says, where that is a whole number below 2^64.
+    fn number_beside(&self, name: &str) -> Option<u64>
+        ensures { result ≡ option_and_then whole (says_beside self.now name.now) };
+
+    /// What a further member says, where that is a text.
+    fn text_beside(&self, name: &str) -> Option<&str>
+        ensures { option_map (λ text. text.now) result
+            ≡ option_and_then as_str (says_beside self.now name.now) };
 }
 
 impl Said for Value {
@@ -64,7 +73,15 @@ impl Said for Value {
         }
     }
 
-    fn further(&self, name: &str) -> Option<&Value> {
-        self.get(name)
+    fn has_beside(&self, name: &str) -> bool {
+        self.get(name).is_some()
+    }
+
+    fn number_beside(&self, name: &str) -> Option<u64> {
+        self.get(name).and_then(Value::as_u64)
+    }
+
+    fn text_beside(&self, name: &str) -> Option<&str> {
+        self.get(name).and_then(Value::as_str)
     }
 }

@@ -3,6 +3,7 @@
 ghost use Rattle.std.specs.Prelude.{◌≡◌, ◌≤◌, ◌<◌, ◌+◌, ℕ, IfOk, IfSome, OnOk, length, map};
 ghost use Rattle.std.specs.Prelude.{option_map, string_bytes};
 ghost use Rattle.serde_json.specs.Data.{depth};
+ghost use Rattle.serde_json.specs.Find.{get};
 ghost use Rattle.serde_json.specs.Read.{max_depth};
 ghost use Rattle.serde_json.specs.View.{view};
 ghost use Rattle.fdb_log_reader.specs.Columns.{all_shown, nothing_shown, shown_of, value_in};
@@ -11,7 +12,6 @@ ghost use Rattle.fdb_log_reader.specs.private.{HaveCells, IsFlat, IsMore};
 ghost use Rattle.fdb_log_reader.specs.private.Texts.{AreJson};
 
 use crate::names::Names;
-use crate::said::Said;
 use crate::shown::Shown;
 use fdb_lines::MAX_LINES;
 use serde_json::Value;
@@ -57,18 +57,18 @@ pub(crate) fn no_columns(alloc: Global, members: &[String]) -> Result<Vec<Shown>
 }
 
 /// Adds what a line says to each column.
-pub(crate) fn add_shown<S: Said>(
+pub(crate) fn add_shown(
     columns: &mut [Shown],
     alloc: Global,
-    line: &S,
+    line: &Value,
 ) -> Result<(), AllocError>
     requires few { (lines : ℕ) × (lines < MAX_LINES) × HaveCells lines (map shown_of columns.old) }
-    requires flat { IsFlat (S.says_beside line.now) }
+    requires flat { IsFlat (λ name. get name (view line.now)) }
     ensures { OnOk result (map shown_of columns.new
-        ≡ all_shown (S.says_beside line.now) (map shown_of columns.old)) }
+        ≡ all_shown (λ name. get name (view line.now)) (map shown_of columns.old)) }
 {
     for column in columns.iter_mut() {
-        let said = line.further(column.member());
+        let said = line.get(column.member());
         column.add(alloc, said)?;
     }
     Ok(())

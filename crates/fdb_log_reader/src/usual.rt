@@ -1,16 +1,16 @@
 //! Lines in the usual form, which are read without a JSON value.
 
-ghost use Rattle.std.specs.Prelude.{◌≡◌, IfSome, Some, None, MatchOption, false};
+ghost use Rattle.std.specs.Prelude.{◌≡◌, IfSome, Some, None, MatchOption, false, option_map};
 ghost use Rattle.std.specs.Str.{bytes_eq};
 ghost use Rattle.fdb_log_reader.specs.Members.{name_of};
-ghost use Rattle.fdb_log_reader.specs.private.Usual.{says_of, told_of, with_told};
+ghost use Rattle.fdb_log_reader.specs.private.Usual.{beside_of, says_of, told_of, with_told};
 ghost use Rattle.fdb_log_reader.specs.private.Usual.{IsBehind, IsReadAs, Says, StandsFor};
+ghost use Rattle.fdb_log_reader.specs.private.Usual.{SaysFurther, SaysMember};
 ghost use Rattle.fdb_log_reader.specs.declared.member.Member.{Member};
 
 use crate::member::Member;
 use crate::said::Said;
 use crate::scanning::{split_member, strip};
-use serde_json::Value;
 
 /// What a member says.
 #[derive(Clone, Copy, Debug)]
@@ -31,12 +31,15 @@ pub(crate) struct Usual<'a> {
     pub(crate) learn: Option<Told<'a>>,
     pub(crate) began: Option<Told<'a>>,
     pub(crate) ended: Option<Told<'a>>,
+    /// What the one further member says that is kept.
+    pub(crate) further: Option<Told<'a>>,
 }
 
 impl<'a> Usual<'a> {
     /// A line that says nothing.
     fn new() -> Self
-        ensures { (m : Member) → says_of result m ≡ None }
+        ensures members { (m : Member) → says_of result m ≡ None }
+        ensures further { result.further ≡ None }
     {
         Usual {
             client: None,
@@ -47,6 +50,7 @@ impl<'a> Usual<'a> {
             learn: None,
             began: None,
             ended: None,
+            further: None,
         }
     }
 
@@ -107,8 +111,8 @@ impl<'a> Usual<'a> {
 impl Said for Usual<'_> {
     ghost says = { says_of };
 
-    // A line is read so only where no further member is kept.
-    ghost says_beside = { λ _ _. None };
+    // Of such a line just one further member is kept, and no other is asked for.
+    ghost says_beside = { beside_of };
 
     fn has(&self, member: Member) -> bool {
         self.told(member).is_some()
@@ -132,18 +136,57 @@ impl Said for Usual<'_> {
         matches!(self.told(member), Some(Told::Null))
     }
 
-    fn further(&self, _name: &str) -> Option<&Value> {
-        None
+    fn has_beside(&self, _name: &str) -> bool {
+        self.further.is_some()
+    }
+
+    fn number_beside(&self, _name: &str) -> Option<u64> {
+        match self.further {
+            Some(Told::Number(number)) => Some(number),
+            _ => None,
+        }
+    }
+
+    fn text_beside(&self, _name: &str) -> Option<&str> {
+        match self.further {
+            Some(Told::Text(text)) => Some(text),
+            _ => None,
+        }
     }
 }
 
-/// Adds what the member of a name says. Other members are ignored.
-#[tactic(auto, using(crate::proofs::UsualForm::named, crate::proofs::UsualForm::unnamed))]
-fn add_told<'a>(line: &mut Usual<'a>, name: &[u8], told: Told<'a>)
-    ensures { Says name.now told.entry line.old line.new }
+/// Adds what the member of a name says. Others are ignored, but for the further one that is kept.
+#[tactic(auto, using(crate::proofs::UsualForm::both))]
+fn add_told<'a>(line: &mut Usual<'a>, name: &[u8], told: Told<'a>, further: Option<&str>)
+    ensures { Says (option_map (λ kept. kept.now) further.entry) name.now told.entry
+        line.old line.new }
+{
+    add_member(line, name, told);
+    add_further(line, name, told, further);
+}
+
+/// The same of the members that have a name of their own.
+#[tactic(auto, using(crate::proofs::UsualForm::named, crate::proofs::UsualForm::unnamed, crate::proofs::UsualForm::same_further))]
+fn add_member<'a>(line: &mut Usual<'a>, name: &[u8], told: Told<'a>)
+    ensures said { SaysMember name.now told.entry line.old line.new }
+    ensures further { line.new.further ≡ line.old.further }
 {
     if let Some(member) = member_named(name) {
         *line = line.with(member, told);
+    }
+}
+
+/// The same of the further member that is kept.
+#[tactic(auto, using(crate::proofs::UsualForm::same_members))]
+fn add_further<'a>(line: &mut Usual<'a>, name: &[u8], told: Told<'a>, further: Option<&str>)
+    ensures said { SaysFurther (option_map (λ kept. kept.now) further.entry) name.now told.entry
+        line.old line.new }
+    ensures others { (m : Member) → says_of line.new m ≡ says_of line.old m }
+{
+    if let Some(kept) = further
+        && kept.as_bytes() == name
+    {
+        line.further = Some(told);
     }
 }
 
@@ -188,13 +231,15 @@ fn what_follows(bytes: &[u8]) -> Behind<'_>
 }
 
 /// What a line says that has the usual form: an object without white space or escapes, whose
-/// members are texts, whole numbers below 2^64 and nulls. None of other lines.
+/// members are texts, whole numbers below 2^64 and nulls. None of other lines. Of further members
+/// it keeps what the one of a name says, if one is given.
 #[tactic(auto, using(crate::proofs::UsualForm::stands))]
-pub(crate) fn usual_of(bytes: &[u8]) -> Option<Usual<'_>>
-    ensures { IfSome result (λ line. StandsFor bytes.now line) }
+pub(crate) fn usual_of<'a>(bytes: &'a [u8], further: Option<&str>) -> Option<Usual<'a>>
+    ensures { IfSome result
+        (λ line. StandsFor bytes.now (option_map (λ kept. kept.now) further.entry) line) }
 {
     if std::str::from_utf8(bytes).is_ok() {
-        usual_in(bytes)
+        usual_in(bytes, further)
     } else {
         None
     }
@@ -202,13 +247,14 @@ pub(crate) fn usual_of(bytes: &[u8]) -> Option<Usual<'_>>
 
 /// The same of bytes that are UTF-8.
 #[tactic(auto, using(crate::proofs::UsualForm::begun, crate::proofs::UsualForm::goes_on))]
-fn usual_in(bytes: &[u8]) -> Option<Usual<'_>>
-    ensures { IfSome result (λ line. IsReadAs bytes.now line) }
+fn usual_in<'a>(bytes: &'a [u8], further: Option<&str>) -> Option<Usual<'a>>
+    ensures { IfSome result
+        (λ line. IsReadAs bytes.now (option_map (λ kept. kept.now) further.entry) line) }
 {
     let mut rest = strip(bytes, b'{')?;
     let mut line = Usual::new();
     'members: while let Some((name, told, after)) = split_member(rest) {
-        add_told(&mut line, name, told);
+        add_told(&mut line, name, told, further);
         match what_follows(after) {
             Behind::More(more) => rest = more,
             Behind::End => return Some(line),

@@ -1,11 +1,11 @@
 -- Lines in the usual form, and what their members say. (this product's own)
-use Rattle.std.specs.Prelude.{◌≡◌, ℕ, ◌^◌, ◌<◌, ◌≤◌, List, [], ◌∷◌, ⊤, Option, Some, Ok, option_map, decimal, false, if◌then◌else◌}
+use Rattle.std.specs.Prelude.{◌≡◌, ℕ, ◌^◌, ◌<◌, ◌≤◌, List, [], ◌∷◌, ⊤, Option, Some, IfSome, Ok, option_map, decimal, false, if◌then◌else◌}
 use Rattle.std.specs.Str.{bytes_eq}
 use Rattle.json.specs.Json as json
 use Rattle.json.specs.Print.{print_from, quoted}
 use Rattle.json.specs.Tree.{MembersHaveNumbers, members_depth, members_tokens}
 use Rattle.serde_json.specs.Data.{Data, Members, null, number, object, string, unsigned}
-use Rattle.serde_json.specs.Find.{get_member}
+use Rattle.serde_json.specs.Find.{get, get_member}
 use Rattle.serde_json.specs.Read.{of_members, read}
 use Rattle.fdb_log_reader.specs.declared.member.Member.{Member}
 use Rattle.fdb_log_reader.specs.declared.member.Member.TheVariants.{Client, Read, Commit, Ask, Report, Learn, Began, Ended}
@@ -54,30 +54,49 @@ told_of line Ended = line.ended
 abbrev pub says_of : Usual → Member → Option Data
 says_of line member = option_map told_data (told_of line member)
 
+-- what it says beside these: the one further member that is kept, by any name
+abbrev pub beside_of : Usual → List ℕ → Option Data
+beside_of line name = option_map told_data line.further
+
 -- the line, with what a member says
 abbrev pub with_told : Usual → Member → Told → Usual
-with_told line Client told = record { client = Some told; read = line.read; commit = line.commit; ask = line.ask; report = line.report; learn = line.learn; began = line.began; ended = line.ended }
-with_told line Read told = record { client = line.client; read = Some told; commit = line.commit; ask = line.ask; report = line.report; learn = line.learn; began = line.began; ended = line.ended }
-with_told line Commit told = record { client = line.client; read = line.read; commit = Some told; ask = line.ask; report = line.report; learn = line.learn; began = line.began; ended = line.ended }
-with_told line Ask told = record { client = line.client; read = line.read; commit = line.commit; ask = Some told; report = line.report; learn = line.learn; began = line.began; ended = line.ended }
-with_told line Report told = record { client = line.client; read = line.read; commit = line.commit; ask = line.ask; report = Some told; learn = line.learn; began = line.began; ended = line.ended }
-with_told line Learn told = record { client = line.client; read = line.read; commit = line.commit; ask = line.ask; report = line.report; learn = Some told; began = line.began; ended = line.ended }
-with_told line Began told = record { client = line.client; read = line.read; commit = line.commit; ask = line.ask; report = line.report; learn = line.learn; began = Some told; ended = line.ended }
-with_told line Ended told = record { client = line.client; read = line.read; commit = line.commit; ask = line.ask; report = line.report; learn = line.learn; began = line.began; ended = Some told }
+with_told line Client told = record { client = Some told; read = line.read; commit = line.commit; ask = line.ask; report = line.report; learn = line.learn; began = line.began; ended = line.ended; further = line.further }
+with_told line Read told = record { client = line.client; read = Some told; commit = line.commit; ask = line.ask; report = line.report; learn = line.learn; began = line.began; ended = line.ended; further = line.further }
+with_told line Commit told = record { client = line.client; read = line.read; commit = Some told; ask = line.ask; report = line.report; learn = line.learn; began = line.began; ended = line.ended; further = line.further }
+with_told line Ask told = record { client = line.client; read = line.read; commit = line.commit; ask = Some told; report = line.report; learn = line.learn; began = line.began; ended = line.ended; further = line.further }
+with_told line Report told = record { client = line.client; read = line.read; commit = line.commit; ask = line.ask; report = Some told; learn = line.learn; began = line.began; ended = line.ended; further = line.further }
+with_told line Learn told = record { client = line.client; read = line.read; commit = line.commit; ask = line.ask; report = line.report; learn = Some told; began = line.began; ended = line.ended; further = line.further }
+with_told line Began told = record { client = line.client; read = line.read; commit = line.commit; ask = line.ask; report = line.report; learn = line.learn; began = Some told; ended = line.ended; further = line.further }
+with_told line Ended told = record { client = line.client; read = line.read; commit = line.commit; ask = line.ask; report = line.report; learn = line.learn; began = line.began; ended = Some told; further = line.further }
+
+-- what is said by the members' names is what the line says, and so by that of the further one, if one is kept
+abbrev pub IsTold : (List ℕ → Option Data) → Option (List ℕ) → Usual → Type 0
+IsTold said further line =
+    ((member : Member) → said (name_of member) ≡ says_of line member)
+    × IfSome further (λ name. said name ≡ beside_of line name)
 
 -- the bytes are read as a value whose members say what the line's say
-abbrev pub IsReadAs : List ℕ → Usual → Type 0
-IsReadAs bytes line = (value : Data) × (read bytes ≡ Some value) × ((member : Member) → member_of value member ≡ says_of line member)
+abbrev pub IsReadAs : List ℕ → Option (List ℕ) → Usual → Type 0
+IsReadAs bytes further line = (value : Data) × (read bytes ≡ Some value) × IsTold (λ name. get name value) further line
 
 -- what a line says once the member of a name has said this
-abbrev pub Says : List ℕ → Told → Usual → Usual → Type 0
-Says name told line next = (member : Member) → says_of next member ≡ (if bytes_eq name (name_of member) then Some (told_data told) else says_of line member)
+abbrev pub SaysMember : List ℕ → Told → Usual → Usual → Type 0
+SaysMember name told line next = (member : Member) → says_of next member ≡ (if bytes_eq name (name_of member) then Some (told_data told) else says_of line member)
+
+-- and what the further member says that is kept, if one is
+abbrev pub SaysFurther : Option (List ℕ) → List ℕ → Told → Usual → Usual → Type 0
+SaysFurther further name told line next =
+    IfSome further (λ kept. beside_of next kept ≡ (if bytes_eq name kept then Some (told_data told) else beside_of line kept))
+
+-- and both
+abbrev pub Says : Option (List ℕ) → List ℕ → Told → Usual → Usual → Type 0
+Says further name told line next = SaysMember name told line next × SaysFurther further name told line next
 
 -- The bytes are an object of which a line says what the members before `rest` do, if the text of a member and of those
 -- behind it stands there.
-pub record Reads (bytes rest : List ℕ) (line : Usual) : Type 0 where
+pub record Reads (bytes : List ℕ) (further : Option (List ℕ)) (rest : List ℕ) (line : Usual) : Type 0 where
   pub found : Members
-  pub says : (member : Member) → get_member (name_of member) found ≡ says_of line member
+  pub says : IsTold (λ name. get_member name found) further line
   pub goes : (name : List ℕ) (said : json.Json) (more : json.Members) (all : Members) → MembersHaveNumbers (json.member name said more)
       → members_depth (json.member name said more) ≤ 126 → rest ≡ print_from false (members_tokens (json.member name said more))
       → of_members (json.member name said more) found ≡ Some all → read bytes ≡ Some (object all)
@@ -88,6 +107,8 @@ IsBehind bytes (More rest) = bytes ≡ 44 ∷ rest.now
 IsBehind bytes End = bytes ≡ 125 ∷ []
 IsBehind bytes Other = ⊤
 
--- what a line's value says is what the line says
-abbrev pub StandsFor : List ℕ → Usual → Type 0
-StandsFor bytes line = (value : Data) × (value_of bytes ≡ Ok value) × (member_of value ≡ says_of line)
+-- what a line's value says is what the line says, and so of the further member that is kept, if one is
+abbrev pub StandsFor : List ℕ → Option (List ℕ) → Usual → Type 0
+StandsFor bytes further line =
+    (value : Data) × (value_of bytes ≡ Ok value) × (member_of value ≡ says_of line)
+    × IfSome further (λ name. get name value ≡ beside_of line name)
