@@ -64,7 +64,7 @@ def said_by_hand(text, said, faults):
 
     pairs = [[it.split("=") for it in fault.split()] for fault in faults]
     objects = [{name: value(name, word) for name, word in fault} for fault in pairs]
-    total = said.splitlines()[-2]
+    total = next(it for it in said.splitlines() if it.startswith('{"total"'))
     return "\n".join([*map(json.dumps, objects), total, json.dumps({"faults": len(objects)})])
 
 
@@ -410,7 +410,7 @@ CHANGED_VERDICTS = (
     ('"lines":7', '"lines":8', "BadVerdict 2"),
     ('"margin":0', '"margin":"x"', "BadVerdict 2"),
     ('{"faults":1', 'audit ok\n{"faults":1', "BadVerdict 3"),
-    ('{"faults":1', '{"faults":2', "Cut 3"),
+    ('{"faults":1', '{"faults":2', "Cut 4"),
     ('{"faults":1', '{"history":0}\n{"fault_rate":0.5}\n{"more":{},"faults":1', None),
     ('"means":', '"more":[1],"means":', None),
 )

@@ -167,7 +167,8 @@ def said_of(texts, lines):
                 faults.append(fault_of(it, lines))
             if "total" in it:
                 said = arguments_of(lines, it["total"], **it["arguments"])
-            count = it.get("faults", count)
+            if not it.keys() & {"client", "members"}:
+                count = it.get("faults", count)
         except NO_SUCH:
             raise Refused(f"{refused}: {text[:80]!r}") from None
     if said is None or count != len(faults):

@@ -1,7 +1,7 @@
 //! A log with the names of its clients, and how a line is added to it.
 
-ghost use Rattle.std.specs.Prelude.{◌≡◌, ◌⊎◌, ◌+◌, ◌≤◌, ◌<◌, Err, Ok, IfOk, IfSome, MatchResult, OnOk};
-ghost use Rattle.std.specs.Prelude.{length, option_map};
+ghost use Rattle.std.specs.Prelude.{◌≡◌, ◌⊎◌, ◌+◌, ◌≤◌, ◌<◌, Err, Ok, IfOk, IfSome, OnOk};
+ghost use Rattle.std.specs.Prelude.{MatchResult, length, option_map};
 ghost use Rattle.fdb_log_reader.specs.Columns.{all_shown, column_of, keyed};
 ghost use Rattle.fdb_log_reader.specs.Names.{names_of};
 ghost use Rattle.fdb_log_reader.specs.Numbers.{client_in, with_client};
