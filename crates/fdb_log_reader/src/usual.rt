@@ -55,6 +55,8 @@ impl<'a> Usual<'a> {
     }
 
     /// Adds what a member says.
+    // Not inlined: else all that the line says is moved from place to place at each member.
+    #[inline(never)]
     fn add(&mut self, member: Member, told: Told<'a>)
         ensures { self.new ≡ with_told self.old member told.entry }
     {
