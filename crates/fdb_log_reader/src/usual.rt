@@ -54,38 +54,22 @@ impl<'a> Usual<'a> {
         }
     }
 
-    /// The line, with what a member says.
-    fn with(self, member: Member, told: Told<'a>) -> Self
-        ensures { result ≡ with_told self.entry member told.entry }
+    /// Adds what a member says.
+    // Not inlined: else all that the line says is moved from place to place at each member.
+    #[inline(never)]
+    fn add(&mut self, member: Member, told: Told<'a>)
+        ensures { self.new ≡ with_told self.old member told.entry }
     {
         let told = Some(told);
         match member {
-            Member::Client => Usual {
-                client: told,
-                ..self
-            },
-            Member::Read => Usual { read: told, ..self },
-            Member::Commit => Usual {
-                commit: told,
-                ..self
-            },
-            Member::Ask => Usual { ask: told, ..self },
-            Member::Report => Usual {
-                report: told,
-                ..self
-            },
-            Member::Learn => Usual {
-                learn: told,
-                ..self
-            },
-            Member::Began => Usual {
-                began: told,
-                ..self
-            },
-            Member::Ended => Usual {
-                ended: told,
-                ..self
-            },
+            Member::Client => self.client = told,
+            Member::Read => self.read = told,
+            Member::Commit => self.commit = told,
+            Member::Ask => self.ask = told,
+            Member::Report => self.report = told,
+            Member::Learn => self.learn = told,
+            Member::Began => self.began = told,
+            Member::Ended => self.ended = told,
         }
     }
 }
@@ -172,7 +156,7 @@ fn add_member<'a>(line: &mut Usual<'a>, name: &[u8], told: Told<'a>)
     ensures further { line.new.further ≡ line.old.further }
 {
     if let Some(member) = member_named(name) {
-        *line = line.with(member, told);
+        line.add(member, told);
     }
 }
 
