@@ -19,7 +19,7 @@ def random_audits(_program):
 
 
 def fault_of_audit(given, words):
-    library, options = bindings.package(), options_of(words)._replace(key=None)
+    library, options = bindings.package(), options_of(words)._replace(key=None, show=())
     asked = {"complete": options.complete, "margin": options.margin}
     lines = lines_of(given)
     case, (calls, numbers) = Case(lines, options), calls_of(lines)
@@ -34,7 +34,7 @@ def fault_of_audit(given, words):
         return f"by calls {library.audit(calls, **asked)} in place of {found}"
     text = library.audit_text(given, **asked, all=True, history=True)
     words, ended = [*words, "--all", "--history"], audit_logs.ended_with(text.encode())
-    wrong = why_wrong(given, words, ended, totals=False, key=None)
+    wrong = why_wrong(given, words, ended, totals=False, key=None, show=())
     if wrong:
         return wrong
     by_calls = library.audit_text(calls, **asked, all=True, history=True)
