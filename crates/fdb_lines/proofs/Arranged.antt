@@ -1,5 +1,5 @@
 -- Spots in order are an order of the acts.
-use Rattle.std.proofs.Common.{◌≡◌, ℕ, zero, suc, nat_lt, ◌<◌, ◌≤◌, Bool, true, false, cond, List, [], ◌∷◌, map, length, Option, Some, None, refl, ap, sym, subst, ◌∙◌, inl, inr, arith, All, Contains, IsPermutation, option_to_list}
+use Rattle.std.proofs.Common.{◌≡◌, ◌≢◌, ℕ, zero, suc, nat_lt, ◌<◌, ◌≤◌, Bool, true, false, cond, List, [], ◌∷◌, map, length, slice_get, Option, Some, None, option_map, MatchOption, refl, ap, sym, subst, ◌∙◌, inl, inr, arith, All, Contains, IsPermutation, option_to_list}
 use Rattle.std.proofs.lemmas.Bool.Decides.{nat_tests}
 use Rattle.std.specs.Ordering.{ordering_then, on, is_lt}
 use Rattle.std.specs.declared.cmp.Ordering.{Ordering}
@@ -9,6 +9,7 @@ use Rattle.std.specs.List.Sorted.{IsSorted, IsStrictlySortedBy}
 use Rattle.std.proofs.lemmas.Bool.{cases_lt, cond_both}
 use Rattle.std.proofs.lemmas.Cmp.{on_total, on_equiv}
 use Rattle.std.proofs.lemmas.List.{get_or-map, length-map}
+use Rattle.std.proofs.lemmas.Option.{slice_get-map, MatchOption-at_some}
 use Rattle.std.proofs.lemmas.List.Elements.{All-append, All-cons, All-contains, All-nil, Contains-append_left, Contains-append_right, recursion_from_All}
 use Rattle.std.proofs.lemmas.List.Filters.{All-dedup}
 use Rattle.std.proofs.lemmas.List.Sorted.{All-permutation, Contains-permutation}
@@ -18,17 +19,18 @@ use Rattle.fdb_lines.specs.contracts.spot.KeyOrd.TheImpl.{cmp-value}
 use Rattle.fdb_lines.specs.contracts.spot.KeyOrd.TheImpl.Laws.{total-law, matches_eq-law}
 use Rattle.fdb_lines.specs.declared.spot.Spot.{Spot}
 use Rattle.fdb_lines.specs.declared.turn.Turn.{Turn}
+use Rattle.fdb_lines.specs.declared.act.Act.{Act}
 use Rattle.fdb_lines.specs.declared.act.Act.TheVariants.{Asks, Reports}
-use Rattle.fdb_lines.specs.Explained.{Explains, taken_by}
+use Rattle.fdb_lines.specs.Explained.{taken, taken_by, Explains, Happens, IsMoment}
 use Rattle.fdb_lines.specs.Faults.{IsFaultless}
 use Rattle.fdb_lines.specs.Lines.{Kind, Read, Commit, Ask, Report, Learn, Case, draws, kind_at, shows, version_at}
 use Rattle.fdb_lines.specs.Order.{Item, IsRanked, ask_item, needs_ask, needs_report, report_item, shared_item, take_by, take_item}
-use Rattle.fdb_lines.specs.Turns.{acts_of, AreTurnsOf, HasTurn, HaveTurns, IsActOf}
+use Rattle.fdb_lines.specs.Turns.{acts_of, IsMomentOf, IsOrderOf, StandsAt}
 use Rattle.fdb_lines.specs.private.Spots.{entries_below, entry_of, item_of, spot_rank, turns_from}
-use Rattle.fdb_lines.proofs.Complete.{explained_by}
+use Rattle.fdb_lines.proofs.Complete.{explained_by, IsActOf, IsExplained}
 use Rattle.fdb_lines.proofs.Legal.{Origin, Asked as AskedBy, origin_take, origin_report, same_items}
-use Rattle.fdb_lines.proofs.Sorted.{In, KeyLess, SameKey, Rises}
-use Rattle.fdb_lines.proofs.Turned.{is_one, turned_acts, turned_all, turned_one}
+use Rattle.fdb_lines.proofs.Sorted.{In, KeyLess, SameKey, Rises, act_at, in_at}
+use Rattle.fdb_lines.proofs.Turned.{is_one, turned_acts, turned_at, turned_one, HasTurn}
 
 -- ---- keys
 
@@ -54,9 +56,13 @@ by_key o rest h = grind arith
 
 -- ---- what the lines need
 
--- an act has its origin, and is of its line where it is of one
+-- an item has its origin, and is a line's own where it is of one
+abbrev IsOwn : Case → Item → Option ℕ → Type 0
+IsOwn c x None = Unit {0}
+IsOwn c x (Some k) = (k < length c.lines) × IsActOf c (spot_rank c.lines) k x
+
 abbrev IsNeeded : Case → Item × Option ℕ → Type 0
-IsNeeded c e = Origin c (spot_rank c.lines) e.0 × IsActOf c e.0.act e.1
+IsNeeded c e = Origin c (spot_rank c.lines) e.0 × IsOwn c e.0 e.1
 
 take_act : (kind : Kind) (r known v : ℕ) → (take_by kind r known v).act ≡ taken_by kind v
 take_act Read r known v = refl
@@ -83,9 +89,9 @@ needed c none (suc k) le =
     (needed c none k (omega arith))
     (all_if (IsNeeded c) (needs_ask c k) _ (λ need. (
       AskedBy k lt need refl,
-      cond_both (draws (kind_at c k)) (Some k) None (IsActOf c (Asks (version_at c k))) (λ d. (lt, inl (d, refl))) (λ _. tt),
+      cond_both (draws (kind_at c k)) (Some k) None (IsOwn c (ask_item (version_at c k))) (λ d. (lt, inl (d, refl))) (λ _. tt),
     ))))
-    (all_if (IsNeeded c) (shows (kind_at c k)) _ (λ s. (origin_take c (spot_rank c.lines) k lt s, (lt, inr (s, take_act (kind_at c k) _ _ _))))))
+    (all_if (IsNeeded c) (shows (kind_at c k)) _ (λ s. (origin_take c (spot_rank c.lines) k lt s, (lt, inr (s, refl))))))
     (all_if (IsNeeded c) (needs_report c k) _ (λ need. (origin_report c (spot_rank c.lines) none k lt need, tt)))
 
 has_if : (b : Bool) (e : Item × Option ℕ) → b ≡ true → Contains (option_to_list (cond b (Some e) None)) e
@@ -118,6 +124,15 @@ in_map [] s h = absurd (omega (arith, h.1))
 in_map (x ∷ ss) s (zero, lt, is) = inl (ap item_of (sym is))
 in_map (x ∷ ss) s (suc k, lt, is) = inr (in_map ss s (k, omega arith, is))
 
+-- a line has one moment with an act
+one_moment : (c : Case) (history : List Act) (explains : Explains c history) (k m n : ℕ) (act : Act) → k < length c.lines
+    → IsMoment c explains.asked explains.took k m → IsMoment c explains.asked explains.took k n → Happens history m act → Happens history n act → m ≡ n
+one_moment c history explains k m n act lt p q at on =
+    let asks = explains.asks k lt in
+    let takes = explains.takes k lt in
+    let other : taken c k ≢ Asks (version_at c k) = λ same. grind (arith, nat_tests) in
+    grind arith
+
 -- ---- all of it
 
 module _ (c : Case) (ranked : IsRanked c (spot_rank c.lines)) (none : IsFaultless c) (spots : List Spot)
@@ -148,9 +163,9 @@ module _ (c : Case) (ranked : IsRanked c (spot_rank c.lines)) (none : IsFaultles
         λ own. subst (λ x. HasTurn (turns_from None spots) k x.0.act) s.2 (turned_one None spots s.0 k s.1 (ap (λ x. x.1) s.2 ∙ own)),
       )
 
-  explain : Explains c (acts_of (turns_from None spots))
+  explain : IsExplained c (spot_rank c.lines) items (acts_of (turns_from None spots))
   explain =
-      subst (Explains c) (sym (turned_acts spots)) (explained_by c (spot_rank c.lines) ranked none items record {
+      subst (IsExplained c (spot_rank c.lines) items) (sym (turned_acts spots)) (explained_by c (spot_rank c.lines) ranked none items record {
         rises = rising (dedup is_one spots) (IsStrictlySortedBy-dedup (on_total (λ s. s.key) total-law) (λ x y. matches_eq-law x.key y.key) spots sorted);
         origins = origins;
         asks = λ k lt need. (found k _ lt (has_ask c k need)).0;
@@ -158,13 +173,49 @@ module _ (c : Case) (ranked : IsRanked c (spot_rank c.lines)) (none : IsFaultles
         reports = λ k lt need. (found k _ lt (has_report c k need)).0;
       })
 
-  have_turns : HaveTurns c (turns_from None spots)
-  have_turns k lt = (
-    λ d. (found k _ lt (has_ask c k (asks_drawn c k d))).1 (ap (λ b. cond b (Some k) None) d),
-    λ s. subst (HasTurn (turns_from None spots) k) (take_act (kind_at c k) _ _ _) ((found k _ lt (has_take c k s)).1 refl),
-  )
+  abbrev asked : ℕ → ℕ
+  asked = explain.explains.asked
 
-  pub arranged : (turns : List Turn) → turns ≡ turns_from None spots → Explains c (acts_of turns) × AreTurnsOf c turns × HaveTurns c turns
-  arranged turns e =
-      subst (λ ts. Explains c (acts_of ts) × AreTurnsOf c ts × HaveTurns c ts) (sym e)
-      (explain, turned_all (IsActOf c) None spots (λ k d lt. (all k d lt).1), have_turns)
+  abbrev took : ℕ → ℕ
+  took = explain.explains.took
+
+  -- the item at which a turn stands is that of its spot
+  each : (i : ℕ) (turn : Turn) → slice_get (turns_from None spots) i ≡ Some turn
+      → (m : ℕ) × StandsAt (turns_from None spots) i m × Happens (acts_of (turns_from None spots)) m turn.act × IsMomentOf c asked took turn m
+  each i turn h =
+      let it = turned_at spots i turn h in
+      let m = it.0 in
+      let is = it.2 in
+      let x = item_of is.spot in
+      let needs = All-contains (λ z. IsNeeded c (entry_of z)) spots is.spot all is.there in
+      let first = slice_get-map item_of (dedup is_one spots) m ∙ ap (option_map item_of) is.at in
+      let same = same_items c (spot_rank c.lines) ranked x (item_of is.first) needs.0 (origins _ (in_at items m _ first)) (one_same is.spot is.first is.one) in
+      let at : slice_get items m ≡ Some x = first ∙ ap Some (sym same) in
+      (m, it.1, ap (λ h. slice_get h m) (turned_acts spots) ∙ (act_at items m x at ∙ ap Some is.act), of turn.line is.alone m x at (subst (IsOwn c x) is.line needs.1))
+    where
+      of : (line : Option ℕ) → (line ≡ None → turn.shared ≡ false) → (m : ℕ) (x : Item) → slice_get items m ≡ Some x → IsOwn c x line
+          → MatchOption line (turn.shared ≡ false) (λ k. (k < length c.lines) × IsMoment c asked took k m)
+      of None alone m x at own = alone refl
+      of (Some k) alone m x at own = (own.0, explain.moments k m x own.0 at own.1)
+
+  -- a turn with the act of a moment of its line stands there
+  stands : (k m : ℕ) (act : Act) → k < length c.lines → IsMoment c asked took k m → Happens (acts_of (turns_from None spots)) m act
+      → HasTurn (turns_from None spots) k act
+      → (i : ℕ) × (turn : Turn) × (slice_get (turns_from None spots) i ≡ Some turn) × (turn.line ≡ Some k) × StandsAt (turns_from None spots) i m
+  stands k m act lt is happens has =
+      let it = each has.0 has.1 has.2 in
+      let own = MatchOption-at_some (has.1.shared ≡ false) (λ k. (k < length c.lines) × IsMoment c asked took k it.0) k has.3 it.3 in
+      let same = one_moment c _ explain.explains k it.0 m act lt own.1 is (it.2 ∙ ap Some has.4) happens in
+      (has.0, has.1, has.2, has.3, it.1 ∙ ap suc same)
+
+  at_all : (k m : ℕ) → k < length c.lines → IsMoment c asked took k m
+      → (i : ℕ) × (turn : Turn) × (slice_get (turns_from None spots) i ≡ Some turn) × (turn.line ≡ Some k) × StandsAt (turns_from None spots) i m
+  at_all k m lt (inl asks) =
+      stands k m (Asks (version_at c k)) lt (inl asks) (ap (slice_get _) asks.1 ∙ explain.explains.asks k lt asks.0)
+      ((found k _ lt (has_ask c k (asks_drawn c k asks.0))).1 (ap (λ b. cond b (Some k) None) asks.0))
+  at_all k m lt (inr takes) =
+      stands k m (taken c k) lt (inr takes) (ap (slice_get _) takes.1 ∙ explain.explains.takes k lt takes.0)
+      (subst (HasTurn (turns_from None spots) k) (take_act (kind_at c k) _ _ _) ((found k _ lt (has_take c k takes.0)).1 refl))
+
+  pub arranged : (turns : List Turn) → turns ≡ turns_from None spots → IsOrderOf c turns
+  arranged turns e = subst (IsOrderOf c) (sym e) (record { explains = explain.explains; each = each; all = at_all })

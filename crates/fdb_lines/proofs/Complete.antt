@@ -4,6 +4,7 @@ use Rattle.std.proofs.lemmas.Bool.{and_parts}
 use Rattle.std.proofs.lemmas.Bool.Decides.{nat_tests}
 use Rattle.std.proofs.lemmas.Option.{same_Some}
 use Rattle.fdb_lines.specs.Lines.{Case, kind_at, version_at, draws, shows, is_commit}
+use Rattle.fdb_lines.specs.declared.act.Act.{Act}
 use Rattle.fdb_lines.specs.declared.act.Act.TheVariants.{Reports}
 use Rattle.fdb_lines.specs.declared.fault.Fault.TheVariants.{Order, NotAbove, Twice}
 use Rattle.fdb_lines.specs.Explained.{OthersMay, precedes, taken, IsMoment, Explains}
@@ -54,7 +55,7 @@ module _ (c : Case) (rank : ℕ → ℕ) where
 -- ---- what comes before comes before, and no two lines have one act, unless they are commits
 
 -- an act of a line's own
-abbrev IsActOf : Case → (ℕ → ℕ) → ℕ → Item → Type 0
+abbrev pub IsActOf : Case → (ℕ → ℕ) → ℕ → Item → Type 0
 IsActOf c rank k x = ((draws (kind_at c k) ≡ true) × (x ≡ ask_item (version_at c k))) ⊎ ((shows (kind_at c k) ≡ true) × (x ≡ take_item c rank k))
 
 module _ (c : Case) (rank : ℕ → ℕ) (ranked : IsRanked c rank) (none : IsFaultless c) (j k : ℕ) (lj : j < length c.lines) (lk : k < length c.lines) where
@@ -99,6 +100,11 @@ whose c rank none x p = elim p.item [
 
 -- ---- all of it
 
+-- a history explains the lines, and where a line's own item is in order is a moment of the line
+pub record IsExplained (c : Case) (rank : ℕ → ℕ) (items : List Item) (history : List Act) : Type 0 where
+  pub explains : Explains c history
+  pub moments : (k m : ℕ) (x : Item) → k < length c.lines → slice_get items m ≡ Some x → IsActOf c rank k x → IsMoment c explains.asked explains.took k m
+
 module _ (c : Case) (rank : ℕ → ℕ) (ranked : IsRanked c rank) (none : IsFaultless c) (items : List Item) (o : IsOrder c rank items) where
   -- the moments of a line are the places of its items
   abbrev IsPlace : ℕ → ℕ → Type 0
@@ -116,8 +122,8 @@ module _ (c : Case) (rank : ℕ → ℕ) (ranked : IsRanked c rank) (none : IsFa
   place_of k m x lk h (inl d) = inl (d.0, (places items m _ x _ o.rises h (stands k _ lk (inl (d.0, refl)))).1 d.1)
   place_of k m x lk h (inr s) = inr (s.0, (places items m _ x _ o.rises h (stands k _ lk (inr (s.0, refl)))).1 s.1)
 
-  pub explained_by : Explains c (map (λ z. z.act) items)
-  explained_by = record {
+  pub explained_by : IsExplained c rank items (map (λ z. z.act) items)
+  explained_by = record { moments = place_of; explains = record {
     legal = legal c rank ranked none items o;
     asked = λ k. index_of (ask_item (version_at c k)) items;
     took = λ k. index_of (take_item c rank k) items;
@@ -141,7 +147,7 @@ module _ (c : Case) (rank : ℕ → ℕ) (ranked : IsRanked c rank) (none : IsFa
           | inl line ↦ inl (line.0, line.1, place_of line.0 m x.0 line.1 x.1 line.2)
           | inr others ↦ inr (others.0, subst (OthersMay c) x.2 others.1)
         ];
-  }
+  } }
 
 pub explained : (c : Case) (rank : ℕ → ℕ) → IsRanked c rank → IsFaultless c → Explains c (history c rank)
-explained c rank ranked none = explained_by c rank ranked none (sorted c rank (length c.lines)) (sorted_order c rank ranked)
+explained c rank ranked none = (explained_by c rank ranked none (sorted c rank (length c.lines)) (sorted_order c rank ranked)).explains

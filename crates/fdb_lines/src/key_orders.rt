@@ -4,10 +4,10 @@ ghost use Rattle.std.specs.Prelude.{◌≡◌, All, IfErr, IfOk, MatchOption, On
 ghost use Rattle.std.specs.Prelude.{map, slice_get};
 ghost use Rattle.fdb_lines.specs.Keys.{faults_by_key, keys_of, AreExplainedByKey};
 ghost use Rattle.fdb_lines.specs.Keys.{HasLateByKey, HasReasonByKey};
-ghost use Rattle.fdb_lines.specs.KeyOrders.{AreTurnsOfKey, ExplainsKey, HaveTurnsOfKey};
+ghost use Rattle.fdb_lines.specs.KeyOrders.{placed_turn, IsOrderOfKey};
 ghost use Rattle.fdb_lines.specs.Log.{lines_of};
 ghost use Rattle.fdb_lines.specs.Reasons.{found_of};
-ghost use Rattle.fdb_lines.specs.private.KeyOrders.{placed_turn, AreOrders};
+ghost use Rattle.fdb_lines.specs.private.KeyOrders.{AreOrders};
 
 use crate::key_order::KeyOrder;
 use crate::keys::{findings_by_key, place_in};
@@ -34,11 +34,7 @@ pub fn orders_by_key(
     ensures keys { IfOk result
         (λ it. IfOk it (λ orders. map (λ order. order.key) orders.items ≡ keys_of keys.now)) }
     ensures explains { IfOk result (λ it. IfOk it
-        (λ orders. All (ExplainsKey (lines_of log.now) keys.now opts.now) orders.items)) }
-    ensures lines { IfOk result (λ it. IfOk it
-        (λ orders. All (AreTurnsOfKey (lines_of log.now) keys.now opts.now) orders.items)) }
-    ensures all { IfOk result (λ it. IfOk it
-        (λ orders. All (HaveTurnsOfKey (lines_of log.now) keys.now opts.now) orders.items)) }
+        (λ orders. All (IsOrderOfKey (lines_of log.now) keys.now opts.now) orders.items)) }
     ensures explained { IfOk result
         (λ it. OnOk it (AreExplainedByKey (lines_of log.now) keys.now opts.now)) }
     ensures unexplained { IfOk result

@@ -4,12 +4,11 @@ ghost use Rattle.std.specs.Prelude.{◌≡◌, ◌++◌, None, Some, IfErr, IfOk
 ghost use Rattle.std.specs.Prelude.{MatchOption, OnErr, OnOk, length, map, option_map};
 ghost use Rattle.std.specs.Prelude.{option_to_list, slice_get};
 ghost use Rattle.fdb_lines.specs.Audit.{AreExplained, case_of};
-ghost use Rattle.fdb_lines.specs.Explained.{Explains};
 ghost use Rattle.fdb_lines.specs.Late.{HasLate};
 ghost use Rattle.fdb_lines.specs.Listing.{faults_of};
 ghost use Rattle.fdb_lines.specs.Log.{lines_of};
 ghost use Rattle.fdb_lines.specs.Reasons.{found_of, HasReason};
-ghost use Rattle.fdb_lines.specs.Turns.{acts_of, AreTurnsOf, HaveTurns};
+ghost use Rattle.fdb_lines.specs.Turns.{IsOrderOf};
 ghost use Rattle.fdb_lines.specs.private.Spots.{entries_below, entry_of, turns_from};
 ghost use Rattle.fdb_lines.specs.private.Tables.{AreTables};
 
@@ -30,11 +29,7 @@ use std::alloc::{AllocError, Global};
 pub fn order(alloc: Global, log: &Log, opts: &AuditOpts) -> Result<Option<Vec<Turn>>, AllocError>
     ensures explains { IfOk result (λ found. MatchOption found
         (¬ (AreExplained (case_of (lines_of log.now) opts.now)))
-        (λ turns. Explains (case_of (lines_of log.now) opts.now) (acts_of turns.items))) }
-    ensures lines { IfOk result (λ found. IfSome found
-        (λ turns. AreTurnsOf (case_of (lines_of log.now) opts.now) turns.items)) }
-    ensures all { IfOk result (λ found. IfSome found
-        (λ turns. HaveTurns (case_of (lines_of log.now) opts.now) turns.items)) }
+        (λ turns. IsOrderOf (case_of (lines_of log.now) opts.now) turns.items)) }
 {
     match order_or_finding(alloc, log, opts)? {
         Ok(turns) => Ok(Some(turns)),
@@ -52,11 +47,7 @@ pub fn order_or_finding(
     opts: &AuditOpts,
 ) -> Result<Result<Vec<Turn>, Finding>, AllocError>
     ensures explains { IfOk result (λ it. IfOk it
-        (λ turns. Explains (case_of (lines_of log.now) opts.now) (acts_of turns.items))) }
-    ensures lines { IfOk result (λ it. IfOk it
-        (λ turns. AreTurnsOf (case_of (lines_of log.now) opts.now) turns.items)) }
-    ensures all { IfOk result (λ it. IfOk it
-        (λ turns. HaveTurns (case_of (lines_of log.now) opts.now) turns.items)) }
+        (λ turns. IsOrderOf (case_of (lines_of log.now) opts.now) turns.items)) }
     ensures unexplained { IfOk result
         (λ it. OnErr it (¬ (AreExplained (case_of (lines_of log.now) opts.now)))) }
     ensures first { IfOk result (λ it. IfErr it

@@ -7,15 +7,13 @@ use Rattle.std.proofs.lemmas.List.Elements.{All-append, All-cons, All-nil}
 use Rattle.fdb_lines.specs.declared.key_order.KeyOrder.{KeyOrder}
 use Rattle.fdb_lines.specs.declared.turn.Turn.{Turn}
 use Rattle.fdb_lines.specs.Audit.{case_of, AreExplained}
-use Rattle.fdb_lines.specs.Explained.{Explains}
+use Rattle.fdb_lines.specs.KeyOrders.{placed_turn, IsOrderOfKey}
 use Rattle.fdb_lines.specs.Keys.{key_at, keys_of, lines_of_key, places_of}
 use Rattle.fdb_lines.specs.Lines.{part_of, Lines}
 use Rattle.fdb_lines.specs.Log.{lines_of}
-use Rattle.fdb_lines.specs.Turns.{acts_of, AreTurnsOf, HaveTurns}
-use Rattle.fdb_lines.specs.private.KeyOrders.{placed_turn, IsOrder}
+use Rattle.fdb_lines.specs.Turns.{IsOrderOf}
 use Rattle.fdb_lines.proofs.Keyed.{of_key}
 use Rattle.fdb_lines.proofs.Parted.{part_at}
-use Rattle.fdb_lines.proofs.Placed.{is_order}
 use Rattle.fdb_lines.proofs.key_orders.orders_of.Goals as goal
 
 pub part-requires-clause-within : goal.part-requires-clause-within
@@ -38,7 +36,7 @@ returns-in_default c = λ all.
     let part = part_at keys c.in_ok-parts.parts.items n c.index.result.now parts.keys parts.places (omega arith) c.index.ensures in
     let is : lines_of c.in_ok-lines.lines ≡ lines_of_key log keys (key_at (keys_of keys) n) = c.in_ok-lines.ensures ∙ ap (part_of log) (c.deref.ensures.value ∙ part.1) in
     let it = case_of (lines_of c.in_ok-lines.lines) opts in
-    MatchOption-at_none (AreExplained it → ⊥) (λ (turns : Vec Turn Global). Explains it (acts_of turns.items)) c.in_default.is c.in_ok-turns.ensures.explains
+    MatchOption-at_none (AreExplained it → ⊥) (λ (turns : Vec Turn Global). IsOrderOf it turns.items) c.in_default.is c.in_ok-turns.ensures.explains
     (subst (λ (ls : Lines). AreExplained (case_of ls opts)) (sym is) (all (key_at (keys_of keys) n)))
 
 pub loop-part-preserved : goal.loop-part-preserved
@@ -60,13 +58,11 @@ loop-part-preserved c =
     c.in_ok-placed_turns.ensures
     ∙ (ap (map (placed_turn c.deref-in-loop-part.result.now)) c.deref-in-loop-part-2.ensures.value
     ∙ ap (λ (places : List ℕ). map (placed_turn places) turns) (c.deref-in-loop-part.ensures.value ∙ (part.1 ∙ own))) in
-    let it = case_of (lines_of c.in_ok-lines.lines) opts in
-    let its = is_order log keys opts order turns c.requires placed
-    (subst (λ (ls : Lines). Explains (case_of ls opts) (acts_of turns)) is (MatchOption-at_some (AreExplained it → ⊥) (λ (turns : Vec Turn Global). Explains it (acts_of turns.items)) c.in-Some.turns c.in-Some.is c.in_ok-turns.ensures.explains))
-    (subst (λ (ls : Lines). AreTurnsOf (case_of ls opts) turns) is (MatchOption-at_some (Unit {0}) (λ (turns : Vec Turn Global). AreTurnsOf it turns.items) c.in-Some.turns c.in-Some.is c.in_ok-turns.ensures.lines))
-    (subst (λ (ls : Lines). HaveTurns (case_of ls opts) turns) is (MatchOption-at_some (Unit {0}) (λ (turns : Vec Turn Global). HaveTurns it turns.items) c.in-Some.turns c.in-Some.is c.in_ok-turns.ensures.all)) in
+    let explains = MatchOption-at_some (AreExplained (case_of (lines_of c.in_ok-lines.lines) opts) → ⊥)
+    (λ (turns : Vec Turn Global). IsOrderOf (case_of (lines_of c.in_ok-lines.lines) opts) turns.items) c.in-Some.turns c.in-Some.is c.in_ok-turns.ensures.explains in
+    let its : IsOrderOfKey log keys opts order = (turns, subst (λ (ls : Lines). IsOrderOf (case_of ls opts) turns) is explains, placed) in
     let of = λ (order : KeyOrder). order.key in
-    let P = IsOrder log keys opts in (
+    let P = IsOrderOfKey log keys opts in (
       ap (map of) c.in_ok-push.ensures.items
           ∙ (map_push of before order
           ∙ (ap (λ (ks : List (Option ℕ)). ks ++ order.key ∷ []) c.loop-part.invariant.0

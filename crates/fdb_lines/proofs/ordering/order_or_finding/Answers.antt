@@ -20,4 +20,4 @@ returns c =
     let are = subst (λ l. IsPermutation l (map entry_of spots)) c.in_ok-spots.ensures (IsPermutation-map entry_of _ spots c.sort_unstable_by_key.ensures.permutation) in
     let sorted = c.sort_unstable_by_key.ensures.sorted (λ s. (s.key, is_none s.line, s.line)) (answers_always _ _ _ (λ f a r g h. search rules)) in
     let all = arranged it (spot_ranked log opts) none spots are (λ k d from lt. by_key _ _ (by_key _ _ (sorted k d from lt))) _ (c.in_ok-turns.ensures ∙ ap (turns_from None) c.deref.ensures.value) in
-    record { explains = all.0; lines = all.1; all = all.2; unexplained = tt; first = tt; reason = tt; late = tt }
+    record { explains = all; unexplained = tt; first = tt; reason = tt; late = tt }
