@@ -1,18 +1,18 @@
 -- Spots in order are an order of the acts.
-use Rattle.std.proofs.Common.{◌≡◌, ◌≢◌, ℕ, zero, suc, nat_lt, ◌<◌, ◌≤◌, Bool, true, false, cond, List, [], ◌∷◌, map, length, slice_get, Option, Some, None, option_map, MatchOption, refl, ap, sym, subst, ◌∙◌, inl, inr, arith, All, Contains, IsPermutation, option_to_list}
+use Rattle.std.proofs.Common.{◌≡◌, ◌≢◌, ℕ, zero, suc, nat_lt, ◌<◌, ◌≤◌, Bool, true, false, cond, List, [], ◌∷◌, map, length, slice_get, Option, Some, None, option_map, IfSome, refl, ap, sym, subst, ◌∙◌, inl, inr, arith, All, Contains, IsPermutation, option_to_list}
 use Rattle.std.proofs.lemmas.Bool.Decides.{nat_tests}
-use Rattle.std.specs.Ordering.{ordering_then, on, is_lt}
+use Rattle.std.specs.Ordering.{is_lt, on, ordering_then}
 use Rattle.std.specs.declared.cmp.Ordering.{Ordering}
 use Rattle.std.specs.declared.cmp.Ordering.TheVariants.{Less}
 use Rattle.std.specs.List.{AllByRecursion, dedup}
-use Rattle.std.specs.List.Sorted.{IsSorted, IsStrictlySortedBy}
+use Rattle.std.specs.List.Sorted.{IsStrictlySortedBy}
 use Rattle.std.proofs.lemmas.Bool.{cases_lt, cond_both}
 use Rattle.std.proofs.lemmas.Cmp.{on_total, on_equiv}
 use Rattle.std.proofs.lemmas.List.{get_or-map, length-map}
 use Rattle.std.proofs.lemmas.Option.{slice_get-map, MatchOption-at_some}
 use Rattle.std.proofs.lemmas.List.Elements.{All-append, All-cons, All-contains, All-nil, Contains-append_left, Contains-append_right, recursion_from_All}
 use Rattle.std.proofs.lemmas.List.Filters.{All-dedup}
-use Rattle.std.proofs.lemmas.List.Sorted.{All-permutation, Contains-permutation}
+use Rattle.std.proofs.lemmas.List.Sorted.{All-permutation, Contains-permutation, sum_by-IsPermutation}
 use Rattle.std.proofs.lemmas.List.Kept.{Any-dedup, IsStrictlySortedBy-dedup}
 use Rattle.fdb_lines.specs.contracts.spot.KeyEq.TheImpl.Laws.{laws-law}
 use Rattle.fdb_lines.specs.contracts.spot.KeyOrd.TheImpl.{cmp-value}
@@ -25,20 +25,18 @@ use Rattle.fdb_lines.specs.Explained.{taken, taken_by, Explains, Happens, IsMome
 use Rattle.fdb_lines.specs.Faults.{IsFaultless}
 use Rattle.fdb_lines.specs.Lines.{Kind, Read, Commit, Ask, Report, Learn, Case, draws, kind_at, shows, version_at}
 use Rattle.fdb_lines.specs.Order.{Item, IsRanked, ask_item, needs_ask, needs_report, report_item, shared_item, take_by, take_item}
-use Rattle.fdb_lines.specs.Turns.{acts_of, IsMomentOf, IsOrderOf, StandsAt}
+use Rattle.fdb_lines.specs.Turns.{acts_of, IsOrderOf, StandsAt}
 use Rattle.fdb_lines.specs.private.Spots.{entries_below, entry_of, item_of, spot_rank, turns_from}
 use Rattle.fdb_lines.proofs.Complete.{explained_by, IsActOf, IsExplained}
 use Rattle.fdb_lines.proofs.Legal.{Origin, Asked as AskedBy, origin_take, origin_report, same_items}
-use Rattle.fdb_lines.proofs.Sorted.{In, KeyLess, SameKey, Rises, act_at, in_at}
+use Rattle.fdb_lines.proofs.Sorted.{In, KeyLess, Rises, act_at, in_at}
 use Rattle.fdb_lines.proofs.Turned.{is_one, turned_acts, turned_at, turned_one, HasTurn}
+use Rattle.fdb_lines.proofs.Shared.{chain, chained_at, one_same, single, weight, ArePlaced, IsFew}
 
 -- ---- keys
 
 less : (x y : Spot) → cmp-value.it x.key y.key ≡ Less → KeyLess (item_of x) (item_of y)
 less x y e = grind (arith, nat_tests)
-
-one_same : (x y : Spot) → is_one x y ≡ true → SameKey (item_of x) (item_of y)
-one_same x y e = (grind (arith, nat_tests), grind (arith, nat_tests))
 
 in_all : (P : Spot → Type 0) (Q : Item → Type 0) → ((s : Spot) → P s → Q (item_of s)) → (ss : List Spot) → AllByRecursion P ss → (x : Item) → In x (map item_of ss) → Q x
 in_all P Q f [] all x i = absurd i
@@ -124,6 +122,8 @@ in_map [] s h = absurd (omega (arith, h.1))
 in_map (x ∷ ss) s (zero, lt, is) = inl (ap item_of (sym is))
 in_map (x ∷ ss) s (suc k, lt, is) = inr (in_map ss s (k, omega arith, is))
 
+-- ---- all of it
+
 -- a line has one moment with an act
 one_moment : (c : Case) (history : List Act) (explains : Explains c history) (k m n : ℕ) (act : Act) → k < length c.lines
     → IsMoment c explains.asked explains.took k m → IsMoment c explains.asked explains.took k n → Happens history m act → Happens history n act → m ≡ n
@@ -133,10 +133,8 @@ one_moment c history explains k m n act lt p q at on =
     let other : taken c k ≢ Asks (version_at c k) = λ same. grind (arith, nat_tests) in
     grind arith
 
--- ---- all of it
-
 module _ (c : Case) (ranked : IsRanked c (spot_rank c.lines)) (none : IsFaultless c) (spots : List Spot)
-    (are : IsPermutation (entries_below c (length c.lines)) (map entry_of spots)) (sorted : IsSorted (on (λ s. s.key) cmp-value.it) spots) where
+    (are : IsPermutation (entries_below c (length c.lines)) (map entry_of spots)) (sorted : ArePlaced spots) where
   abbrev items : List Item
   items = map item_of (dedup is_one spots)
 
@@ -149,6 +147,12 @@ module _ (c : Case) (ranked : IsRanked c (spot_rank c.lines)) (none : IsFaultles
   origins =
       in_all (λ s. IsNeeded c (entry_of s)) (Origin c (spot_rank c.lines)) (λ s need. need.0) (dedup is_one spots)
       (recursion_from_All (λ s. IsNeeded c (entry_of s)) (dedup is_one spots) (All-dedup is_one (λ s. IsNeeded c (entry_of s)) spots all))
+
+  few : IsFew spots
+  few a stage =
+      let same = sum_by-IsPermutation (weight a stage) _ _ are in
+      let once = (single c a stage (length c.lines)).0 in
+      omega arith
 
   -- an act that a line needs is there, and its turn, if it is of a line
   found : (k : ℕ) (e : Item × Option ℕ) → k < length c.lines → Contains (entries_below c (suc k)) e
@@ -166,7 +170,7 @@ module _ (c : Case) (ranked : IsRanked c (spot_rank c.lines)) (none : IsFaultles
   explain : IsExplained c (spot_rank c.lines) items (acts_of (turns_from None spots))
   explain =
       subst (IsExplained c (spot_rank c.lines) items) (sym (turned_acts spots)) (explained_by c (spot_rank c.lines) ranked none items record {
-        rises = rising (dedup is_one spots) (IsStrictlySortedBy-dedup (on_total (λ s. s.key) total-law) (λ x y. matches_eq-law x.key y.key) spots sorted);
+        rises = rising (dedup is_one spots) (IsStrictlySortedBy-dedup (on_total (λ s. s.key) total-law) (λ x y. matches_eq-law x.key y.key) spots (λ k d from lt. by_key _ _ (by_key _ _ (sorted k d lt))));
         origins = origins;
         asks = λ k lt need. (found k _ lt (has_ask c k need)).0;
         takes = λ k lt s. (found k _ lt (has_take c k s)).0;
@@ -181,7 +185,8 @@ module _ (c : Case) (ranked : IsRanked c (spot_rank c.lines)) (none : IsFaultles
 
   -- the item at which a turn stands is that of its spot
   each : (i : ℕ) (turn : Turn) → slice_get (turns_from None spots) i ≡ Some turn
-      → (m : ℕ) × StandsAt (turns_from None spots) i m × Happens (acts_of (turns_from None spots)) m turn.act × IsMomentOf c asked took turn m
+      → (m : ℕ) × StandsAt (turns_from None spots) i m × Happens (acts_of (turns_from None spots)) m turn.act
+      × IfSome turn.line (λ k. (k < length c.lines) × IsMoment c asked took k m)
   each i turn h =
       let it = turned_at spots i turn h in
       let m = it.0 in
@@ -191,12 +196,12 @@ module _ (c : Case) (ranked : IsRanked c (spot_rank c.lines)) (none : IsFaultles
       let first = slice_get-map item_of (dedup is_one spots) m ∙ ap (option_map item_of) is.at in
       let same = same_items c (spot_rank c.lines) ranked x (item_of is.first) needs.0 (origins _ (in_at items m _ first)) (one_same is.spot is.first is.one) in
       let at : slice_get items m ≡ Some x = first ∙ ap Some (sym same) in
-      (m, it.1, ap (λ h. slice_get h m) (turned_acts spots) ∙ (act_at items m x at ∙ ap Some is.act), of turn.line is.alone m x at (subst (IsOwn c x) is.line needs.1))
+      (m, it.1, ap (λ h. slice_get h m) (turned_acts spots) ∙ (act_at items m x at ∙ ap Some is.act), of turn.line m x at (subst (IsOwn c x) is.line needs.1))
     where
-      of : (line : Option ℕ) → (line ≡ None → turn.shared ≡ false) → (m : ℕ) (x : Item) → slice_get items m ≡ Some x → IsOwn c x line
-          → MatchOption line (turn.shared ≡ false) (λ k. (k < length c.lines) × IsMoment c asked took k m)
-      of None alone m x at own = alone refl
-      of (Some k) alone m x at own = (own.0, explain.moments k m x own.0 at own.1)
+      of : (line : Option ℕ) (m : ℕ) (x : Item) → slice_get items m ≡ Some x → IsOwn c x line
+          → IfSome line (λ k. (k < length c.lines) × IsMoment c asked took k m)
+      of None m x at own = tt
+      of (Some k) m x at own = (own.0, explain.moments k m x own.0 at own.1)
 
   -- a turn with the act of a moment of its line stands there
   stands : (k m : ℕ) (act : Act) → k < length c.lines → IsMoment c asked took k m → Happens (acts_of (turns_from None spots)) m act
@@ -204,7 +209,7 @@ module _ (c : Case) (ranked : IsRanked c (spot_rank c.lines)) (none : IsFaultles
       → (i : ℕ) × (turn : Turn) × (slice_get (turns_from None spots) i ≡ Some turn) × (turn.line ≡ Some k) × StandsAt (turns_from None spots) i m
   stands k m act lt is happens has =
       let it = each has.0 has.1 has.2 in
-      let own = MatchOption-at_some (has.1.shared ≡ false) (λ k. (k < length c.lines) × IsMoment c asked took k it.0) k has.3 it.3 in
+      let own = MatchOption-at_some (Unit {0}) (λ k. (k < length c.lines) × IsMoment c asked took k it.0) k has.3 it.3 in
       let same = one_moment c _ explain.explains k it.0 m act lt own.1 is (it.2 ∙ ap Some has.4) happens in
       (has.0, has.1, has.2, has.3, it.1 ∙ ap suc same)
 
@@ -218,4 +223,4 @@ module _ (c : Case) (ranked : IsRanked c (spot_rank c.lines)) (none : IsFaultles
       (subst (HasTurn (turns_from None spots) k) (take_act (kind_at c k) _ _ _) ((found k _ lt (has_take c k takes.0)).1 refl))
 
   pub arranged : (turns : List Turn) → turns ≡ turns_from None spots → IsOrderOf c turns
-  arranged turns e = subst (IsOrderOf c) (sym e) (record { explains = explain.explains; each = each; all = at_all })
+  arranged turns e = subst (IsOrderOf c) (sym e) (record { explains = explain.explains; each = each; all = at_all; shared = chained_at None (turns_from None spots) (chain spots sorted few) })

@@ -9,6 +9,7 @@ pub mod Told
 pub mod Ranked
 pub mod Arranged
 pub mod Turned
+pub mod Shared
 pub mod Tests
 pub mod Listed
 pub mod Reasoning

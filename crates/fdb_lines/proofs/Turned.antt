@@ -43,7 +43,6 @@ pub record IsTurnAt (spots kept : List Spot) (turn : Turn) (m : ℕ) : Type 0 wh
   pub there : Contains spots spot
   pub act : spot.act ≡ turn.act
   pub line : spot.line ≡ turn.line
-  pub alone : turn.line ≡ None → turn.shared ≡ false
   pub first : Spot
   pub at : slice_get kept m ≡ Some first
   pub one : is_one spot first ≡ true
@@ -59,24 +58,24 @@ kept_first x (s ∷ ss) = cond_both (is_one s x) _ _ (λ (kept : List Spot). sli
 further : (s : Spot) (ss kept : List Spot) (turn : Turn) (m : ℕ) → IsTurnAt ss kept turn m → IsTurnAt (s ∷ ss) kept turn m
 further s ss kept turn m is =
     let in_ss = is.there in
-    record { spot = is.spot; there = (suc in_ss.0, omega (arith, in_ss.1), in_ss.2); act = is.act; line = is.line; alone = is.alone; first = is.first; at = is.at; one = is.one }
+    record { spot = is.spot; there = (suc in_ss.0, omega (arith, in_ss.1), in_ss.2); act = is.act; line = is.line; first = is.first; at = is.at; one = is.one }
 
 beyond : (x s : Spot) (ss kept : List Spot) (turn : Turn) (m : ℕ) → IsTurnAt ss kept turn m → IsTurnAt (s ∷ ss) (x ∷ kept) turn (suc m)
 beyond x s ss kept turn m is =
     let more = further s ss kept turn m is in
-    record { spot = more.spot; there = more.there; act = more.act; line = more.line; alone = more.alone; first = more.first; at = more.at; one = more.one }
+    record { spot = more.spot; there = more.there; act = more.act; line = more.line; first = more.first; at = more.at; one = more.one }
 
 -- the turn of a spot itself
-here : (s first : Spot) (ss kept : List Spot) (b : Bool) (m : ℕ) → (s.line ≡ None → b ≡ false) → slice_get kept m ≡ Some first → is_one s first ≡ true
+here : (s first : Spot) (ss kept : List Spot) (b : Bool) (m : ℕ) → slice_get kept m ≡ Some first → is_one s first ≡ true
     → (turn : Turn) → Some (record { act = s.act; line = s.line; shared = b }) ≡ Some turn → IsTurnAt (s ∷ ss) kept turn m
-here s first ss kept b m alone at one turn e =
+here s first ss kept b m at one turn e =
     subst (λ (t : Turn). IsTurnAt (s ∷ ss) kept t m) (same_Some _ turn e)
-    (record { spot = s; there = (0, omega arith, refl); act = refl; line = refl; alone = alone; first = first; at = at; one = one })
+    (record { spot = s; there = (0, omega arith, refl); act = refl; line = refl; first = first; at = at; one = one })
 
 abbrev After : List Spot → Turn → Spot → List Turn → ℕ → Type 0
 After ss turn x turns i = slice_get turns i ≡ Some turn → IsTurnAt ss (dedup_from is_one x ss) turn (told turns i)
 
-abbrev turns_by : Spot → List Turn → Bool → Bool → List Turn
+abbrev pub turns_by : Spot → List Turn → Bool → Bool → List Turn
 turns_by s turns b d = cond (b && not d) turns (record { act = s.act; line = s.line; shared = b } ∷ turns)
 
 told_after : (x : Spot) (ss : List Spot) (i : ℕ) (turn : Turn) → slice_get (turns_from (Some x.key) ss) i ≡ Some turn
@@ -87,16 +86,16 @@ told_after x (s ∷ ss) i turn h = by (is_one s x) (is_some s.line) refl refl i 
     by : (b d : Bool) → is_one s x ≡ b → is_some s.line ≡ d → (i : ℕ) → ((x : Spot) (i : ℕ) → After ss turn x (turns_from (Some x.key) ss) i)
         → slice_get (turns_by s (turns_from (Some s.key) ss) b d) i ≡ Some turn
         → IsTurnAt (s ∷ ss) (cond b (dedup_from is_one x ss) (x ∷ dedup_from is_one s ss)) turn (told (turns_by s (turns_from (Some s.key) ss) b d) i)
-    by false d other line zero after h = here s s ss _ false _ (λ _. refl) (kept_first s ss) (laws-law.refl s.key) turn h
+    by false d other line zero after h = here s s ss _ false _ (kept_first s ss) (laws-law.refl s.key) turn h
     by false d other line (suc i) after h = beyond x s ss _ turn _ (after s i h)
-    by true true same line zero after h = here s x ss _ true _ (λ none. grind (arith, line, none)) (kept_first x ss) same turn h
+    by true true same line zero after h = here s x ss _ true _ (kept_first x ss) same turn h
     by true true same line (suc i) after h = further s ss _ turn _ (subst (λ ts. After ss turn x ts i) (sym (from_one s.key x.key ss same)) (after x i) h)
     by true false same line i after h = further s ss _ turn _ (subst (λ ts. After ss turn x ts i) (sym (from_one s.key x.key ss same)) (after x i) h)
 
 pub turned_at : (ss : List Spot) (i : ℕ) (turn : Turn) → slice_get (turns_from None ss) i ≡ Some turn
     → (m : ℕ) × StandsAt (turns_from None ss) i m × IsTurnAt ss (dedup is_one ss) turn m
 turned_at [] i turn h = absurd (none-some turn h)
-turned_at (s ∷ ss) zero turn h = (0, refl, here s s ss _ false 0 (λ _. refl) (kept_first s ss) (laws-law.refl s.key) turn h)
+turned_at (s ∷ ss) zero turn h = (0, refl, here s s ss _ false 0 (kept_first s ss) (laws-law.refl s.key) turn h)
 turned_at (s ∷ ss) (suc i) turn h = (told (turns_from (Some s.key) ss) i, refl, further s ss _ turn _ (told_after s ss i turn h))
 
 -- ---- the spot of a line has its turn

@@ -5,7 +5,7 @@ use Rattle.std.proofs.lemmas.List.Sorted.{answers_always, IsPermutation-map}
 use Rattle.fdb_lines.specs.Audit.{case_of}
 use Rattle.fdb_lines.specs.Log.{lines_of}
 use Rattle.fdb_lines.specs.private.Spots.{entry_of, turns_from}
-use Rattle.fdb_lines.proofs.Arranged.{arranged, by_key}
+use Rattle.fdb_lines.proofs.Arranged.{arranged}
 use Rattle.fdb_lines.proofs.Listed.{law}
 use Rattle.fdb_lines.proofs.Ranked.{spot_ranked}
 use Rattle.fdb_lines.proofs.ordering.order_or_finding.Goals as goal
@@ -19,5 +19,5 @@ returns c =
     let spots = c.sort_unstable_by_key.new.self.items in
     let are = subst (λ l. IsPermutation l (map entry_of spots)) c.in_ok-spots.ensures (IsPermutation-map entry_of _ spots c.sort_unstable_by_key.ensures.permutation) in
     let sorted = c.sort_unstable_by_key.ensures.sorted (λ s. (s.key, is_none s.line, s.line)) (answers_always _ _ _ (λ f a r g h. search rules)) in
-    let all = arranged it (spot_ranked log opts) none spots are (λ k d from lt. by_key _ _ (by_key _ _ (sorted k d from lt))) _ (c.in_ok-turns.ensures ∙ ap (turns_from None) c.deref.ensures.value) in
+    let all = arranged it (spot_ranked log opts) none spots are (λ k d lt. sorted k d (omega arith) lt) _ (c.in_ok-turns.ensures ∙ ap (turns_from None) c.deref.ensures.value) in
     record { explains = all; unexplained = tt; first = tt; reason = tt; late = tt }
