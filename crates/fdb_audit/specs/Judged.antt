@@ -8,15 +8,14 @@ use Rattle.fdb_lines.specs.declared.reason.Finding.{Finding}
 use Rattle.fdb_lines.specs.declared.summed.Summary.{Summary}
 use Rattle.fdb_lines.specs.declared.turn.Turn.{Turn}
 use Rattle.fdb_lines.specs.Audit.{AreExplained, case_of}
-use Rattle.fdb_lines.specs.Explained.{Explains}
 use Rattle.fdb_lines.specs.Keys.{faults_by_key, keys_of, AreExplainedByKey, HasLateByKey, HasReasonByKey}
-use Rattle.fdb_lines.specs.KeyOrders.{AreTurnsOfKey, ExplainsKey, HaveTurnsOfKey}
+use Rattle.fdb_lines.specs.KeyOrders.{IsOrderOfKey}
 use Rattle.fdb_lines.specs.Late.{HasLate}
 use Rattle.fdb_lines.specs.Lines.{Lines, is_ask, is_commit, is_learn, is_read, is_report}
 use Rattle.fdb_lines.specs.Listing.{faults_of}
 use Rattle.fdb_lines.specs.Reasons.{HasReason, found_of}
 use Rattle.fdb_lines.specs.Summary.{how_many, ordered, ordered_by_key, unreported, unreported_by_key}
-use Rattle.fdb_lines.specs.Turns.{acts_of, AreTurnsOf, HaveTurns}
+use Rattle.fdb_lines.specs.Turns.{IsOrderOf}
 use Rattle.fdb_log_reader.specs.Columns.{ArePrinted, KeyColumn, ShownColumn}
 use Rattle.fdb_log_reader.specs.Printed.{printed}
 use Rattle.fdb_log_reader.specs.Reading.{Reading, reading_with}
@@ -73,17 +72,10 @@ pub record IsSummary (log : Lines) (keys : Option (List (Option ℕ))) (opts : A
   pub unreported : counts.unreported ≡ unreported_in log keys opts
   pub ordered : counts.ordered ≡ cond log.timed (Some (ordered_in log keys opts)) None
 
--- the turns are an order that explains the lines: each is of the line that it names, and each line has its turns
-abbrev pub IsOrder : Lines → AuditOpts → List Turn → Type 0
-IsOrder log opts turns =
-    Explains (case_of log opts) (acts_of turns) × AreTurnsOf (case_of log opts) turns × HaveTurns (case_of log opts) turns
-
--- the same for each key
+-- an order for each key
 pub record AreOrders (log : Lines) (keys : List (Option ℕ)) (opts : AuditOpts) (orders : List KeyOrder) : Type 0 where
   pub each : map (λ order. order.key) orders ≡ keys_of keys
-  pub explain : All (ExplainsKey log keys opts) orders
-  pub lines : All (AreTurnsOfKey log keys opts) orders
-  pub all : All (HaveTurnsOfKey log keys opts) orders
+  pub explain : All (IsOrderOfKey log keys opts) orders
 
 -- ---- what is printed: sentences, or JSON objects
 
@@ -104,7 +96,7 @@ orders_text json it orders = flat_map (λ order. turns_text json it (key_text js
 abbrev pub IsHistory : Lines → Shown → Option (List (Option ℕ)) → AuditOpts → Wanted → Bool → List ℕ → Type 0
 IsHistory log it keys opts wanted false text = text ≡ []
 IsHistory log it None opts wanted true text =
-    (turns : List Turn) × IsOrder log opts turns × (text ≡ turns_text wanted.json it [] turns)
+    (turns : List Turn) × IsOrderOf (case_of log opts) turns × (text ≡ turns_text wanted.json it [] turns)
 IsHistory log it (Some keys) opts wanted true text =
     (orders : List KeyOrder) × AreOrders log keys opts orders × (text ≡ orders_text wanted.json it orders)
 

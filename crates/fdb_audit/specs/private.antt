@@ -1,13 +1,15 @@
 -- What a view shows, and what is asked of a log. (this product's own)
 use Rattle.std.specs.Prelude.{◌≡◌, ℕ, ◌==◌, Bool, List, [], Option, None, Some, IfSome, count_by, length, map, option_map, string_bytes}
 use Rattle.fdb_lines.specs.declared.opts.AuditOpts.{AuditOpts}
+use Rattle.fdb_lines.specs.Audit.{case_of}
 use Rattle.fdb_lines.specs.Lines.{Lines}
 use Rattle.fdb_lines.specs.Log.{lines_of}
+use Rattle.fdb_lines.specs.Turns.{IsOrderOf}
 use Rattle.fdb_audit.specs.Groups.{by_client, by_member, number_of, Grouping}
 use Rattle.fdb_audit.specs.Text.{Beside, Shown}
 use Rattle.fdb_log_reader.specs.Columns.{HasCells}
 use Rattle.fdb_log_reader.specs.Reading.{Reading}
-use Rattle.fdb_audit.specs.Judged.{orders_text, turns_text, AreOrders, IsOrder}
+use Rattle.fdb_audit.specs.Judged.{orders_text, turns_text, AreOrders}
 use Rattle.fdb_audit.specs.declared.asked.Asked.{Asked}
 use Rattle.fdb_audit.specs.declared.asked.Order.{Order}
 use Rattle.fdb_audit.specs.declared.asked.Order.TheVariants.{One, ByKey}
@@ -41,7 +43,7 @@ HasKeys asked = IfSome (keys_in asked) (λ keys. length keys ≡ length (log_in 
 
 -- an order for all lines where they have no keys, and else one for each key
 abbrev pub HasOrders : Lines → Option (List (Option ℕ)) → AuditOpts → Order → Type 0
-HasOrders log None opts (One turns) = IsOrder log opts turns.items
+HasOrders log None opts (One turns) = IsOrderOf (case_of log opts) turns.items
 HasOrders log None opts (ByKey orders) = ⊥
 HasOrders log (Some keys) opts (One turns) = ⊥
 HasOrders log (Some keys) opts (ByKey orders) = AreOrders log keys opts orders.items

@@ -6,7 +6,7 @@ ghost use Rattle.std.specs.Prelude.{is_some, length, map, option_map, slice_get}
 ghost use Rattle.fdb_lines.specs.Log.{lines_of};
 ghost use Rattle.fdb_lines.specs.Reasons.{found_of};
 ghost use Rattle.fdb_audit.specs.Judged.{faults_in, AreExplainedIn, AreOrders, HasLateIn};
-ghost use Rattle.fdb_audit.specs.Judged.{HasReasonIn, IsOrder, IsSummary};
+ghost use Rattle.fdb_audit.specs.Judged.{HasReasonIn, IsSummary};
 ghost use Rattle.fdb_audit.specs.private.{keys_in, log_in, HasKeys, HasOrders};
 
 use crate::view::View;

@@ -123,31 +123,34 @@ module _ (c : Case) (rank : ℕ → ℕ) (ranked : IsRanked c rank) (none : IsFa
   place_of k m x lk h (inr s) = inr (s.0, (places items m _ x _ o.rises h (stands k _ lk (inr (s.0, refl)))).1 s.1)
 
   pub explained_by : IsExplained c rank items (map (λ z. z.act) items)
-  explained_by = record { moments = place_of; explains = record {
-    legal = legal c rank ranked none items o;
-    asked = λ k. index_of (ask_item (version_at c k)) items;
-    took = λ k. index_of (take_item c rank k) items;
-    asks = λ k lk d. act_at items _ _ (stands k _ lk (inl (d, refl)));
-    takes = λ k lk s. act_at items _ _ (stands k _ lk (inr (s, refl))) ∙ ap Some (let same : (take_item c rank k).act ≡ taken c k = grind (arith, nat_tests) in same);
-    apart = λ j k m lj lk ne p q.
-        let x = placed_item j m lj p in
-        let y = placed_item k m lk q in
-        apart_by c rank ranked none j k lj lk ne x.0 y.0 (same_Some x.0 y.0 (sym x.1 ∙ y.1)) x.2 y.2;
-    ordered = λ j k m n lj lk pre p q.
-        let x = placed_item j m lj p in
-        let y = placed_item k n lk q in
-        (places items m n x.0 y.0 o.rises x.1 y.1).0 (before_key c rank ranked none j k lj lk pre x.0 y.0 x.2 y.2);
-    owned = λ j k lj lk is d same.
-        let stray = no_stray c none k lk is in
-        let undrawn = none_at (draws_it c (version_at c k)) (length c.lines) j in
-        grind (arith, nat_tests);
-    others = λ m act h.
-        let x = item_of c rank ranked none items o m act h in
-        elim (whose c rank none x.0 x.3) [
-          | inl line ↦ inl (line.0, line.1, place_of line.0 m x.0 line.1 x.1 line.2)
-          | inr others ↦ inr (others.0, subst (OthersMay c) x.2 others.1)
-        ];
-  } }
+  explained_by = record {
+    moments = place_of;
+    explains = record {
+      legal = legal c rank ranked none items o;
+      asked = λ k. index_of (ask_item (version_at c k)) items;
+      took = λ k. index_of (take_item c rank k) items;
+      asks = λ k lk d. act_at items _ _ (stands k _ lk (inl (d, refl)));
+      takes = λ k lk s. act_at items _ _ (stands k _ lk (inr (s, refl))) ∙ ap Some (let same : (take_item c rank k).act ≡ taken c k = grind (arith, nat_tests) in same);
+      apart = λ j k m lj lk ne p q.
+          let x = placed_item j m lj p in
+          let y = placed_item k m lk q in
+          apart_by c rank ranked none j k lj lk ne x.0 y.0 (same_Some x.0 y.0 (sym x.1 ∙ y.1)) x.2 y.2;
+      ordered = λ j k m n lj lk pre p q.
+          let x = placed_item j m lj p in
+          let y = placed_item k n lk q in
+          (places items m n x.0 y.0 o.rises x.1 y.1).0 (before_key c rank ranked none j k lj lk pre x.0 y.0 x.2 y.2);
+      owned = λ j k lj lk is d same.
+          let stray = no_stray c none k lk is in
+          let undrawn = none_at (draws_it c (version_at c k)) (length c.lines) j in
+          grind (arith, nat_tests);
+      others = λ m act h.
+          let x = item_of c rank ranked none items o m act h in
+          elim (whose c rank none x.0 x.3) [
+            | inl line ↦ inl (line.0, line.1, place_of line.0 m x.0 line.1 x.1 line.2)
+            | inr others ↦ inr (others.0, subst (OthersMay c) x.2 others.1)
+          ];
+    };
+  }
 
 pub explained : (c : Case) (rank : ℕ → ℕ) → IsRanked c rank → IsFaultless c → Explains c (history c rank)
 explained c rank ranked none = (explained_by c rank ranked none (sorted c rank (length c.lines)) (sorted_order c rank ranked)).explains
