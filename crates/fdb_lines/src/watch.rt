@@ -35,10 +35,22 @@ pub struct Settled {
     /// For each of these its number among all lines that ever came, counted from 0.
     pub numbers: Vec<u64>,
     /// The stale reads and the versions that are not above what was known, at the lines of which it
-    /// is time to tell: by their places among the lines that were kept.
+    /// is time to tell. Each line is told by its place among those that were kept.
     pub found: Vec<Finding>,
     /// The places of those that are kept on.
     pub kept: Vec<u32>,
+}
+
+impl Settled {
+    /// The number, among all lines that ever came, of the line at a place of those that were kept.
+    pub fn number(&self, place: u32) -> u64
+        ensures { result ≡ slice_index self.now.numbers.items place }
+    {
+        match self.numbers.get(place as usize) {
+            Some(number) => *number,
+            None => 0,
+        }
+    }
 }
 
 /// An audit that watches. It keeps the lines that may yet come to matter, and two that stand for all
