@@ -124,8 +124,9 @@ of_both log P timed untimed = by log.timed refl
     by true e = subst (λ b. P (record { timed = b; lines = log.lines })) (sym e) (timed e)
     by false e = subst (λ b. P (record { timed = b; lines = log.lines })) (sym e) (untimed e)
 
+-- in a log without times no line has any
 abbrev pub AreAlike : Lines → Type 0
-AreAlike log = (k : ℕ) → k < length log.lines → has_times (line_at log.lines k) ≡ log.timed
+AreAlike log = log.timed ≡ false → (k : ℕ) → k < length log.lines → has_times (line_at log.lines k) ≡ false
 
 by_first : (fault : Fault) (log : Lines) (opts : AuditOpts) (k j end : ℕ) → AreAlike log → IsByOthers fault log.lines opts k
     → IsFirstThat (outdates fault log.lines k) log.lines j end → IsLateBy fault log opts k (began (line_at log.lines k) - end)
@@ -134,7 +135,7 @@ by_first fault log opts k j end alike others first =
     (λ timed. late_by fault log.lines opts k (began (line_at log.lines k) - end) others
     (λ i time lt passes at. let least = first.first i time lt passes at in omega arith)
     (λ margin less. (j, first.there, rw first.ended_at (grind (arith, nat_tests)), first.passes)))
-    (λ untimed. absurd (none-some end (sym (no_end_untimed (line_at log.lines j) (alike j first.there ∙ untimed)) ∙ first.ended_at)))
+    (λ untimed. absurd (none-some end (sym (no_end_untimed (line_at log.lines j) (alike untimed j first.there)) ∙ first.ended_at)))
 
 by_none : (fault : Fault) (log : Lines) (opts : AuditOpts) (k : ℕ) → IsByOthers fault log.lines opts k
     → IsFirstEnd (outdates fault log.lines k) log.lines None → IsLateBy fault log opts k 0
@@ -148,8 +149,8 @@ by_none fault log opts k others none =
 -- ---- what is said of a call
 
 -- the late call by the first of the lines that outdate it
-abbrev pub late_of : List Line → ℕ → End → Late
-late_of lines k first = record { line = first.place; by = began (line_at lines k) - first.time }
+abbrev pub late_of : List Line → ℕ → ℕ → ℕ → Late
+late_of lines k j end = record { line = j; by = began (line_at lines k) - end }
 
 -- a call's own end is never before it began
 by_own : (fault : Fault) (log : Lines) (opts : AuditOpts) (k end : ℕ) → AreAlike log → IsByOthers fault log.lines opts k
@@ -162,16 +163,15 @@ late_none : (fault : Fault) (log : Lines) (opts : AuditOpts) (k : ℕ) → IsByO
     → IsLate fault log opts k None
 late_none fault log opts k others none = (inl none, by_none fault log opts k others none)
 
-late_own : (fault : Fault) (log : Lines) (opts : AuditOpts) (k : ℕ) (first : End) → AreAlike log → IsByOthers fault log.lines opts k
-    → IsFirstEnd (outdates fault log.lines k) log.lines (Some first) → first.place ≡ k → IsLate fault log opts k None
-late_own fault log opts k first alike others is own =
-    let here = subst (λ j. IsFirstThat (outdates fault log.lines k) log.lines j first.time) own is in
-    (inr (first.time, here), by_own fault log opts k first.time alike others here)
+late_own : (fault : Fault) (log : Lines) (opts : AuditOpts) (k j end : ℕ) → AreAlike log → IsByOthers fault log.lines opts k
+    → IsFirstThat (outdates fault log.lines k) log.lines j end → j ≡ k → IsLate fault log opts k None
+late_own fault log opts k j end alike others is own =
+    let here = subst (λ i. IsFirstThat (outdates fault log.lines k) log.lines i end) own is in
+    (inr (end, here), by_own fault log opts k end alike others here)
 
-late_first : (fault : Fault) (log : Lines) (opts : AuditOpts) (k : ℕ) (first : End) → AreAlike log → IsByOthers fault log.lines opts k
-    → IsFirstEnd (outdates fault log.lines k) log.lines (Some first) → first.place ≢ k → IsLate fault log opts k (Some (late_of log.lines k first))
-late_first fault log opts k first alike others is other =
-    (first.time, is, other, refl, by_first fault log opts k first.place first.time alike others is)
+late_first : (fault : Fault) (log : Lines) (opts : AuditOpts) (k j end : ℕ) → AreAlike log → IsByOthers fault log.lines opts k
+    → IsFirstThat (outdates fault log.lines k) log.lines j end → j ≢ k → IsLate fault log opts k (Some (late_of log.lines k j end))
+late_first fault log opts k j end alike others is other = (end, is, other, refl, by_first fault log opts k j end alike others is)
 
 -- ---- of each fault
 
@@ -191,21 +191,21 @@ none_is log opts k NotAbove stand none = late_none NotAbove log opts k (of_not_a
 none_is log opts k Twice stand none = refl
 none_is log opts k Stray stand none = refl
 
-pub own_is : (log : Lines) (opts : AuditOpts) (k : ℕ) (fault : Fault) (first : End) → AreAlike log → StandsAt log opts fault k
-    → IsFirstEnd (outdates fault log.lines k) log.lines (Some first) → first.place ≡ k → IsLateAt log opts k fault None
-own_is log opts k Order first alike stand is own = late_own Order log opts k first alike (of_order log.lines opts k (read_of log opts k stand)) is own
-own_is log opts k Wrong first alike stand is own = refl
-own_is log opts k NotAbove first alike stand is own = late_own NotAbove log opts k first alike (of_not_above log.lines opts k (draw_of log opts k stand)) is own
-own_is log opts k Twice first alike stand is own = refl
-own_is log opts k Stray first alike stand is own = refl
+pub own_is : (log : Lines) (opts : AuditOpts) (k : ℕ) (fault : Fault) (j end : ℕ) → AreAlike log → StandsAt log opts fault k
+    → IsFirstThat (outdates fault log.lines k) log.lines j end → j ≡ k → IsLateAt log opts k fault None
+own_is log opts k Order j end alike stand is own = late_own Order log opts k j end alike (of_order log.lines opts k (read_of log opts k stand)) is own
+own_is log opts k Wrong j end alike stand is own = refl
+own_is log opts k NotAbove j end alike stand is own = late_own NotAbove log opts k j end alike (of_not_above log.lines opts k (draw_of log opts k stand)) is own
+own_is log opts k Twice j end alike stand is own = refl
+own_is log opts k Stray j end alike stand is own = refl
 
-pub first_is : (log : Lines) (opts : AuditOpts) (k : ℕ) (fault : Fault) (first : End) → AreAlike log → StandsAt log opts fault k
-    → IsFirstEnd (outdates fault log.lines k) log.lines (Some first) → first.place ≢ k → IsLateAt log opts k fault (Some (late_of log.lines k first))
-first_is log opts k Order first alike stand is other = late_first Order log opts k first alike (of_order log.lines opts k (read_of log opts k stand)) is other
-first_is log opts k Wrong first alike stand is other = absurd (both_ways false refl is.passes)
-first_is log opts k NotAbove first alike stand is other = late_first NotAbove log opts k first alike (of_not_above log.lines opts k (draw_of log opts k stand)) is other
-first_is log opts k Twice first alike stand is other = absurd (both_ways false refl is.passes)
-first_is log opts k Stray first alike stand is other = absurd (both_ways false refl is.passes)
+pub first_is : (log : Lines) (opts : AuditOpts) (k : ℕ) (fault : Fault) (j end : ℕ) → AreAlike log → StandsAt log opts fault k
+    → IsFirstThat (outdates fault log.lines k) log.lines j end → j ≢ k → IsLateAt log opts k fault (Some (late_of log.lines k j end))
+first_is log opts k Order j end alike stand is other = late_first Order log opts k j end alike (of_order log.lines opts k (read_of log opts k stand)) is other
+first_is log opts k Wrong j end alike stand is other = absurd (both_ways false refl is.passes)
+first_is log opts k NotAbove j end alike stand is other = late_first NotAbove log opts k j end alike (of_not_above log.lines opts k (draw_of log opts k stand)) is other
+first_is log opts k Twice j end alike stand is other = absurd (both_ways false refl is.passes)
+first_is log opts k Stray j end alike stand is other = absurd (both_ways false refl is.passes)
 
 -- ---- the first of the lines that outdate a call, by the tables
 

@@ -29,6 +29,9 @@ pub mod Merged
 pub mod Slotted
 pub mod First
 pub mod Lateness
+pub mod Reasoned
+pub mod LateKept
+pub mod ToldAll
 pub mod Kept
 pub mod Parted
 pub mod Placed

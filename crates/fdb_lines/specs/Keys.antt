@@ -103,6 +103,14 @@ abbrev pub placed_late : List ℕ → Option Late → Option Late
 placed_late places None = None
 placed_late places (Some late) = Some (record { line = place_in places late.line; by = late.by })
 
+-- a finding among the lines at some places, told of the whole log
+abbrev pub placed_finding : List ℕ → Finding → Finding
+placed_finding places finding = record {
+  found = placed_found places finding.found;
+  reason = placed_reason places finding.reason;
+  late = placed_late places finding.late;
+}
+
 -- A finding has a reason of its fault among the lines of its key, told of the whole log.
 abbrev pub HasReasonByKey : Lines → List (Option ℕ) → AuditOpts → Finding → Type 0
 HasReasonByKey log keys opts finding =

@@ -15,6 +15,6 @@ pub mod Text
 pub mod Reasons
 pub mod Summary
 pub mod Carried
-pub mod Alarms
+pub mod Watching
 pub mod Watch
 pub mod private

@@ -6,6 +6,7 @@ pub mod Telling
 pub mod Marks
 pub mod Tables
 pub mod Spots
+pub mod Due
 pub mod Ended
 pub mod Standing
 pub mod Keys

@@ -232,7 +232,7 @@ pub(crate) fn add_findings(
 }
 
 /// Adds a fault, if it stands at the line.
-fn add_finding(
+pub(crate) fn add_finding(
     findings: &mut Vec<Finding>,
     tables: &Tables,
     log: &Log,

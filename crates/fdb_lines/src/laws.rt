@@ -1,7 +1,7 @@
 //! Laws of the definitions. The functions do nothing: each stands for its contract.
 
 ghost use Rattle.std.specs.Prelude.{ℕ, ◌<◌, ◌≤◌, ◌≡◌, ◌≢◌, ◌↔◌, ◌++◌, ◌∷◌, [], List, Option};
-ghost use Rattle.std.specs.Prelude.{length, map, slice_index, true, IsTrue};
+ghost use Rattle.std.specs.Prelude.{length, map, slice_index, true, IsTrue, Some};
 ghost use Rattle.std.specs.List.{filter};
 ghost use Rattle.fdb_lines.specs.declared.act.Act.{Act};
 ghost use Rattle.fdb_lines.specs.declared.fault.Fault.{Fault};
@@ -9,7 +9,6 @@ ghost use Rattle.fdb_lines.specs.declared.fault.Fault.TheVariants.{Order, NotAbo
 ghost use Rattle.fdb_lines.specs.declared.fault.Found.{Found};
 ghost use Rattle.fdb_lines.specs.declared.line.Line.{Line};
 ghost use Rattle.fdb_lines.specs.declared.opts.AuditOpts.{AuditOpts};
-ghost use Rattle.fdb_lines.specs.Alarms.{told_of};
 ghost use Rattle.fdb_lines.specs.Audit.{AreExplained, case_of};
 ghost use Rattle.fdb_lines.specs.Before.{began};
 ghost use Rattle.fdb_lines.specs.Carried.{with_times, AreLeftBelow, StandFor};
@@ -22,6 +21,7 @@ ghost use Rattle.fdb_lines.specs.Explained.{Explains, IsLegal, precedes};
 ghost use Rattle.fdb_lines.specs.Steps.{runs, fresh};
 ghost use Rattle.fdb_lines.specs.Faults.{stands, IsFaultless};
 ghost use Rattle.fdb_lines.specs.Order.{IsRanked, history};
+ghost use Rattle.fdb_lines.specs.Watching.{is_due, told_of};
 
 /// No fault is invented: where some history explains the lines, none stands.
 pub fn nothing_is_invented()
@@ -117,9 +117,10 @@ pub fn they_go_on_to_stand_for_all()
 
 /// What is told of the lines that began before a moment stays, whatever begins then or later.
 pub fn what_was_told_stays()
-    ensures { (margin from to : ℕ) (lines more : List Line)
+    ensures { (margin from early since to : ℕ) (lines more : List Line)
         → ((j : ℕ) → j < length more → to ≤ began (line_at more j))
-        → told_of margin (lines ++ more) from to ≡ told_of margin lines from to }
+        → let due = is_due from early since (Some to) in
+        told_of margin due (lines ++ more) ≡ told_of margin due lines }
 {}
 
 /// The faults of a log with keys that stand at lines of one key are all those of its lines, each

@@ -2,8 +2,8 @@
 #![tactic(auto)]
 
 mod act;
-mod alarm;
 mod carrying;
+mod due;
 mod end;
 mod end_times;
 mod ended;
@@ -40,7 +40,6 @@ mod turn;
 mod watch;
 
 pub use act::Act;
-pub use alarm::Alarm;
 pub use carrying::standing;
 pub use fault::{Fault, Found};
 pub use judging::{faults, findings, first_fault, first_finding, first_finding_by};
@@ -57,4 +56,4 @@ pub use reason::{Finding, Means, Reason, Witness};
 pub use summed::Summary;
 pub use summing::{summary, summary_by};
 pub use turn::Turn;
-pub use watch::{Watch, WatchError};
+pub use watch::{Settled, Watch, WatchError};

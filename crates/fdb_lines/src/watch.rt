@@ -1,37 +1,71 @@
 //! An audit that watches a log with times as it grows, in the memory of the lines that are open.
 
-ghost use Rattle.std.specs.Prelude.{◌≡◌, ◌+◌, ◌<◌, ◌≤◌, ◌++◌, ◌∷◌, [], List, IfErr, IfOk, OnErr};
-ghost use Rattle.std.specs.Prelude.{OnOk, Some, length, map, slice_index, true, false};
+ghost use Rattle.std.specs.Prelude.{◌≡◌, ◌+◌, ◌-◌, ◌<◌, ◌≤◌, ◌++◌, ◌∷◌, [], All, List, IfErr, IfOk};
+ghost use Rattle.std.specs.Prelude.{None, OnErr, OnOk, Some, length, map, max, slice_index, true};
+ghost use Rattle.std.specs.Prelude.{false};
 ghost use Rattle.std.specs.Prelude.{◌↔◌, ◌⊎◌, ℕ};
 ghost use Rattle.fdb_lines.specs.declared.line.Line.{Line};
-ghost use Rattle.fdb_lines.specs.Before.{began};
 ghost use Rattle.fdb_lines.specs.Carried.{open_count};
-ghost use Rattle.fdb_lines.specs.Lines.{has_times};
+ghost use Rattle.fdb_lines.specs.Lines.{has_times, lines_in};
 ghost use Rattle.fdb_lines.specs.Log.{lines_of, refusal_of};
 
-use crate::alarm::{Alarm, alarms_of};
 use crate::carrying::standing;
+use crate::due::{Due, findings_due};
 use crate::line::Line;
 use crate::log::{LineError, Log};
+use crate::opts::AuditOpts;
+use crate::reason::Finding;
 use std::alloc::{AllocError, Global};
+use std::mem::replace;
 
 /// Why [`Watch::push`] refuses a line.
 #[derive(Clone, Copy, Debug, PartialEq, Eq)]
 pub enum WatchError {
     /// It has no times.
     NoTimes,
-    /// It began before the last moment up to which all was settled.
-    Early,
     /// A log does not take it.
     Line(LineError),
 }
 
+/// What an audit that watches tells when it settles.
+#[derive(Debug, Drop)]
+pub struct Settled {
+    /// The lines that it has kept until now, in the order in which they came.
+    pub log: Log,
+    /// For each of these its number among all lines that ever came, counted from 0.
+    pub numbers: Vec<u64>,
+    /// The stale reads and the versions that are not above what was known, at the lines of which it
+    /// is time to tell. Each line is told by its place among those that were kept.
+    pub found: Vec<Finding>,
+    /// The places of those that are kept on.
+    pub kept: Vec<u32>,
+}
+
+impl Settled {
+    /// The number, among all lines that ever came, of the line at a place of those that were kept.
+    pub fn number(&self, place: u32) -> u64
+        ensures { result ≡ slice_index self.now.numbers.items place }
+    {
+        match self.numbers.get(place as usize) {
+            Some(number) => *number,
+            None => 0,
+        }
+    }
+}
+
 /// An audit that watches. It keeps the lines that may yet come to matter, and two that stand for all
 /// others.
+///
+/// It settles up to a moment: it tells of the lines that began before, each once, what an audit of
+/// all lines would. A line that comes late, and begins before that moment, is told of at the next
+/// settling, if it begins no further back than a horizon; else it is known to others, and is not
+/// judged. By how much a call is late is exact up to the horizon, and beyond it at least so much.
 #[derive(Drop)]
 pub struct Watch {
     margin: u64,
+    horizon: u64,
     from: u64,
+    settled: u64,
     count: u64,
     log: Log,
     numbers: Vec<u64>,
@@ -40,45 +74,56 @@ pub struct Watch {
 }
 
 impl Watch {
-    ghost use Rattle.fdb_lines.specs.declared.watch.WatchError.TheVariants.{Early, NoTimes};
-    ghost use Rattle.fdb_lines.specs.Alarms.{told_of};
-    ghost use Rattle.fdb_lines.specs.Watch.{HasSeen};
+    ghost use Rattle.fdb_lines.specs.declared.watch.WatchError.TheVariants.{NoTimes};
+    ghost use Rattle.fdb_lines.specs.Watch.{judged_from, HasSeen, IsTold};
 
     /// A watch that has seen no line.
-    pub fn new(alloc: Global, margin: u64) -> Self
+    pub fn new(alloc: Global, margin: u64, horizon: u64) -> Self
         ensures seen { HasSeen result [] }
         ensures from { result.from ≡ 0 }
         ensures margin { result.margin ≡ margin }
+        ensures horizon { result.horizon ≡ horizon }
     {
         Watch {
             margin,
+            horizon,
             from: 0,
+            settled: 0,
             count: 0,
             log: Log::new(alloc),
             numbers: Vec::new(alloc),
         }
     }
 
+    /// The moment up to which it has settled. A line that begins before it comes late.
+    pub fn settled_to(&self) -> u64
+        ensures { result ≡ self.now.from }
+    {
+        self.from
+    }
+
+    /// The moment from which on lines are judged that come late.
+    pub fn judged_from(&self) -> u64
+        ensures { result ≡ judged_from self.now }
+    {
+        self.from.saturating_sub(self.horizon)
+    }
+
     /// Adds a line. An error says why it is refused; all is as it was then.
     pub fn push(&mut self, line: Line) -> Result<(), WatchError>
         ensures ok { OnOk result ((lines : List Line) → HasSeen self.old lines → HasSeen self.new (lines ++ line ∷ [])) }
-        ensures taken { OnOk result ((has_times line ≡ true) × (self.old.from ≤ began line)) }
+        ensures taken { OnOk result (has_times line ≡ true) }
         ensures err { OnErr result ((lines : List Line) → HasSeen self.old lines → HasSeen self.new lines) }
         ensures untimed { IfErr result (λ error. error ≡ NoTimes ↔ (has_times line ≡ false)) }
-        ensures early { IfErr result (λ error. error ≡ Early
-            ↔ ((has_times line ≡ true) × (began line < self.old.from))) }
         ensures refused { IfErr result (λ error. (why : LineError) → error ≡ WatchError.Line why
             → (why ≡ LineError.Memory)
             ⊎ ((why ≡ LineError.TooMany) × (self.old.count ≡ 18446744073709551615))
             ⊎ (refusal_of (lines_of self.old.log) line ≡ Some why)) }
-        ensures from { self.new.from ≡ self.old.from }
-        ensures margin { self.new.margin ≡ self.old.margin }
+        ensures settled { (self.new.from ≡ self.old.from) × (self.new.settled ≡ self.old.settled) }
+        ensures margin { (self.new.margin ≡ self.old.margin) × (self.new.horizon ≡ self.old.horizon) }
     {
         if line.times.is_none() {
             return Err(WatchError::NoTimes);
-        }
-        if line.began() < self.from {
-            return Err(WatchError::Early);
         }
         if self.count == u64::MAX {
             return Err(WatchError::Line(LineError::TooMany));
@@ -94,27 +139,70 @@ impl Watch {
         Ok(())
     }
 
-    /// Tells of each line that began since the last such moment and before this one. Lines to come
-    /// have to begin from here on. An error only where memory is refused; all is as it was then.
-    pub fn settle(&mut self, alloc: Global, at: u64) -> Result<Vec<Alarm>, AllocError>
-        requires { self.old.from ≤ at }
-        ensures told { IfOk result (λ told. (lines : List Line) → HasSeen self.old lines
-            → told.items ≡ told_of self.old.margin lines self.old.from at) }
+    /// Settles up to a moment, or up to where it has settled, if that is later. An error only where
+    /// memory is refused; all is as it was then.
+    pub fn settle(&mut self, alloc: Global, at: u64) -> Result<Settled, AllocError>
+        ensures told { IfOk result (λ it. (lines : List Line) → HasSeen self.old lines
+            → IsTold self.old (Some (max self.old.from at)) lines it.numbers.items it.found.items) }
+        ensures lines { IfOk result (λ it. (lines : List Line) → HasSeen self.old lines
+            → (lines_of it.log).lines ≡ lines_in lines it.numbers.items) }
         ensures seen { (lines : List Line) → HasSeen self.old lines → HasSeen self.new lines }
+        ensures kept { IfOk result (λ it. (self.new.numbers.items ≡ map (slice_index it.numbers.items) it.kept.items)
+            × All (λ place. place < length it.numbers.items) it.kept.items) }
         ensures few { OnOk result (length self.new.numbers.items
-            ≤ open_count self.old.margin at self.old.log.lines.items + 2) }
-        ensures ok { OnOk result (self.new.from ≡ at) }
-        ensures err { OnErr result (self.new.from ≡ self.old.from) }
-        ensures margin { self.new.margin ≡ self.old.margin }
+            ≤ open_count self.old.margin (judged_from self.new) self.old.log.lines.items + 2) }
+        ensures settled { OnOk result ((self.new.from ≡ max self.old.from at) × (self.new.settled ≡ self.old.count)) }
+        ensures err { OnErr result (self.new ≡ self.old) }
+        ensures margin { (self.new.margin ≡ self.old.margin) × (self.new.horizon ≡ self.old.horizon) }
     {
-        let told = alarms_of(alloc, &self.log, &self.numbers, self.margin, self.from, at)?;
-        let places = standing(alloc, &self.log, self.margin, at)?;
-        let numbers = numbers_at(alloc, &self.numbers, &places)?;
-        let log = self.log.part(alloc, &places)?;
-        self.log = log;
-        self.numbers = numbers;
+        let at = at.max(self.from);
+        let found = self.found(alloc, Some(at))?;
+        let kept = standing(alloc, &self.log, self.margin, at.saturating_sub(self.horizon))?;
+        let numbers = numbers_at(alloc, &self.numbers, &kept)?;
+        let log = self.log.part(alloc, &kept)?;
         self.from = at;
-        Ok(told)
+        self.settled = self.count;
+        Ok(Settled {
+            log: replace(&mut self.log, log),
+            numbers: replace(&mut self.numbers, numbers),
+            found,
+            kept,
+        })
+    }
+
+    /// Tells of all lines that it has not told of. An error only where memory is refused.
+    pub fn finish(self, alloc: Global) -> Result<Settled, AllocError>
+        ensures told { IfOk result (λ it. (lines : List Line) → HasSeen self lines
+            → IsTold self None lines it.numbers.items it.found.items) }
+        ensures lines { IfOk result (λ it. (lines : List Line) → HasSeen self lines
+            → (lines_of it.log).lines ≡ lines_in lines it.numbers.items) }
+    {
+        let found = self.found(alloc, None)?;
+        Ok(Settled {
+            log: self.log,
+            numbers: self.numbers,
+            found,
+            kept: Vec::new(alloc),
+        })
+    }
+
+    /// What is told of the lines that are kept, up to a moment, or of all.
+    fn found(&self, alloc: Global, to: Option<u64>) -> Result<Vec<Finding>, AllocError>
+        ensures { IfOk result (λ found. (lines : List Line) → HasSeen self.now lines
+            → IsTold self.now to lines self.now.numbers.items found.items) }
+    {
+        let opts = AuditOpts {
+            complete: None,
+            margin: self.margin,
+        };
+        let due = Due {
+            from: self.from,
+            early: self.judged_from(),
+            since: self.settled,
+            to,
+        };
+        let found = findings_due(alloc, &self.log, &self.numbers, &opts, &due)?;
+        Ok(found)
     }
 }
 

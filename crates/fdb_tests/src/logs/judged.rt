@@ -4,7 +4,9 @@ ghost use Rattle.std.specs.Prelude.{◌≡◌};
 
 use crate::logs::parts;
 use fdb_checks::same_text;
-use fdb_lines::{Alarm, AuditOpts, Finding, Line, Log, Watch, findings, findings_by_key};
+use fdb_lines::{
+    AuditOpts, Finding, Found, Late, Line, Log, Settled, Watch, findings, findings_by_key,
+};
 use fdb_log_reader::read_log;
 use std::alloc::{AllocError, Global};
 use std::test::Fail;
@@ -71,44 +73,52 @@ fn how_late_calls_are(rt: HostRuntime) -> Result<(), Fail> {
     Ok(())
 }
 
-/// What a watch tells of three lines, of which it is settled at moment 20 after two, and at 30 after all;
-/// and how it refuses a line.
+/// What a watch tells of three lines whose horizon is 5: it settles at moment 20 after two, at 30 after
+/// all, and then for good.
 fn watched(alloc: Global, lines: &[Line]) -> Result<String, AllocError> {
     let mut text = String::new(alloc);
     let [first, second, third] = lines else {
         return Ok(text);
     };
-    let mut watch = Watch::new(alloc, 0);
+    let mut watch = Watch::new(alloc, 0, 5);
     push_line(&mut text, &mut watch, *first)?;
     push_line(&mut text, &mut watch, *second)?;
-    push_alarms(&mut text, &watch.settle(alloc, 20)?)?;
+    push_told(&mut text, &watch.settle(alloc, 20)?)?;
     push_line(&mut text, &mut watch, *third)?;
-    push_alarms(&mut text, &watch.settle(alloc, 30)?)?;
+    push_told(&mut text, &watch.settle(alloc, 30)?)?;
+    push_told(&mut text, &watch.finish(alloc)?)?;
     Ok(text)
 }
 
-fn push_line(text: &mut String, watch: &mut Watch, line: Line) -> Result<(), AllocError>
-    ensures { watch.new.from ≡ watch.old.from }
-{
+fn push_line(text: &mut String, watch: &mut Watch, line: Line) -> Result<(), AllocError> {
     match watch.push(line) {
         Ok(()) => Ok(()),
         Err(error) => write!(text, "{error:?}; "),
     }
 }
 
-fn push_alarms(text: &mut String, alarms: &[Alarm]) -> Result<(), AllocError> {
-    for alarm in alarms {
-        write!(text, "{:?} {}; ", alarm.fault, alarm.line)?;
+fn push_told(text: &mut String, settled: &Settled) -> Result<(), AllocError> {
+    for finding in &settled.found {
+        let Found { line, fault } = finding.found;
+        write!(text, "{fault:?} {}", settled.number(line))?;
+        if let Some(Late { line, by }) = finding.late {
+            write!(text, " {by} after {}", settled.number(line))?;
+        }
+        text.push_str("; ")?;
     }
     Ok(())
 }
 
-/// Each line is told once, in its window, by its number among all. One that begins before what is settled is
-/// refused, and one that begins just then is not.
+/// Each line is told once, in its window, by its number among all, with how late it is: also of one that
+/// comes late, unless it began before the horizon, and of one that began when no later moment is. By a
+/// commit that is kept for an older one a read is late at least so much: 25 - 4, and not 25 - 2.
 const WATCHED: &str =
-    r#"{"client":"a","commit":200,"began":10,"ended":14}|{"client":"b","read":100,"began":15,"ended":16}|{"client":"b","read":150,"began":20,"ended":21} => Order 1; Order 2;
-{"client":"a","commit":200,"began":10,"ended":14}|{"client":"b","read":100,"began":15,"ended":16}|{"client":"b","read":150,"began":19,"ended":21} => Order 1; Early;
-{"client":"a","commit":9,"began":1,"ended":2}|{"client":"b","commit":8,"began":3,"ended":4}|{"client":"b","ask":9,"began":25,"ended":null} => NotAbove 1; NotAbove 2;
+    r#"{"client":"a","commit":200,"began":10,"ended":14}|{"client":"b","read":100,"began":15,"ended":16}|{"client":"b","read":150,"began":20,"ended":21} => Order 1 1 after 0; Order 2 6 after 0;
+{"client":"a","commit":200,"began":10,"ended":14}|{"client":"b","read":100,"began":15,"ended":16}|{"client":"b","read":150,"began":19,"ended":21} => Order 1 1 after 0; Order 2 5 after 0;
+{"client":"a","commit":200,"began":10,"ended":12}|{"client":"b","read":100,"began":15,"ended":16}|{"client":"b","read":150,"began":14,"ended":21} => Order 1 3 after 0;
+{"client":"a","commit":9,"began":1,"ended":2}|{"client":"b","commit":8,"began":3,"ended":4}|{"client":"b","ask":9,"began":25,"ended":null} => NotAbove 1 1 after 0; NotAbove 2 23 after 0;
+{"client":"a","commit":5,"began":1,"ended":2}|{"client":"a","commit":9,"began":3,"ended":4}|{"client":"b","read":3,"began":25,"ended":26} => Order 2 21 after 1;
+{"client":"a","commit":5,"began":1,"ended":2}|{"client":"a","commit":9,"began":3,"ended":4}|{"client":"b","read":3,"began":18446744073709551615,"ended":null} => Order 2 18446744073709551611 after 1;
 {"client":"a","commit":200}|{"client":"b","read":100}|{"client":"b","read":100} => NoTimes; NoTimes; NoTimes;"#;
 
 #[test]

@@ -12,7 +12,7 @@ returns-in_err-first c =
 
 pub returns-then-first-place : goal.returns-then-first-place
 returns-then-first-place c =
-    own_is (lines_of c.args.log.now) c.args.opts.now c.args.place c.args.fault c.in_ok-first.first c.args.log.now.alike c.requires.stands
+    own_is (lines_of c.args.log.now) c.args.opts.now c.args.place c.args.fault c.in_ok-first.first.place c.in_ok-first.first.time (λ untimed j lj. c.args.log.now.alike j lj ∙ untimed) c.requires.stands
     (rw c.in_ok-first.was at c.requires.first) c.if-first-place.true
 
 pub returns : goal.returns
@@ -22,4 +22,4 @@ returns c =
     let item = c.index-lines-place.result in
     let line : item ≡ line_at log.lines k = (rw c.lines.ensures at c.index-lines-place.is) ∙ get_or_default log.lines k item nobody c.requires.place in
     rw (c.saturating_sub.ensures, c.began.ensures, line)
-    (first_is log c.args.opts.now k c.args.fault c.in_ok-first.first c.args.log.now.alike c.requires.stands (rw c.in_ok-first.was at c.requires.first) c.if-first-place.false)
+    (first_is log c.args.opts.now k c.args.fault c.in_ok-first.first.place c.in_ok-first.first.time (λ untimed j lj. c.args.log.now.alike j lj ∙ untimed) c.requires.stands (rw c.in_ok-first.was at c.requires.first) c.if-first-place.false)

@@ -1,6 +1,7 @@
 use Rattle.std.proofs.Common.{◌≡◌, ◌++◌, ◌∷◌, [], length, ap, sym, subst, ◌∙◌, arith, length-append}
 use Rattle.fdb_lines.specs.Carried.{StandFor}
 use Rattle.fdb_lines.specs.Lines.{Lines, lines_in}
+use Rattle.fdb_lines.specs.Watch.{judged_from}
 use Rattle.fdb_lines.proofs.Carried.{and_one_more, one_more_is}
 use Rattle.fdb_lines.proofs.watch.Watch.push.Goals as goal
 
@@ -15,6 +16,6 @@ returns-clause-ok c = λ lines seen.
       kept =
           ap (λ (log : Lines). log.lines) c.in_default-push.ensures.ok.1
           ∙ (ap (λ part. part ++ line ∷ []) seen.kept
-          ∙ (sym (one_more_is watch.margin watch.from lines watch.numbers.items line seen.stand) ∙ ap (lines_in more) (sym numbers)));
-      stand = subst (StandFor watch.margin watch.from more) (sym numbers) (and_one_more watch.margin watch.from lines watch.numbers.items seen.stand line);
+          ∙ (sym (one_more_is watch.margin (judged_from watch) lines watch.numbers.items line seen.stand) ∙ ap (lines_in more) (sym numbers)));
+      stand = subst (StandFor watch.margin (judged_from watch) more) (sym numbers) (and_one_more watch.margin (judged_from watch) lines watch.numbers.items seen.stand line);
     }

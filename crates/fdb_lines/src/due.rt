@@ -1,0 +1,78 @@
+//! What an audit that watches tells of the lines that it keeps.
+
+ghost use Rattle.std.specs.Prelude.{◌≡◌, All, IfOk, length, map};
+ghost use Rattle.fdb_lines.specs.Audit.{case_of};
+ghost use Rattle.fdb_lines.specs.Late.{HasLate};
+ghost use Rattle.fdb_lines.specs.Log.{lines_of};
+ghost use Rattle.fdb_lines.specs.Reasons.{found_of, HasReason};
+ghost use Rattle.fdb_lines.specs.Watching.{begins_before};
+ghost use Rattle.fdb_lines.specs.private.Due.{due_at, is_due_by, told_below};
+
+use crate::fault::Fault;
+use crate::judging::add_finding;
+use crate::line::Line;
+use crate::log::Log;
+use crate::opts::AuditOpts;
+use crate::reason::Finding;
+use crate::tables_of::tables_of;
+use std::alloc::{AllocError, Global};
+
+/// Of which lines it is time to tell: those that began from a moment on and before another, if one
+/// is given; and of those whose number is not below one, as they came late, those that began from
+/// an earlier moment on.
+#[derive(Clone, Copy, Debug)]
+pub(crate) struct Due {
+    pub(crate) from: u64,
+    pub(crate) early: u64,
+    pub(crate) since: u64,
+    pub(crate) to: Option<u64>,
+}
+
+impl Due {
+    /// Whether it is time to tell of a line, by its number.
+    fn has(&self, number: u64, line: &Line) -> bool
+        ensures { result ≡ is_due_by self.now number line.now }
+    {
+        let began = line.began();
+        self.begins_before(line)
+            && (self.from <= began || self.since <= number && self.early <= began)
+    }
+
+    /// Whether a call began before the last moment, if there is one.
+    fn begins_before(&self, line: &Line) -> bool
+        ensures { result ≡ begins_before self.now.to line.now }
+    {
+        match self.to {
+            Some(to) => line.began() < to,
+            None => true,
+        }
+    }
+}
+
+/// The stale reads, and the versions that are not above what was known, at the lines of which it is
+/// time to tell, by their places in the log.
+pub(crate) fn findings_due(
+    alloc: Global,
+    log: &Log,
+    numbers: &[u64],
+    opts: &AuditOpts,
+    due: &Due,
+) -> Result<Vec<Finding>, AllocError>
+    requires { length numbers.now ≡ length (lines_of log.now).lines }
+    ensures told { let lines = (lines_of log.now).lines in IfOk result
+        (λ found. map found_of found.items ≡ told_below (due_at (is_due_by due.now) numbers.now lines)
+        (case_of (lines_of log.now) opts.now) (length lines)) }
+    ensures reasons { IfOk result
+        (λ found. All (HasReason (lines_of log.now) opts.now) found.items) }
+    ensures late { IfOk result (λ found. All (HasLate (lines_of log.now) opts.now) found.items) }
+{
+    let tables = tables_of(alloc, log, opts)?;
+    let mut found = Vec::new(alloc);
+    for place in 0..numbers.len() {
+        if due.has(numbers[place], &log.lines()[place]) {
+            add_finding(&mut found, &tables, log, opts, place, Fault::Order)?;
+            add_finding(&mut found, &tables, log, opts, place, Fault::NotAbove)?;
+        }
+    }
+    Ok(found)
+}
