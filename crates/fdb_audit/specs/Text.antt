@@ -1,5 +1,5 @@
 -- What is printed of a log and its faults. (this product's own)
-use Rattle.std.specs.Prelude.{ℕ, ◌+◌, ◌-◌, ◌++◌, ◌∷◌, ◌==◌, ◌&&◌, nat_lt, not, Bool, true, false, cond, List, [], Option, None, Some, codes, decimal, option_and_then, slice_get, slice_index_or}
+use Rattle.std.specs.Prelude.{ℕ, ◌+◌, ◌-◌, ◌++◌, ◌∷◌, ◌==◌, ◌&&◌, nat_lt, not, Bool, true, false, cond, List, [], Option, None, Some, codes, decimal, slice_get}
 use Rattle.std.specs.List.{flat_map}
 use Rattle.fdb_lines.specs.declared.act.Act.{Act}
 use Rattle.fdb_lines.specs.declared.act.Act.TheVariants.{Asks, Reports, Reads}
