@@ -1,5 +1,5 @@
 -- The members that a text names, and those that are printed beside the calls.
-use Rattle.std.proofs.Common.{◌≡◌, ◌≢◌, ◌∙◌, ℕ, ◌<◌, ◌+◌, ◌==◌, false, List, [], ◌∷◌, ◌++◌, append_assoc, ap, arith, get_or, length, refl, slice_index_or, sym, subst, suc, take, zero}
+use Rattle.std.proofs.Common.{◌≡◌, ◌≢◌, ◌∙◌, ℕ, ◌<◌, ◌+◌, false, List, [], ◌∷◌, ◌++◌, ap, arith, get_or, length, refl, slice_index_or, suc, take, zero}
 use Rattle.std.proofs.lemmas.Bool.Decides.{nat_tests}
 use Rattle.std.proofs.lemmas.Grind.{common_steps}
 use Rattle.std.specs.List.{slice_split}

@@ -4,7 +4,7 @@ use Rattle.std.specs.List.{flat_map}
 use Rattle.fdb_lines.specs.declared.reason.Finding.{Finding}
 use Rattle.fdb_lines.specs.Lines.{line_at}
 use Rattle.fdb_audit.specs.Objects.{name_or_number, text_or_null}
-use Rattle.fdb_audit.specs.Text.{Beside, Shown, client_text, line, owner_of}
+use Rattle.fdb_audit.specs.Text.{Beside, PrintedLog, client_text, line, owner_of}
 use Rattle.fdb_audit.specs.Totals.{kinds, value_of}
 
 -- What faults are grouped by: of which group a line is, and how a group is named, in words and in an object.
@@ -47,7 +47,7 @@ client_or_null names (Some client) = codes "\"client\":" ++ name_or_number clien
 abbrev pub value_or_null : Beside → Option ℕ → List ℕ
 value_or_null it group = codes "\"members\":{" ++ it.member ++ codes ":" ++ text_or_null (value_of it group) ++ codes "}"
 
-abbrev pub by_client : Shown → Grouping
+abbrev pub by_client : PrintedLog → Grouping
 by_client it = record { owner = λ place. (line_at it.lines place).client; words = client_words it.names; field = client_or_null it.names }
 
 abbrev pub by_member : Beside → Grouping
@@ -78,5 +78,5 @@ AreMostOfEach json [] found text = text ≡ []
 AreMostOfEach json (by ∷ more) found text =
     (first : List ℕ) × AreMost json by found first × (rest : List ℕ) × AreMostOfEach json more found rest × (text ≡ first ++ rest)
 
-abbrev pub groupings : Shown → List Grouping
+abbrev pub groupings : PrintedLog → List Grouping
 groupings it = by_client it ∷ map by_member it.beside

@@ -21,7 +21,7 @@ use Rattle.fdb_log_reader.specs.Printed.{printed}
 use Rattle.fdb_log_reader.specs.Reading.{Reading, reading_with}
 use Rattle.fdb_audit.specs.Groups.{groupings, AreMostOfEach}
 use Rattle.fdb_audit.specs.Objects.{fault_objects, text_or_null, total_object, turn_objects}
-use Rattle.fdb_audit.specs.Text.{Beside, Shown, counts_text, history_lines, line, listing_text, owner_of, summary_text}
+use Rattle.fdb_audit.specs.Text.{Beside, PrintedLog, counts_text, history_lines, line, listing_text, owner_of, summary_text}
 use Rattle.fdb_audit.specs.Totals.{faults_line, value_of}
 use Rattle.fdb_audit.specs.declared.judging.Wanted.{Wanted}
 
@@ -79,7 +79,7 @@ pub record AreOrders (log : Lines) (keys : List (Option ℕ)) (opts : AuditOpts)
 
 -- ---- what is printed: sentences, or JSON objects
 
-abbrev pub turns_text : Bool → Shown → List ℕ → List Turn → List ℕ
+abbrev pub turns_text : Bool → PrintedLog → List ℕ → List Turn → List ℕ
 turns_text false it key turns = history_lines it key 0 turns
 turns_text true it key turns = turn_objects it key 0 turns
 
@@ -89,11 +89,11 @@ key_text json [] key = []
 key_text false (it ∷ more) key = owner_of it key
 key_text true (it ∷ more) key = codes ",\"key\":" ++ text_or_null (value_of it key)
 
-abbrev pub orders_text : Bool → Shown → List KeyOrder → List ℕ
+abbrev pub orders_text : Bool → PrintedLog → List KeyOrder → List ℕ
 orders_text json it orders = flat_map (λ order. turns_text json it (key_text json it.beside order.key) order.turns.items) orders
 
 -- an order that explains the lines, if it is wanted
-abbrev pub IsHistory : Lines → Shown → Option (List (Option ℕ)) → AuditOpts → Wanted → Bool → List ℕ → Type 0
+abbrev pub IsHistory : Lines → PrintedLog → Option (List (Option ℕ)) → AuditOpts → Wanted → Bool → List ℕ → Type 0
 IsHistory log it keys opts wanted false text = text ≡ []
 IsHistory log it None opts wanted true text =
     (turns : List Turn) × IsOrderOf (case_of log opts) turns × (text ≡ turns_text wanted.json it [] turns)
@@ -101,12 +101,12 @@ IsHistory log it (Some keys) opts wanted true text =
     (orders : List KeyOrder) × AreOrders log keys opts orders × (text ≡ orders_text wanted.json it orders)
 
 -- how much was judged
-abbrev pub total_line : Bool → Shown → Option (List (Option ℕ)) → AuditOpts → Summary → List ℕ
+abbrev pub total_line : Bool → PrintedLog → Option (List (Option ℕ)) → AuditOpts → Summary → List ℕ
 total_line false it keys opts counts = codes "audit total" ++ counts_text counts
 total_line true it keys opts counts = total_object opts (is_some keys) it.beside counts
 
 -- What is printed where no fault stands: how much that stands on, and an order that explains the lines if it is wanted.
-abbrev pub head_text : Bool → Shown → Option (List (Option ℕ)) → AuditOpts → Summary → List ℕ
+abbrev pub head_text : Bool → PrintedLog → Option (List (Option ℕ)) → AuditOpts → Summary → List ℕ
 head_text false it keys opts counts = line (summary_text counts)
 head_text true it keys opts counts = line (total_line true it keys opts counts) ++ line (faults_line true [])
 
@@ -114,17 +114,17 @@ abbrev pub passed_text : Bool → List ℕ → List ℕ → List ℕ
 passed_text false head history = head ++ history
 passed_text true head history = history ++ head
 
-abbrev pub IsPassed : Lines → Shown → Option (List (Option ℕ)) → AuditOpts → Wanted → List ℕ → Type 0
+abbrev pub IsPassed : Lines → PrintedLog → Option (List (Option ℕ)) → AuditOpts → Wanted → List ℕ → Type 0
 IsPassed log it keys opts wanted text =
     (counts : Summary) × IsSummary log keys opts counts × (history : List ℕ) × IsHistory log it keys opts wanted wanted.history history
     × (text ≡ passed_text wanted.json (head_text wanted.json it keys opts counts) history)
 
-abbrev pub list_text : Bool → Shown → List Finding → List ℕ
+abbrev pub list_text : Bool → PrintedLog → List Finding → List ℕ
 list_text false it found = listing_text it found
 list_text true it found = fault_objects it found
 
 -- the faults that are listed: all, or the first alone, or none where the totals alone are wanted
-abbrev pub IsListing : Lines → Shown → Option (List (Option ℕ)) → AuditOpts → Wanted → Bool → Bool → Found → List ℕ → Type 0
+abbrev pub IsListing : Lines → PrintedLog → Option (List (Option ℕ)) → AuditOpts → Wanted → Bool → Bool → Found → List ℕ → Type 0
 IsListing log it keys opts wanted true totals first text =
     (found : List Finding) × AreAll log keys opts found × (text ≡ list_text wanted.json it found)
 IsListing log it keys opts wanted false true first text = text ≡ []
@@ -133,7 +133,7 @@ IsListing log it keys opts wanted false false first text =
     × (text ≡ list_text wanted.json it (finding ∷ []))
 
 -- how much was judged and how many faults were found, in all and of the groups with most, if that is wanted
-abbrev pub AreTotals : Lines → Shown → Option (List (Option ℕ)) → AuditOpts → Wanted → Bool → List ℕ → Type 0
+abbrev pub AreTotals : Lines → PrintedLog → Option (List (Option ℕ)) → AuditOpts → Wanted → Bool → List ℕ → Type 0
 AreTotals log it keys opts wanted false text = text ≡ []
 AreTotals log it keys opts wanted true text =
     (found : List Finding) × AreAll log keys opts found × (counts : Summary) × IsSummary log keys opts counts
@@ -141,13 +141,13 @@ AreTotals log it keys opts wanted true text =
     × (text ≡ line (total_line wanted.json it keys opts counts) ++ line (faults_line wanted.json found) ++ groups)
 
 -- What is printed where faults stand: those that are listed, each with a reason that is true of the lines, and totals.
-abbrev pub IsFaulted : Lines → Shown → Option (List (Option ℕ)) → AuditOpts → Wanted → Found → List ℕ → Type 0
+abbrev pub IsFaulted : Lines → PrintedLog → Option (List (Option ℕ)) → AuditOpts → Wanted → Found → List ℕ → Type 0
 IsFaulted log it keys opts wanted first text =
     (listing : List ℕ) × IsListing log it keys opts wanted wanted.all wanted.totals first listing
     × (totals : List ℕ) × AreTotals log it keys opts wanted wanted.totals totals × (text ≡ listing ++ totals)
 
 -- What an audit of a log finds, and prints: no fault, exactly where some history explains the lines; or the first fault.
-abbrev pub IsTextOf : Lines → Shown → Option (List (Option ℕ)) → AuditOpts → Wanted → Option Found → List ℕ → Type 0
+abbrev pub IsTextOf : Lines → PrintedLog → Option (List (Option ℕ)) → AuditOpts → Wanted → Option Found → List ℕ → Type 0
 IsTextOf log it keys opts wanted None text = AreExplainedIn log keys opts × IsPassed log it keys opts wanted text
 IsTextOf log it keys opts wanted (Some first) text =
     (¬ (AreExplainedIn log keys opts)) × (slice_get (faults_in log keys opts) 0 ≡ Some first)
@@ -183,7 +183,7 @@ AreBeside (column ∷ columns) [] = ⊥
 AreBeside (column ∷ columns) (it ∷ more) = IsBeside column it × AreBeside columns more
 
 -- what is printed of a log that was read: its clients are JSON strings, safe on a terminal and within a line
-abbrev pub print_of : Reading → List Beside → Shown
+abbrev pub print_of : Reading → List Beside → PrintedLog
 print_of reading shown = record { lines = reading.log.lines; names = map printed reading.names; beside = keys_beside reading.keys ++ shown }
 
 abbrev pub IsTextOfReading : Reading → AuditOpts → Wanted → Option Found → List ℕ → Type 0

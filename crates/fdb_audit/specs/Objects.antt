@@ -20,7 +20,7 @@ use Rattle.fdb_lines.specs.declared.turn.Turn.{Turn}
 use Rattle.fdb_lines.specs.declared.summed.Summary.{Summary}
 use Rattle.fdb_lines.specs.Lines.{line_at}
 use Rattle.fdb_log_reader.specs.Columns.{text_at}
-use Rattle.fdb_audit.specs.Text.{Beside, Shown, line}
+use Rattle.fdb_audit.specs.Text.{Beside, PrintedLog, line}
 
 -- a number, or null
 abbrev pub number_or_null : Option ℕ → List ℕ
@@ -65,7 +65,7 @@ members_field [] place = []
 members_field (it ∷ more) place =
     codes ",\"members\":{" ++ member_field it place ++ flat_map (λ other. codes "," ++ member_field other place) more ++ codes "}"
 
-abbrev pub line_object : Shown → ℕ → List ℕ
+abbrev pub line_object : PrintedLog → ℕ → List ℕ
 line_object it place =
     let this = line_at it.lines place in
     codes "{\"line\":" ++ decimal (place + 1) ++ client_field it.names this.client ++ call_field it.names this.call
@@ -73,20 +73,20 @@ line_object it place =
 
 -- ---- a fault
 
-abbrev pub means_field : Shown → Means → List ℕ
+abbrev pub means_field : PrintedLog → Means → List ℕ
 means_field it Ended = codes ",\"means\":\"ended\""
 means_field it Own = codes ",\"means\":\"own\""
 means_field it (Learnt teller) = codes ",\"means\":\"learnt\",\"teller\":" ++ line_object it teller
 
-abbrev pub by_field : Shown → Option Witness → List ℕ
+abbrev pub by_field : PrintedLog → Option Witness → List ℕ
 by_field it None = codes ",\"by\":null"
 by_field it (Some by) = codes ",\"by\":" ++ line_object it by.line ++ means_field it by.means
 
-abbrev pub reported_field : Shown → ℕ → ℕ → Option Witness → List ℕ
+abbrev pub reported_field : PrintedLog → ℕ → ℕ → Option Witness → List ℕ
 reported_field it reporter version by =
     codes ",\"reason\":\"reported\",\"reported\":" ++ line_object it reporter ++ codes ",\"known\":" ++ decimal version ++ by_field it by
 
-abbrev pub reason_field : Shown → Reason → List ℕ
+abbrev pub reason_field : PrintedLog → Reason → List ℕ
 reason_field it (Known version by) = codes ",\"reason\":\"known\",\"known\":" ++ decimal version ++ by_field it by
 reason_field it Unreported = codes ",\"reason\":\"unreported\""
 reason_field it (Reported reporter version by) = reported_field it reporter version by
@@ -94,7 +94,7 @@ reason_field it (Drawn other) = codes ",\"reason\":\"drawn\",\"drawn\":" ++ line
 reason_field it Undrawn = codes ",\"reason\":\"undrawn\""
 
 -- how late a call was, and the line that first let be known what made it late
-abbrev pub late_field : Shown → Option Late → List ℕ
+abbrev pub late_field : PrintedLog → Option Late → List ℕ
 late_field it None = []
 late_field it (Some late) = codes ",\"late\":" ++ decimal late.by ++ codes ",\"first\":" ++ line_object it late.line
 
@@ -105,12 +105,12 @@ fault_word NotAbove = codes "NotAbove"
 fault_word Twice = codes "Twice"
 fault_word Stray = codes "Stray"
 
-abbrev pub fault_object : Shown → Finding → List ℕ
+abbrev pub fault_object : PrintedLog → Finding → List ℕ
 fault_object it finding =
     codes "{\"fault\":\"" ++ fault_word finding.found.fault ++ codes "\",\"at\":" ++ line_object it finding.found.line
     ++ late_field it finding.late ++ reason_field it finding.reason ++ codes "}"
 
-abbrev pub fault_objects : Shown → List Finding → List ℕ
+abbrev pub fault_objects : PrintedLog → List Finding → List ℕ
 fault_objects it found = flat_map (λ finding. line (fault_object it finding)) found
 
 -- ---- an order
@@ -121,7 +121,7 @@ act_field (Reports version) = codes ",\"report\":" ++ decimal version
 act_field (Reads version) = codes ",\"read\":" ++ decimal version
 
 -- the line whose turn it is; null for others
-abbrev pub turn_field : Shown → Option ℕ → List ℕ
+abbrev pub turn_field : PrintedLog → Option ℕ → List ℕ
 turn_field it None = codes ",\"at\":null"
 turn_field it (Some place) = codes ",\"at\":" ++ line_object it place
 
@@ -132,10 +132,10 @@ shared_field key shared = key ++ codes ",\"shared\":" ++ truth shared ++ codes "
 abbrev pub acted_field : ℕ → Act → List ℕ
 acted_field number act = codes "{\"history\":" ++ decimal number ++ act_field act
 
-abbrev pub turn_object : Shown → List ℕ → ℕ → Turn → List ℕ
+abbrev pub turn_object : PrintedLog → List ℕ → ℕ → Turn → List ℕ
 turn_object it key number turn = acted_field number turn.act ++ turn_field it turn.line ++ shared_field key turn.shared
 
-abbrev pub turn_objects : Shown → List ℕ → ℕ → List Turn → List ℕ
+abbrev pub turn_objects : PrintedLog → List ℕ → ℕ → List Turn → List ℕ
 turn_objects it key number [] = []
 turn_objects it key number (turn ∷ turns) = line (turn_object it key number turn) ++ turn_objects it key (number + 1) turns
 

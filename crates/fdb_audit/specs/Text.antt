@@ -1,5 +1,5 @@
 -- What is printed of a log and its faults. (this product's own)
-use Rattle.std.specs.Prelude.{ℕ, ◌+◌, ◌-◌, ◌++◌, ◌∷◌, ◌==◌, ◌&&◌, nat_lt, not, Bool, true, false, cond, List, [], Option, None, Some, codes, decimal, option_and_then, slice_get, slice_index_or}
+use Rattle.std.specs.Prelude.{ℕ, ◌+◌, ◌-◌, ◌++◌, ◌∷◌, ◌==◌, ◌&&◌, nat_lt, not, Bool, true, false, cond, List, [], Option, None, Some, codes, decimal, slice_get}
 use Rattle.std.specs.List.{flat_map}
 use Rattle.fdb_lines.specs.declared.act.Act.{Act}
 use Rattle.fdb_lines.specs.declared.act.Act.TheVariants.{Asks, Reports, Reads}
@@ -33,7 +33,7 @@ pub record Beside : Type 0 where
   pub numbers : List (Option ℕ)
 
 -- the lines, the names of their clients by number, and the members that are printed beside the calls
-pub record Shown : Type 0 where
+pub record PrintedLog : Type 0 where
   pub lines : List Line
   pub names : List (List ℕ)
   pub beside : List Beside
@@ -82,7 +82,7 @@ whose_text names (Some client) = client_text names client ++ codes ", "
 abbrev pub number_text : ℕ → List ℕ
 number_text place = codes "line " ++ decimal (place + 1)
 
-abbrev pub mention : Shown → ℕ → List ℕ
+abbrev pub mention : PrintedLog → ℕ → List ℕ
 mention it place =
     let this = line_at it.lines place in
     number_text place ++ codes " (" ++ whose_text it.names this.client ++ call_text this.call
@@ -99,18 +99,18 @@ abbrev pub wait_text : ℕ → ℕ → List ℕ
 wait_text place wait = codes " had ended " ++ decimal wait ++ codes " before " ++ number_text place ++ codes " began"
 
 -- that a line had ended before the call at a place began, and how long
-abbrev pub ended_text : Shown → ℕ → ℕ → List ℕ
+abbrev pub ended_text : PrintedLog → ℕ → ℕ → List ℕ
 ended_text it place other =
     mention it other ++ wait_text place (since (ended (line_at it.lines other)) (began (line_at it.lines place)))
 
 -- how the call at a place knew of a line
-abbrev pub means_text : Shown → ℕ → ℕ → Means → List ℕ
+abbrev pub means_text : PrintedLog → ℕ → ℕ → Means → List ℕ
 means_text it place other Ended = ended_text it place other
 means_text it place other Own = mention it other ++ codes " is an earlier call of its client"
 means_text it place other (Learnt teller) = number_text teller ++ codes " had learnt of " ++ mention it other
 
 -- how the call at a place knew of a version
-abbrev pub known_text : Shown → ℕ → ℕ → Option Witness → List ℕ
+abbrev pub known_text : PrintedLog → ℕ → ℕ → Option Witness → List ℕ
 known_text it place version None = codes "all began with " ++ decimal version
 known_text it place version (Some by) = means_text it place by.line by.means
 
@@ -139,7 +139,7 @@ is_told place (Some by) = had_ended by.means && by.line == place
 
 -- How late a call was, and after which line: the first that let be known what made it late. Nothing where no such line
 -- had ended before, or where that line is told anyhow.
-abbrev pub late_text : Shown → ℕ → Option Late → Option Witness → List ℕ
+abbrev pub late_text : PrintedLog → ℕ → Option Late → Option Witness → List ℕ
 late_text it place None by = codes ", but "
 late_text it place (Some late) by =
     cond (nat_lt 0 late.by && not (is_told late.line by))
@@ -147,7 +147,7 @@ late_text it place (Some late) by =
     (codes ", but ")
 
 -- a clause of plain English, behind what the caller of the line at a place did
-abbrev pub reason_text : Shown → ℕ → Option Late → Reason → List ℕ
+abbrev pub reason_text : PrintedLog → ℕ → Option Late → Reason → List ℕ
 reason_text it place late (Known version by) =
     late_text it place late by ++ decimal version ++ codes " was known: " ++ known_text it place version by
 reason_text it place late Unreported = codes ", which nobody reported"
@@ -161,7 +161,7 @@ reason_text it place late (Drawn other) =
     (codes ", which " ++ mention it other ++ codes " drew")
 reason_text it place late Undrawn = codes ", which nobody drew"
 
-abbrev pub sentence_text : Shown → ℕ → Option Late → Reason → List ℕ
+abbrev pub sentence_text : PrintedLog → ℕ → Option Late → Reason → List ℕ
 sentence_text it place late reason =
     let this = line_at it.lines place in
     caller_text it.names this.client ++ deed_text this.call ++ members_text it.beside place ++ reason_text it place late reason
@@ -169,13 +169,13 @@ sentence_text it place late reason =
 -- ---- a fault, on a line of its own
 
 -- a fault by its name and line, and why it stands
-abbrev pub finding_text : Shown → Finding → List ℕ
+abbrev pub finding_text : PrintedLog → Finding → List ℕ
 finding_text it finding =
     codes "audit fault: " ++ found_text finding.found ++ codes ": "
     ++ sentence_text it finding.found.line finding.late finding.reason
 
 -- a line for each of some faults
-abbrev pub listing_text : Shown → List Finding → List ℕ
+abbrev pub listing_text : PrintedLog → List Finding → List ℕ
 listing_text it found = flat_map (λ finding. line (finding_text it finding)) found
 
 -- ---- a log without a fault: how much that stands on, and an order
@@ -215,7 +215,7 @@ owner_text names None = []
 owner_text names (Some client) = codes " " ++ client_text names client
 
 -- whose turn it is: of a line, with its client where that is known, or of others, with the key of the lines that are in order
-abbrev pub turn_owner : Shown → List ℕ → Option ℕ → List ℕ
+abbrev pub turn_owner : PrintedLog → List ℕ → Option ℕ → List ℕ
 turn_owner it key None = codes " others" ++ key
 turn_owner it key (Some place) =
     codes " " ++ number_text place ++ owner_text it.names (line_at it.lines place).client ++ members_text it.beside place
@@ -224,11 +224,11 @@ abbrev pub shared_text : Bool → List ℕ
 shared_text true = codes " shared"
 shared_text false = []
 
-abbrev pub turn_line : Shown → List ℕ → ℕ → Turn → List ℕ
+abbrev pub turn_line : PrintedLog → List ℕ → ℕ → Turn → List ℕ
 turn_line it key number turn =
     codes "history " ++ decimal number ++ codes " " ++ act_text turn.act ++ turn_owner it key turn.line ++ shared_text turn.shared
 
 -- a line for each turn of an order, counted on from a number
-abbrev pub history_lines : Shown → List ℕ → ℕ → List Turn → List ℕ
+abbrev pub history_lines : PrintedLog → List ℕ → ℕ → List Turn → List ℕ
 history_lines it key number [] = []
 history_lines it key number (turn ∷ turns) = line (turn_line it key number turn) ++ history_lines it key (number + 1) turns

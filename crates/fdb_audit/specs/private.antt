@@ -6,7 +6,7 @@ use Rattle.fdb_lines.specs.Lines.{Lines}
 use Rattle.fdb_lines.specs.Log.{lines_of}
 use Rattle.fdb_lines.specs.Turns.{IsOrderOf}
 use Rattle.fdb_audit.specs.Groups.{by_client, by_member, number_of, Grouping}
-use Rattle.fdb_audit.specs.Text.{Beside, Shown}
+use Rattle.fdb_audit.specs.Text.{Beside, PrintedLog}
 use Rattle.fdb_log_reader.specs.Columns.{HasCells}
 use Rattle.fdb_log_reader.specs.Reading.{Reading}
 use Rattle.fdb_audit.specs.Judged.{orders_text, turns_text, AreOrders}
@@ -22,7 +22,7 @@ use Rattle.fdb_audit.specs.declared.view.View.{View}
 abbrev pub beside_of : MemberBeside → Beside
 beside_of it = record { member = string_bytes it.member; texts = map string_bytes it.texts.items; numbers = it.numbers.now }
 
-abbrev pub shown_in : View → Shown
+abbrev pub shown_in : View → PrintedLog
 shown_in view = record {
   lines = (lines_of view.log.now).lines;
   names = map string_bytes view.names.now;
@@ -48,7 +48,7 @@ HasOrders log None opts (ByKey orders) = ⊥
 HasOrders log (Some keys) opts (One turns) = ⊥
 HasOrders log (Some keys) opts (ByKey orders) = AreOrders log keys opts orders.items
 
-abbrev pub order_text : Bool → Shown → Order → List ℕ
+abbrev pub order_text : Bool → PrintedLog → Order → List ℕ
 order_text json it (One turns) = turns_text json it [] turns.items
 order_text json it (ByKey orders) = orders_text json it orders.items
 

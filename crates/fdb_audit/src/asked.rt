@@ -1,12 +1,10 @@
 //! What is asked of a log, and what is found: of all lines together, or by key.
 
-ghost use Rattle.std.specs.Prelude.{◌≡◌, ◌↔◌, All, IfErr, IfOk, IfSome, List, None, OnErr, OnOk};
-ghost use Rattle.std.specs.Prelude.{Option};
-ghost use Rattle.std.specs.Prelude.{is_some, length, map, option_map, slice_get};
-ghost use Rattle.fdb_lines.specs.Log.{lines_of};
+ghost use Rattle.std.specs.Prelude.{◌≡◌, ◌↔◌, All, IfErr, IfOk, IfSome, None, OnErr, OnOk, Option};
+ghost use Rattle.std.specs.Prelude.{length, map, option_map, slice_get};
 ghost use Rattle.fdb_lines.specs.Reasons.{found_of};
-ghost use Rattle.fdb_audit.specs.Judged.{faults_in, AreExplainedIn, AreOrders, HasLateIn};
-ghost use Rattle.fdb_audit.specs.Judged.{HasReasonIn, IsSummary};
+ghost use Rattle.fdb_audit.specs.Judged.{faults_in, AreExplainedIn, HasLateIn, HasReasonIn};
+ghost use Rattle.fdb_audit.specs.Judged.{IsSummary};
 ghost use Rattle.fdb_audit.specs.private.{keys_in, log_in, HasKeys, HasOrders};
 
 use crate::view::View;
@@ -33,13 +31,6 @@ pub(crate) enum Order {
 }
 
 impl Asked<'_> {
-    /// Whether each key is judged by itself.
-    pub(crate) fn is_by_key(self) -> bool
-        ensures { result ≡ is_some (keys_in self.entry) }
-    {
-        self.keys.is_some()
-    }
-
     /// All faults.
     pub(crate) fn findings(self, alloc: Global) -> Result<Vec<Finding>, AllocError>
         requires { HasKeys self }

@@ -2,10 +2,9 @@
 
 ghost use Rattle.std.specs.Prelude.{◌≡◌, ◌++◌, IfOk, None, OnOk, Option, false, map, string_bytes};
 ghost use Rattle.std.specs.Prelude.{true};
-ghost use Rattle.std.specs.List.{flat_map};
 ghost use Rattle.fdb_audit.specs.Judged.{head_text, key_text, orders_text, passed_text};
 ghost use Rattle.fdb_audit.specs.Judged.{total_line, turns_text};
-ghost use Rattle.fdb_audit.specs.Judged.{AreExplainedIn, IsPassed, IsSummary};
+ghost use Rattle.fdb_audit.specs.Judged.{IsPassed, IsSummary};
 ghost use Rattle.fdb_audit.specs.Text.{line};
 ghost use Rattle.fdb_audit.specs.private.{beside_of, keys_in, log_in, order_text, shown_in};
 ghost use Rattle.fdb_audit.specs.private.{HasKeys, HasOrders};

@@ -1,6 +1,9 @@
 -- The places of names, and the table of their numbers.
-use Rattle.std.proofs.Common.{◌≡◌, ℕ, ◌+◌, ◌<◌, Bool, true, false, cond, nat_lt, List, [], ◌∷◌, ◌++◌, length, map, Option, None, Some, IfSome, refl, ap, sym, ◌∙◌, arith, ltb-true}
+use Rattle.std.proofs.Common.{◌≡◌, ◌≢◌, ℕ, ◌+◌, ◌<◌, ◌≤◌, Bool, true, false, cond, nat_lt, List, [], ◌∷◌, ◌++◌, length, map, slice_index_or, Option, None, Some, IfSome, is_some, refl, ap, sym, subst, ◌∙◌, arith, ltb-true, ltb-false}
+use Rattle.std.proofs.lemmas.Bool.{false≢true}
 use Rattle.std.proofs.lemmas.List.{length-map, map-append}
+use Rattle.std.proofs.lemmas.List.Quantifiers.{all_pairs_push}
+use Rattle.std.proofs.lemmas.List.Sums.{fails_before_first}
 use Rattle.std.proofs.lemmas.Map.Text.{btree_map_updates_text}
 use Rattle.std.specs.BTreeMap.{BTreeMap, Updates, get_by_text}
 use Rattle.std.specs.Prelude.{String}
@@ -11,6 +14,7 @@ use Rattle.std.proofs.lemmas.Slice.Eq.{bytes_eq-Decides}
 use Rattle.std.specs.List.{position_from, position_or_len}
 use Rattle.std.specs.Option.{option_or}
 use Rattle.std.specs.Str.{bytes_eq}
+use Rattle.json.specs.Strict.{AreDistinct}
 use Rattle.fdb_log_reader.specs.Numbers.{number_in}
 
 -- whether an element with one more at the end is found
@@ -85,3 +89,24 @@ numbered_more old new texts text key numbered none keyed updates q =
     ∙ (ap (λ n. cond (bytes_eq (string_bytes text) q) (Some n) (number_in (map string_bytes texts) q)) (sym (length-map texts string_bytes))
     ∙ (sym (number_added (map string_bytes texts) (string_bytes text) q none)
     ∙ ap (λ names. number_in names q) (sym (map-append string_bytes texts (text ∷ [])))))))
+
+none_behind : (k count : ℕ) → cond (nat_lt k count) (Some k) None ≡ None → count ≤ k
+none_behind k count = elim (nat_lt k count) as (λ b. nat_lt k count ≡ b → cond b (Some k) None ≡ None → count ≤ k) [
+  | true ↦ λ _ none. absurd (false≢true (sym (ap is_some none)))
+  | false ↦ λ e _. ltb-false k count e
+] refl
+
+-- a name that has no number is none of the names
+differs : (names : List (List ℕ)) (name : List ℕ) (k : ℕ) (d : List ℕ) → number_in names name ≡ None → k < length names
+    → slice_index_or names k d ≡ name → ⊥
+differs names name k d none within same =
+    let behind = none_behind (position_or_len (bytes_eq name) names) (length names) none in
+    let fails = fails_before_first (bytes_eq name) names k d (omega arith) in
+    false≢true (sym fails ∙ (ap (bytes_eq name) same ∙ bytes_eq_same name))
+
+-- texts of which each stands once are so still once a new one is added
+pub distinct_more : (texts : List (String Global)) (text : String Global) → number_in (map string_bytes texts) (string_bytes text) ≡ None
+    → AreDistinct (map string_bytes texts) → AreDistinct (map string_bytes (texts ++ text ∷ []))
+distinct_more texts text none distinct =
+    subst AreDistinct (sym (map-append string_bytes texts (text ∷ [])))
+    (all_pairs_push (λ a b. a ≢ b) (map string_bytes texts) (string_bytes text) distinct (λ k d within. differs (map string_bytes texts) (string_bytes text) k d none within))

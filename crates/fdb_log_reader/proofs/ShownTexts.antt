@@ -1,5 +1,5 @@
 -- What is shown of lines: texts that are added, and what their numbers say.
-use Rattle.std.proofs.Common.{◌≡◌, ℕ, ◌+◌, suc, zero, ◌<◌, ◌≤◌, Bool, true, false, List, [], ◌∷◌, ◌++◌, append-nil, length, length-append, map, take, drop, slice_get, slice_index_or, slice_set, Option, None, Some, IfSome, is_some, option_and_then, option_map, if◌then◌else◌, refl, ap, sym, subst, ◌∙◌, arith, Ordering, Less, Equal, Greater}
+use Rattle.std.proofs.Common.{◌≡◌, ℕ, ◌+◌, suc, zero, ◌<◌, ◌≤◌, Bool, true, false, List, [], ◌∷◌, ◌++◌, append-nil, length, length-append, map, take, drop, slice_get, slice_index_or, slice_set, Option, None, Some, IfSome, is_some, option_and_then, if◌then◌else◌, refl, ap, sym, subst, ◌∙◌, arith, Ordering, Less, Equal, Greater}
 use Rattle.std.proofs.Math.Seq.{set-append_seam, take-append_seam}
 use Rattle.std.proofs.lemmas.List.{get_or-map, length-map, map-append, map-set}
 use Rattle.std.proofs.lemmas.List.Quantifiers.{position-Some}
@@ -11,16 +11,20 @@ use Rattle.std.specs.Ordering.{match_ordering, nat_cmp}
 use Rattle.std.proofs.lemmas.Bool.{false≢true}
 use Rattle.std.specs.Option.{option_flatten}
 use Rattle.std.specs.Str.{bytes_eq}
+use Rattle.json.specs.Lex.{tokens}
+use Rattle.json.specs.Print.{print}
+use Rattle.json.specs.Strict.{AreDistinct}
 use Rattle.serde_json.specs.Data.{Data, Members, array, boolean, depth, member, members_depth, no_members, null, number, object, string}
 use Rattle.serde_json.specs.Find.{get, get_member}
 use Rattle.serde_json.specs.Read.{max_depth, read}
+use Rattle.serde_json.specs.Written.{compact_text, has_float}
 use Rattle.fdb_log_reader.specs.Columns.{ArePrinted, IsText, ShownColumn, all_shown, nothing_shown, shown_of, text_at, value_in, with_shown}
-use Rattle.fdb_log_reader.specs.Printed.{shown_text}
+use Rattle.fdb_log_reader.specs.Printed.{shown_text, IsWritten}
 use Rattle.fdb_log_reader.specs.declared.shown.Shown.{Shown}
-use Rattle.fdb_log_reader.specs.Numbers.{number_in, with_name}
+use Rattle.fdb_log_reader.specs.Numbers.{number_in, with_name, AreWithin}
 use Rattle.fdb_log_reader.specs.private.{HaveCells, IsFlat, IsMore}
 use Rattle.fdb_log_reader.proofs.Room.{few_names}
-use Rattle.fdb_log_reader.specs.private.Texts.{AreJson, AreWithin}
+use Rattle.fdb_log_reader.specs.private.Texts.{AreJson}
 
 pub more_names : (names more : List (List ℕ)) (name : List ℕ) → more ≡ with_name names name → IsMore names more
 more_names names more name is = subst (IsMore names) (sym is) (added (is_some (number_in names name)))
@@ -85,27 +89,29 @@ value_there texts text n said is reads =
     let found = position-Some (bytes_eq text) texts n [] is in
     ap (option_and_then read) (slice_get-get_or texts n [] found.0 ∙ ap Some (sym ((bytes_eq-Decides text (slice_index_or texts n [])).0 found.1))) ∙ reads
 
-one_json : (text : List ℕ) → is_some (read text) ≡ true → AreJson (text ∷ [])
-one_json text is zero d lt = is
-one_json text is (suc k) d lt = absurd (omega arith)
+one_json : (text : List ℕ) (said : Data) → read text ≡ Some said → IsWritten text said → AreJson (text ∷ [])
+one_json text said reads written zero d lt = (ap is_some reads, subst (λ found. IfSome found (IsWritten text)) (sym reads) written)
+one_json text said reads written (suc k) d lt = absurd (omega arith)
 
--- a text more that is read leaves all JSON
-pub more_json : (texts more : List (List ℕ)) (text : List ℕ) (said : Data) → more ≡ with_name texts text → read text ≡ Some said → AreJson texts → AreJson more
-more_json texts more text said is reads all = subst AreJson (sym is) (added (is_some (number_in texts text)))
+-- a text more that is written leaves all JSON
+pub more_json : (texts more : List (List ℕ)) (text : List ℕ) (said : Data) → more ≡ with_name texts text → read text ≡ Some said
+    → text ≡ print (tokens text) → (has_float said ≡ false → text ≡ compact_text said) → AreJson texts → AreJson more
+more_json texts more text said is reads compact one all = subst AreJson (sym is) (added (is_some (number_in texts text)))
   where
     added : (b : Bool) → AreJson (if b then texts else texts ++ text ∷ [])
     added true = all
-    added false = All-append (λ text. is_some (read text) ≡ true) texts (text ∷ []) all (one_json text (ap is_some reads))
+    added false = All-append (λ text. (is_some (read text) ≡ true) × IfSome (read text) (IsWritten text)) texts (text ∷ []) all (one_json text said reads (compact, one))
 
-value_of : (found : Option Data) → is_some found ≡ true → (value : Data) × (found ≡ Some value)
-value_of None is = absurd (false≢true is)
-value_of (Some value) is = (value, refl)
+value_of : (P : Data → Type 0) (found : Option Data) → is_some found ≡ true → IfSome found P → (value : Data) × (found ≡ Some value) × P value
+value_of P None is holds = absurd (false≢true is)
+value_of P (Some value) is holds = (value, refl, holds)
 
 there : (texts : List (List ℕ)) (n : ℕ) → n < length texts → AreJson texts → IsText (value_in texts (Some n)) (slice_get texts n)
 there texts n within all =
     let is = slice_get-get_or texts n [] within in
-    let said = value_of (read (slice_index_or texts n [])) (all n [] within) in
-    subst (λ text. IsText (option_and_then read text) text) (sym is) (said.0, said.1, said.1)
+    let text = slice_index_or texts n [] in
+    let said = value_of (IsWritten text) (read text) (all n [] within).0 (all n [] within).1 in
+    subst (λ text. IsText (option_and_then read text) text) (sym is) (said.0, said.1, said.1, said.2)
 
 -- what a line's text says
 text_says : (texts : List (List ℕ)) (cells : List (Option ℕ)) (line : ℕ) → AreJson texts → AreWithin texts cells
@@ -115,21 +121,11 @@ text_says texts (None ∷ cells) zero all within = refl
 text_says texts (Some n ∷ cells) zero all within = there texts n (within 0 None (omega arith)) all
 text_says texts (cell ∷ cells) (suc line) all within = text_says texts cells line all (λ k d lt. within (suc k) d (omega arith))
 
-get_map : (texts : List (List ℕ)) (n : ℕ) → slice_get (map shown_text texts) n ≡ option_map shown_text (slice_get texts n)
-get_map [] n = refl
-get_map (text ∷ texts) zero = refl
-get_map (text ∷ texts) (suc n) = get_map texts n
-
-at_map : (texts : List (List ℕ)) (number : Option ℕ)
-    → option_and_then (slice_get (map shown_text texts)) number ≡ option_map shown_text (option_and_then (slice_get texts) number)
-at_map texts None = refl
-at_map texts (Some n) = get_map texts n
-
 -- the texts as they are printed are what the lines say
-pub printed_say : (texts : List (List ℕ)) (cells : List (Option ℕ)) → AreJson texts → AreWithin texts cells
+pub printed_say : (texts : List (List ℕ)) (cells : List (Option ℕ)) → AreJson texts → AreDistinct texts → AreWithin texts cells
     → ArePrinted (map (value_in texts) cells) (map shown_text texts) cells
-printed_say texts cells all within line =
-    (text_at texts cells line, text_says texts cells line all within, at_map texts (option_flatten (slice_get cells line)))
+printed_say texts cells all distinct within =
+    record { json = texts; printed = refl; distinct = distinct; within = within; says = λ line. text_says texts cells line all within }
 
 -- ---- how many values a column has
 

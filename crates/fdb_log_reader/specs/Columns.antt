@@ -1,6 +1,7 @@
 -- Members that are kept beside the calls, a cell for each line. (this product's own)
 use Rattle.std.specs.Prelude.{◌≡◌, ℕ, List, [], ◌∷◌, ◌++◌, length, map, slice_get, string_bytes, Option, None, Some, IfSome, option_and_then, option_map, Result, Ok, Err, if◌then◌else◌}
 use Rattle.std.specs.Option.{ok_or, option_flatten}
+use Rattle.json.specs.Strict.{AreDistinct}
 use Rattle.serde_json.specs.Data.{Data}
 use Rattle.serde_json.specs.Read.{read}
 use Rattle.fdb_lines.specs.declared.line.Call.{Call}
@@ -12,8 +13,8 @@ use Rattle.fdb_log_reader.specs.declared.shown.Shown.{Shown}
 use Rattle.fdb_log_reader.specs.declared.member.Member.TheVariants.{Learn}
 use Rattle.fdb_log_reader.specs.Members.{and_then, as_name}
 use Rattle.fdb_log_reader.specs.Names.{names_of}
-use Rattle.fdb_log_reader.specs.Numbers.{client_in, with_client}
-use Rattle.fdb_log_reader.specs.Printed.{shown_text}
+use Rattle.fdb_log_reader.specs.Numbers.{client_in, with_client, AreWithin}
+use Rattle.fdb_log_reader.specs.Printed.{shown_text, IsWritten}
 
 -- the keys of lines: the member that names them, the keys in the order in which they came, and for each line the number
 -- of its key, if it has one
@@ -79,23 +80,23 @@ with_shown column said = record { member = column.member; values = column.values
 abbrev pub all_shown : (List ℕ → Option Data) → List ShownColumn → List ShownColumn
 all_shown says columns = map (λ column. with_shown column (says column.member)) columns
 
--- the JSON text of what a line says: it is read as that
+-- the JSON text of what a line says, without white space: it is read as that
 abbrev pub IsText : Option Data → Option (List ℕ) → Type 0
 IsText said None = said ≡ None
-IsText said (Some text) = (value : Data) × (said ≡ Some value) × (read text ≡ Some value)
-
--- What a line says, as it is printed: by a JSON text that is read as that, in which is escaped what steers a terminal,
--- parts the line or turns text round.
-abbrev pub IsPrinted : Option Data → Option (List ℕ) → Type 0
-IsPrinted said text = (json : Option (List ℕ)) × IsText said json × (text ≡ option_map shown_text json)
+IsText said (Some text) = (value : Data) × (said ≡ Some value) × (read text ≡ Some value) × IsWritten text value
 
 -- the text of the line at a place, if it has one
 abbrev pub text_at : List (List ℕ) → List (Option ℕ) → ℕ → Option (List ℕ)
 text_at texts numbers line = option_and_then (slice_get texts) (option_flatten (slice_get numbers line))
 
--- these texts are what the lines say, as it is printed, by the number that each has
-abbrev pub ArePrinted : List (Option Data) → List (List ℕ) → List (Option ℕ) → Type 0
-ArePrinted values texts numbers = (line : ℕ) → IsPrinted (option_flatten (slice_get values line)) (text_at texts numbers line)
+-- What lines say, as it is printed, by the number that each has: JSON texts, each once, in which is escaped what steers a
+-- terminal, parts the line or turns text round.
+pub record ArePrinted (values : List (Option Data)) (texts : List (List ℕ)) (numbers : List (Option ℕ)) : Type 0 where
+  pub json : List (List ℕ)
+  pub printed : texts ≡ map shown_text json
+  pub distinct : AreDistinct json
+  pub within : AreWithin json numbers
+  pub says : (line : ℕ) → IsText (option_flatten (slice_get values line)) (text_at json numbers line)
 
 -- ---- for each line a cell
 

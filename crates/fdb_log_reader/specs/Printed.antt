@@ -1,11 +1,14 @@
--- A name as it is printed: a JSON string that is safe on a terminal and within a line. (this product's own)
-use Rattle.std.specs.Prelude.{ℕ, Bool, ◌||◌, ◌==◌, List, [], ◌∷◌, ◌++◌, Option, codes, drop, flat_map, if◌then◌else◌}
+-- How names and values are printed: as JSON that is safe on a terminal and within a line. (this product's own)
+use Rattle.std.specs.Prelude.{◌≡◌, ℕ, Bool, false, ◌||◌, ◌==◌, List, [], ◌∷◌, ◌++◌, Option, codes, drop, flat_map, if◌then◌else◌}
 use Rattle.std.specs.Char.{encode_utf8, is_control}
 use Rattle.std.specs.Char.Escape.{hex_digit_at}
 use Rattle.std.specs.Int.{is_in_range}
 use Rattle.std.specs.Str.{chars}
-use Rattle.json.specs.Print.{quoted}
+use Rattle.json.specs.Lex.{tokens}
+use Rattle.json.specs.Print.{print, quoted}
 use Rattle.json.specs.Text.{content, plain}
+use Rattle.serde_json.specs.Data.{Data}
+use Rattle.serde_json.specs.Written.{compact_text, has_float}
 
 -- the line and paragraph separators
 abbrev pub is_separator : ℕ → Bool
@@ -39,3 +42,7 @@ printed name = shown_text (quoted name)
 -- what a JSON string stands for, behind its opening quote (RFC 8259, section 7)
 abbrev pub read_back : List ℕ → Option (List ℕ)
 read_back text = content plain (drop 1 text)
+
+-- a JSON text as `serde_json` writes a value: without white space, and one text alone where no float is in it
+abbrev pub IsWritten : List ℕ → Data → Type 0
+IsWritten text value = (text ≡ print (tokens text)) × (has_float value ≡ false → text ≡ compact_text value)

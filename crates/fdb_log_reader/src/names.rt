@@ -1,8 +1,9 @@
-//! The names of clients, and their numbers in the log.
+//! Names, each once, and their numbers: of clients, of keys, and of the texts that are shown.
 
 ghost use Rattle.std.specs.Prelude.{◌≡◌, ◌<◌, ℕ, List, [], IfOk, IfSome, OnErr, OnOk, Some, length};
 ghost use Rattle.std.specs.Prelude.{map, option_map, slice_get, string_bytes};
 ghost use Rattle.std.specs.BTreeMap.{get_by_text};
+ghost use Rattle.json.specs.Strict.{AreDistinct};
 ghost use Rattle.fdb_log_reader.specs.Numbers.{number_in, with_name};
 ghost use Rattle.fdb_log_reader.specs.Printed.{printed, read_back, shown_text};
 
@@ -10,7 +11,8 @@ use crate::printing::{printed_name, shown_text};
 use std::alloc::{AllocError, Global};
 use std::collections::BTreeMap;
 
-/// The names of the clients of a log. A client's number is the place of its name, counted from 0.
+/// The names of the clients of a log, or its keys or shown texts. The number of each is its place,
+/// counted from 0.
 #[derive(Drop)]
 pub struct Names {
     texts: Vec<String>,
@@ -18,6 +20,7 @@ pub struct Names {
     numbers: BTreeMap<String, usize>,
     ghost numbered: { (name : List ℕ)
         → get_by_text numbers name ≡ number_in (map string_bytes texts.items) name },
+    ghost distinct: { AreDistinct (map string_bytes texts.items) },
 }
 
 impl Names {
@@ -94,7 +97,7 @@ impl Names {
     }
 
     /// The number of the client of a name, which is added unless it is there.
-    #[tactic(auto, using(crate::proofs::Naming::numbered_more, crate::proofs::Naming::number_there))]
+    #[tactic(auto, using(crate::proofs::Naming::numbered_more, crate::proofs::Naming::distinct_more, crate::proofs::Naming::number_there))]
     pub(crate) fn add(&mut self, alloc: Global, name: &str) -> Result<usize, AllocError>
         ensures added { OnOk result (names_of self.new ≡ with_name (names_of self.old) name.now) }
         ensures number { IfOk result

@@ -1,14 +1,15 @@
 //! What a further member of each line says, to be shown beside the line.
 
-ghost use Rattle.std.specs.Prelude.{◌≡◌, ◌≤◌, ◌<◌, IfOk, IfSome, OnOk, length, option_and_then};
-ghost use Rattle.std.specs.Prelude.{map, option_map, slice_get, string_bytes};
+ghost use Rattle.std.specs.Prelude.{◌≡◌, ◌≤◌, ◌<◌, IfOk, IfSome, OnOk, length, map, option_map};
+ghost use Rattle.std.specs.Prelude.{slice_get, string_bytes};
 ghost use Rattle.std.specs.Option.{option_flatten};
 ghost use Rattle.std.proofs.Props.{props};
 ghost use Rattle.serde_json.specs.Data.{depth};
-ghost use Rattle.serde_json.specs.Read.{max_depth, read};
+ghost use Rattle.serde_json.specs.Read.{max_depth};
 ghost use Rattle.serde_json.specs.View.{view};
 ghost use Rattle.fdb_log_reader.specs.Names.{names_of};
-ghost use Rattle.fdb_log_reader.specs.private.Texts.{AreJson, AreWithin};
+ghost use Rattle.fdb_log_reader.specs.Numbers.{AreWithin};
+ghost use Rattle.fdb_log_reader.specs.private.Texts.{AreJson};
 
 use crate::names::Names;
 use crate::showing::add_text;
@@ -24,7 +25,7 @@ pub struct Shown {
     numbers: Vec<Option<u32>>,
     ghost few: { length (names_of texts) ≤ length numbers.items },
     ghost within: { AreWithin (names_of texts) numbers.items } by { Prim.hlevel props },
-    ghost json: { AreJson (names_of texts) },
+    ghost json: { AreJson (names_of texts) } by { Prim.hlevel props },
 }
 
 impl Shown {

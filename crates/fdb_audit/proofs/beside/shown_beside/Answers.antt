@@ -1,4 +1,4 @@
-use Rattle.std.proofs.Common.{◌≡◌, ◌∙◌, ap, subst, sym}
+use Rattle.std.proofs.Common.{◌∙◌, ap, subst, sym}
 use Rattle.fdb_log_reader.specs.Columns.{ArePrinted, shown_of}
 use Rattle.fdb_log_reader.specs.Printed.{printed}
 use Rattle.fdb_audit.proofs.beside.shown_beside.Goals as goal

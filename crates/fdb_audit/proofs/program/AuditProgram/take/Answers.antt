@@ -1,4 +1,4 @@
-use Rattle.std.proofs.Common.{◌≡◌, ◌⊎◌, ◌∙◌, ◌++◌, inl, inr, Err, sym}
+use Rattle.std.proofs.Common.{◌∙◌, ◌++◌, inl, inr, sym}
 use Rattle.fdb_audit.proofs.Refusing.{stops}
 use Rattle.fdb_audit.proofs.program.AuditProgram.take.Goals as goal
 

@@ -2,7 +2,7 @@ use Rattle.std.proofs.Common.{◌≡◌, ◌≤◌, ◌∙◌, ◌+◌, [], ◌�
 use Rattle.std.proofs.lemmas.List.{length-map}
 use Rattle.fdb_log_reader.specs.Columns.{value_in}
 use Rattle.fdb_log_reader.specs.Names.{names_of}
-use Rattle.fdb_log_reader.specs.private.Texts.{AreWithin}
+use Rattle.fdb_log_reader.specs.Numbers.{AreWithin}
 use Rattle.fdb_log_reader.proofs.ShownTexts.{set_last, values_more, within_more}
 use Rattle.fdb_log_reader.proofs.shown.Shown.add.Goals as goal
 

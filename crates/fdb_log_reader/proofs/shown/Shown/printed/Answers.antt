@@ -10,4 +10,4 @@ returns c =
     let it = c.args.self.now in
     IfOk-weaker c.shown.result _ _
     (λ texts is. subst (λ texts. ArePrinted (shown_of it).values texts it.numbers.items) (sym is)
-    (printed_say (names_of it.texts) it.numbers.items it.json it.within)) c.shown.ensures
+    (printed_say (names_of it.texts) it.numbers.items it.json it.texts.distinct it.within)) c.shown.ensures
