@@ -45,6 +45,14 @@ EVENTS = (
     # 2.0000001 s is 2,000,000.1 us, and began 0.5 s before: 1,500,000.1.
     ("between two microseconds", commit(Time="2.0000001", Latency="0.5"),
      '{"client":"10.0.0.1:4500","commit":200,"began":1500000,"ended":2000001}', (0, 1, 0, 0, 0, 0)),
+    # 2.0000008 s and 1,500,000.8 us: to the nearest microsecond it would begin too late.
+    ("nearer to the next microsecond", commit(Time="2.0000008", Latency="0.5"),
+     '{"client":"10.0.0.1:4500","commit":200,"began":1500000,"ended":2000001}', (0, 1, 0, 0, 0, 0)),
+    ("a time of 16 digits that is no text", read_version(Time=1579217063.123456), READ,
+     (1, 0, 0, 0, 0, 0)),
+    ("a latency equal to the time", commit(Time="7", Latency="7"),
+     '{"client":"10.0.0.1:4500","commit":200,"began":0,"ended":7000000}', (0, 1, 0, 0, 0, 0)),
+    ("version 0", commit(CommitVersion="0"), COMMIT.replace("200", "0"), (0, 1, 0, 0, 0, 0)),
     ("no time between", commit(Time="7", Latency="0"),
      '{"client":"10.0.0.1:4500","commit":200,"began":7000000,"ended":7000000}', (0, 1, 0, 0, 0, 0)),
     ("the greatest version", read_version(ReadVersion=str(2**63 - 1)),
@@ -66,7 +74,10 @@ EVENTS = (
     ("a line that was cut", json.dumps(commit())[:90], None, (0, 0, 0, 0, 0, 1)),
     ("a line that is no object", "[1]", None, (0, 0, 0, 0, 0, 1)),
     ("lists in lists without end", "[" * 100_000, None, (0, 0, 0, 0, 0, 1)),
+    ("a version with a fraction", json.dumps(commit(CommitVersion=200.0)), None, FAULTY),
+    ("a read again", read_version(), READ, (1, 0, 0, 0, 0, 0)),
     ("an empty line", "", None, (0, 0, 0, 0, 0, 0)),
+    ("a blank line", " \t", None, (0, 0, 0, 0, 0, 0)),
 )
 
 
