@@ -1,9 +1,9 @@
 //! A program, over a reader and two writers.
 
-ghost use Rattle.std.specs.Prelude.{◌≡◌, ◌≢◌, ◌⊎◌, ◌+◌, List, IfOk, IfErr, OnOk, OnErr};
+ghost use Rattle.std.specs.Prelude.{◌≡◌, ◌≢◌, ◌⊎◌, ◌+◌, List, IfOk, IfErr, OnOk, OnErr, false};
 ghost use Rattle.std.specs.Prelude.{IsOkAnd, MatchResult, None, Some, map, string_bytes};
 ghost use Rattle.std.specs.IoError.{error_kind};
-ghost use Rattle.clap.specs.Words.{Text};
+ghost use Rattle.clap.specs.Words.{Text, app_of};
 ghost use Rattle.fdb_command.specs.Arguments.{AreMatches, AreTaken, AreWrong, ReadsInput};
 ghost use Rattle.fdb_command.specs.Input.{TakesAtMost};
 ghost use Rattle.fdb_command.specs.private.Asked.{Ask};
