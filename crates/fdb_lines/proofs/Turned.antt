@@ -72,25 +72,27 @@ here s first ss kept b m at one turn e =
     subst (λ (t : Turn). IsTurnAt (s ∷ ss) kept t m) (same_Some _ turn e)
     (record { spot = s; there = (0, omega arith, refl); act = refl; line = refl; first = first; at = at; one = one })
 
+-- what is to be shown of the turns behind a spot
 abbrev After : List Spot → Turn → Spot → List Turn → ℕ → Type 0
 After ss turn x turns i = slice_get turns i ≡ Some turn → IsTurnAt ss (dedup_from is_one x ss) turn (told turns i)
 
+-- the turns from a spot on, by whether it shares the act above and has a line
 abbrev pub turns_by : Spot → List Turn → Bool → Bool → List Turn
 turns_by s turns b d = cond (b && not d) turns (record { act = s.act; line = s.line; shared = b } ∷ turns)
 
 told_after : (x : Spot) (ss : List Spot) (i : ℕ) (turn : Turn) → slice_get (turns_from (Some x.key) ss) i ≡ Some turn
     → IsTurnAt ss (dedup_from is_one x ss) turn (told (turns_from (Some x.key) ss) i)
 told_after x [] i turn h = absurd (none-some turn h)
-told_after x (s ∷ ss) i turn h = by (is_one s x) (is_some s.line) refl refl i (λ x i h. told_after x ss i turn h) h
+told_after x (s ∷ ss) i turn h = by (is_one s x) (is_some s.line) refl i (λ x i h. told_after x ss i turn h) h
   where
-    by : (b d : Bool) → is_one s x ≡ b → is_some s.line ≡ d → (i : ℕ) → ((x : Spot) (i : ℕ) → After ss turn x (turns_from (Some x.key) ss) i)
+    by : (b d : Bool) → is_one s x ≡ b → (i : ℕ) → ((x : Spot) (i : ℕ) → After ss turn x (turns_from (Some x.key) ss) i)
         → slice_get (turns_by s (turns_from (Some s.key) ss) b d) i ≡ Some turn
         → IsTurnAt (s ∷ ss) (cond b (dedup_from is_one x ss) (x ∷ dedup_from is_one s ss)) turn (told (turns_by s (turns_from (Some s.key) ss) b d) i)
-    by false d other line zero after h = here s s ss _ false _ (kept_first s ss) (laws-law.refl s.key) turn h
-    by false d other line (suc i) after h = beyond x s ss _ turn _ (after s i h)
-    by true true same line zero after h = here s x ss _ true _ (kept_first x ss) same turn h
-    by true true same line (suc i) after h = further s ss _ turn _ (subst (λ ts. After ss turn x ts i) (sym (from_one s.key x.key ss same)) (after x i) h)
-    by true false same line i after h = further s ss _ turn _ (subst (λ ts. After ss turn x ts i) (sym (from_one s.key x.key ss same)) (after x i) h)
+    by false d other zero after h = here s s ss _ false _ (kept_first s ss) (laws-law.refl s.key) turn h
+    by false d other (suc i) after h = beyond x s ss _ turn _ (after s i h)
+    by true true same zero after h = here s x ss _ true _ (kept_first x ss) same turn h
+    by true true same (suc i) after h = further s ss _ turn _ (subst (λ ts. After ss turn x ts i) (sym (from_one s.key x.key ss same)) (after x i) h)
+    by true false same i after h = further s ss _ turn _ (subst (λ ts. After ss turn x ts i) (sym (from_one s.key x.key ss same)) (after x i) h)
 
 pub turned_at : (ss : List Spot) (i : ℕ) (turn : Turn) → slice_get (turns_from None ss) i ≡ Some turn
     → (m : ℕ) × StandsAt (turns_from None ss) i m × IsTurnAt ss (dedup is_one ss) turn m
