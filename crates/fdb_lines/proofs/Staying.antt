@@ -1,17 +1,17 @@
 -- The lines that are kept stand for all.
-use Rattle.std.proofs.Common.{◌≡◌, ℕ, zero, suc, ◌+◌, ◌<◌, ◌≤◌, nat_lt, Bool, true, false, cond, ◌&&◌, ◌||◌, not, List, [], ◌∷◌, ◌++◌, Option, None, Some, length, slice_index, refl, ap, sym, ◌∙◌, inl, inr, arith, append-nil, length-append}
+use Rattle.std.proofs.Common.{◌≡◌, ◌⊎◌, ℕ, zero, suc, ◌+◌, ◌<◌, ◌≤◌, nat_lt, Bool, true, false, cond, ◌&&◌, ◌||◌, not, List, [], ◌∷◌, ◌++◌, Option, None, Some, length, slice_index, refl, ap, sym, ◌∙◌, inl, inr, arith, append-nil, length-append}
 use Rattle.std.proofs.lemmas.Bool.{and_from, and_parts, both_ways, cases_lt, cases_Bool}
 use Rattle.std.proofs.lemmas.Bool.Decides.{nat_tests}
 use Rattle.std.proofs.lemmas.List.{get_or_append_left, get_or_push, length-map}
 use Rattle.fdb_lines.specs.declared.line.Line.{Line}
 use Rattle.fdb_lines.specs.Before.{began, ended}
-use Rattle.fdb_lines.specs.Carried.{is_past, open_count, past_by, places_where, IsAmong, IsCovered, MayGo, StandFor}
+use Rattle.fdb_lines.specs.Carried.{ends_later, is_open, is_past, open_count, places_where, IsAmong, IsCovered, MayGo, StandFor}
 use Rattle.fdb_lines.specs.Lines.{draws, kind_of, line_at, shows, version_of, lines_in}
 use Rattle.fdb_lines.specs.Reasons.{shows_or_draws}
 use Rattle.fdb_lines.specs.private.Entries.{IsNewest}
 use Rattle.fdb_lines.specs.private.Known.{version_in}
 use Rattle.fdb_lines.specs.private.Standing.{counts_past, is_above, is_at, is_kept, lets_of}
-use Rattle.fdb_lines.proofs.Carried.{at_part, began_by}
+use Rattle.fdb_lines.proofs.Carried.{at_part}
 
 -- ---- the places where a test holds
 
@@ -187,11 +187,18 @@ module _ (margin at : ℕ) (lines : List Line) (shown known : Option ℕ) (newes
   may_go : (j : ℕ) → j < length lines → kept j ≡ false → MayGo margin at (lines_in lines places) (line_at lines j)
   may_go j lj none = record {
     old = grind (arith, nat_tests);
-    nothing_new = inr (elim (cases_Bool (is_past margin at (line_at lines j))) [
-      | inl past ↦ (past_covered false shown newest_shown keeps_shown j lj past, past_covered true known newest_known keeps_known j lj past)
-      | inr later ↦ open_covered (line_at lines j) (grind arith) (grind arith)
-    ]);
+    nothing_new = by (ended (line_at lines j)) refl;
   }
+    where
+      by : (end : Option ℕ) → ended (line_at lines j) ≡ end
+          → (ended (line_at lines j) ≡ None) ⊎ (IsCovered margin at shows (lines_in lines places) (line_at lines j) × IsCovered margin at shows_or_draws (lines_in lines places) (line_at lines j))
+      by None e = inl e
+      by (Some end) e = inr (elim (cases_Bool (is_past margin at (line_at lines j))) [
+        | inl past ↦ (past_covered false shown newest_shown keeps_shown j lj past, past_covered true known newest_known keeps_known j lj past)
+        | inr later ↦
+            let still : ends_later margin at (ended (line_at lines j)) ≡ true = rw e (let not_so = rw e at later in grind (arith, nat_tests)) in
+            open_covered (line_at lines j) (grind arith) (grind arith)
+      ])
 
   pub they_stand : StandFor margin at lines places
   they_stand = record {
@@ -203,17 +210,12 @@ module _ (margin at : ℕ) (lines : List Line) (shown known : Option ℕ) (newes
     ];
   }
 
-  -- what began from the moment on is not past
-  not_past : (line : Line) → at ≤ began line → (end : Option ℕ) → ended line ≡ end → past_by margin at end ≡ false
-  not_past line from None e = refl
-  not_past line from (Some end) e = let order = began_by line end e in grind (arith, nat_tests)
-
-  open_or_one : (j : ℕ) → kept j ≡ true → (not (is_past margin at (line_at lines j)) || (is_at shown j || is_at known j)) ≡ true
-  open_or_one j is = let still = λ (from : at ≤ began (line_at lines j)). not_past (line_at lines j) from _ refl in grind (arith, nat_tests)
+  open_or_one : (j : ℕ) → kept j ≡ true → (is_open margin at (line_at lines j) || (is_at shown j || is_at known j)) ≡ true
+  open_or_one j is = grind arith
 
   pub they_are_few : length places ≤ open_count margin at lines + 2
   they_are_few =
-      let all = sizes kept (λ j. not (is_past margin at (line_at lines j))) (is_at shown) (is_at known) (length lines) open_or_one in
+      let all = sizes kept (λ j. is_open margin at (line_at lines j)) (is_at shown) (is_at known) (length lines) open_or_one in
       let one = at_most_one shown (length lines) in
       let other = at_most_one known (length lines) in
       omega arith

@@ -59,7 +59,8 @@ since_judged watch to number line is =
     grind (arith, nat_tests)
 
 module _ (watch : Watch) (to : Option ℕ) (lines : List Line) (seen : HasSeen watch lines) (found : List Finding)
-    (are : AreFound watch.margin (due watch to) watch.numbers.items (with_times (lines_in lines watch.numbers.items)) found) where
+    (are : AreFound watch.margin (due watch to) watch.numbers.items (with_times (lines_in lines watch.numbers.items)) found)
+    (kept : All (λ (finding : Finding). HasReason (lines_of watch.log) (opts_of watch.margin) finding × HasLate (lines_of watch.log) (opts_of watch.margin) finding) found) where
   abbrev numbers : List ℕ
   numbers = watch.numbers.items
 
@@ -115,6 +116,8 @@ module _ (watch : Watch) (to : Option ℕ) (lines : List Line) (seen : HasSeen w
         let from = begins finding.found it in
         late_same watch.margin at lines numbers seen.stand finding.found.line li from finding.found.fault it.is_of
         (stands_all finding.found.fault finding.found.line li from it.is_of it.stand) finding.late (are.late j d lt);
+    within = λ j d lt. let finding = slice_index_or found j d in there finding.found (each_told j d lt);
+    kept = kept;
   }
 
 pub told_is : (watch : Watch) (to : Option ℕ) (lines : List Line) → HasSeen watch lines → (0 < length watch.log.lines.items → watch.log.timed ≡ true) → (found : List Finding)
@@ -123,3 +126,4 @@ told_is watch to lines seen timed found are =
     told_all watch to lines seen found
     (subst (λ (part : List Line). AreFound watch.margin (due watch to) watch.numbers.items (with_times part) found) seen.kept
     (as_timed watch.margin (due watch to) watch.numbers.items (lines_of watch.log) found timed are))
+    (λ j d lt. (are.reasons j d lt, are.late j d lt))

@@ -1,5 +1,5 @@
 -- A part of a log with times that stands for all of it: what begins from a moment on knows as much by it. (this product's own)
-use Rattle.std.specs.Prelude.{◌≡◌, ◌⊎◌, ℕ, ◌+◌, zero, suc, ◌<◌, ◌≤◌, nat_lt, not, Bool, true, false, cond, List, [], ◌∷◌, ◌++◌, Option, None, Some, IsTrue, length, slice_index}
+use Rattle.std.specs.Prelude.{◌≡◌, ◌⊎◌, ℕ, ◌+◌, zero, suc, ◌<◌, ◌≤◌, nat_le, nat_lt, ◌||◌, not, Bool, true, false, cond, List, [], ◌∷◌, ◌++◌, Option, None, Some, IsTrue, length, slice_index}
 use Rattle.fdb_lines.specs.declared.line.Line.{Line}
 use Rattle.fdb_lines.specs.Before.{began, ended}
 use Rattle.fdb_lines.specs.Lines.{Kind, Lines, kind_of, line_at, lines_in, shows, version_of}
@@ -42,9 +42,17 @@ abbrev pub places_where : (ℕ → Bool) → ℕ → List ℕ
 places_where test zero = []
 places_where test (suc n) = places_where test n ++ cond (test n) (n ∷ []) []
 
--- how many lines of a log are not past
+-- Whether a line is open at a moment: it began then or later, or is known to have ended later.
+abbrev pub ends_later : ℕ → ℕ → Option ℕ → Bool
+ends_later margin at None = false
+ends_later margin at (Some end) = not (nat_lt (end + margin) at)
+
+abbrev pub is_open : ℕ → ℕ → Line → Bool
+is_open margin at line = nat_le at (began line) || ends_later margin at (ended line)
+
+-- how many lines of a log are open
 abbrev pub open_count : ℕ → ℕ → List Line → ℕ
-open_count margin at lines = length (places_where (λ j. not (is_past margin at (line_at lines j))) (length lines))
+open_count margin at lines = length (places_where (λ j. is_open margin at (line_at lines j)) (length lines))
 
 -- Each line that is left out has a version below one.
 abbrev pub AreLeftBelow : ℕ → List Line → List ℕ → Type 0

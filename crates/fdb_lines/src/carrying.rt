@@ -1,7 +1,8 @@
 //! Which lines of a log with times stand for all of it, to what begins from a moment on.
 
 ghost use Rattle.std.specs.Prelude.{◌≡◌, ◌+◌, ◌<◌, ◌≤◌, ◌&&◌, IfOk, Some, cond, length};
-ghost use Rattle.fdb_lines.specs.Carried.{is_past, open_count, StandFor};
+ghost use Rattle.fdb_lines.specs.Before.{ended};
+ghost use Rattle.fdb_lines.specs.Carried.{ends_later, is_past, open_count, StandFor};
 ghost use Rattle.fdb_lines.specs.Lines.{kind_of};
 ghost use Rattle.fdb_lines.specs.Log.{lines_of};
 ghost use Rattle.fdb_lines.specs.private.Entries.{IsNewest};
@@ -15,7 +16,8 @@ use crate::log::Log;
 use std::alloc::{AllocError, Global};
 
 /// The places of lines that stand for all of a log: whatever begins from a moment on knows as much
-/// by these. At most two of them are past. An error only where memory is refused.
+/// by these. They are open, but for at most two: a call without a known end comes before none. An
+/// error only where memory is refused.
 ///
 /// Linear in how many lines there are.
 pub fn standing(alloc: Global, log: &Log, margin: u64, at: u64) -> Result<Vec<u32>, AllocError>
@@ -91,6 +93,13 @@ fn is_past(line: &Line, margin: u64, at: u64) -> bool
     }
 }
 
+/// Whether a line is known to have ended later than by more than the margin before a moment.
+fn ends_later(line: &Line, margin: u64, at: u64) -> bool
+    ensures { result ≡ ends_later margin at (ended line.now) }
+{
+    line.ended().is_some() && !is_past(line, margin, at)
+}
+
 /// Whether a call lets its version be known: it shows one, or draws one too.
 fn lets_of(drawn: bool, call: Call) -> bool
     ensures { result ≡ lets_of drawn (kind_of call) }
@@ -126,7 +135,7 @@ fn is_needed(
 {
     let version = line.call.version();
     at <= line.began()
-        || !is_past(line, margin, at)
+        || ends_later(line, margin, at)
             && (line.call.shows() && is_above(lines, version, shown)
                 || line.call.draws() && is_above(lines, version, known))
 }

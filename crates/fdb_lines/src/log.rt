@@ -107,7 +107,7 @@ impl Log {
     }
 
     /// Why a line may not be added, if it may not.
-    fn refusal(&self, line: &Line) -> Option<LineError>
+    pub(crate) fn refusal(&self, line: &Line) -> Option<LineError>
         ensures { result ≡ refusal_of (lines_of self.now) line.now }
     {
         let timed = line.times.is_some();

@@ -6,7 +6,7 @@ ghost use Rattle.std.specs.Prelude.{false};
 ghost use Rattle.std.specs.Prelude.{◌↔◌, ◌⊎◌, ℕ};
 ghost use Rattle.fdb_lines.specs.declared.line.Line.{Line};
 ghost use Rattle.fdb_lines.specs.Carried.{open_count};
-ghost use Rattle.fdb_lines.specs.Lines.{has_times, lines_in};
+ghost use Rattle.fdb_lines.specs.Lines.{has_times};
 ghost use Rattle.fdb_lines.specs.Log.{lines_of, refusal_of};
 
 use crate::carrying::standing;
@@ -18,12 +18,12 @@ use crate::reason::Finding;
 use std::alloc::{AllocError, Global};
 use std::mem::replace;
 
-/// Why [`Watch::push`] refuses a line.
+/// Why [`Watch::push`] refuses a line. The first that holds is given, and memory last.
 #[derive(Clone, Copy, Debug, PartialEq, Eq)]
 pub enum WatchError {
     /// It has no times.
     NoTimes,
-    /// A log does not take it.
+    /// The log of the lines that are kept does not take it, or there have been 2^64 - 1 lines.
     Line(LineError),
 }
 
@@ -37,12 +37,13 @@ pub struct Settled {
     /// The stale reads and the versions that are not above what was known, at the lines of which it
     /// is time to tell. Each line is told by its place among those that were kept.
     pub found: Vec<Finding>,
-    /// The places of those that are kept on.
+    /// The places of those that are kept on; none where it was settled for good.
     pub kept: Vec<u32>,
 }
 
 impl Settled {
-    /// The number, among all lines that ever came, of the line at a place of those that were kept.
+    /// The number, among all lines that ever came, of the line at a place of those that were kept; 0
+    /// where there is no such place.
     pub fn number(&self, place: u32) -> u64
         ensures { result ≡ slice_index self.now.numbers.items place }
     {
@@ -53,13 +54,16 @@ impl Settled {
     }
 }
 
-/// An audit that watches. It keeps the lines that may yet come to matter, and two that stand for all
-/// others.
+/// An audit that watches. It keeps the lines that may yet come to matter, and at most two that stand
+/// for all others.
 ///
-/// It settles up to a moment: it tells of the lines that began before, each once, what an audit of
-/// all lines would. A line that comes late, and begins before that moment, is told of at the next
-/// settling, if it begins no further back than a horizon; else it is known to others, and is not
-/// judged. By how much a call is late is exact up to the horizon, and beyond it at least so much.
+/// It settles up to a moment, in the unit of the times: it tells of the lines that began before, each
+/// once, what an audit of all lines that have come would tell. A line that comes late, and begins
+/// before that moment, is told of at the next settling, if it begins no further back than a horizon;
+/// else it is known to others, and is not judged. What was told before is not told anew by it.
+///
+/// How late a call is is exact where the line that outdated it first had ended no further back than
+/// the horizon from what was settled before; else it is at least so late, by another line.
 #[derive(Drop)]
 pub struct Watch {
     margin: u64,
@@ -76,11 +80,12 @@ pub struct Watch {
 impl Watch {
     ghost use Rattle.fdb_lines.specs.declared.watch.WatchError.TheVariants.{NoTimes};
     ghost use Rattle.fdb_lines.specs.Watch.{judged_from, HasSeen, IsTold};
+    ghost use Rattle.fdb_lines.specs.Log.{added};
 
-    /// A watch that has seen no line.
+    /// A watch that has seen no line. Margin and horizon are in the unit of the times.
     pub fn new(alloc: Global, margin: u64, horizon: u64) -> Self
         ensures seen { HasSeen result [] }
-        ensures from { result.from ≡ 0 }
+        ensures settled { (result.from ≡ 0) × (result.settled ≡ 0) }
         ensures margin { result.margin ≡ margin }
         ensures horizon { result.horizon ≡ horizon }
     {
@@ -111,22 +116,33 @@ impl Watch {
 
     /// Adds a line. An error says why it is refused; all is as it was then.
     pub fn push(&mut self, line: Line) -> Result<(), WatchError>
-        ensures ok { OnOk result ((lines : List Line) → HasSeen self.old lines → HasSeen self.new (lines ++ line ∷ [])) }
-        ensures taken { OnOk result (has_times line ≡ true) }
-        ensures err { OnErr result ((lines : List Line) → HasSeen self.old lines → HasSeen self.new lines) }
+        ensures ok { OnOk result ((lines : List Line) → HasSeen self.old lines
+            → HasSeen self.new (lines ++ line ∷ [])) }
+        ensures taken { OnOk result ((has_times line ≡ true)
+            × (refusal_of (lines_of self.old.log) line ≡ None)
+            × (lines_of self.new.log ≡ added (lines_of self.old.log) line)) }
+        ensures left { OnErr result ((lines_of self.new.log ≡ lines_of self.old.log)
+            × (self.new.numbers.items ≡ self.old.numbers.items) × (self.new.count ≡ self.old.count)) }
+        ensures err { OnErr result ((lines : List Line) → HasSeen self.old lines
+            → HasSeen self.new lines) }
         ensures untimed { IfErr result (λ error. error ≡ NoTimes ↔ (has_times line ≡ false)) }
         ensures refused { IfErr result (λ error. (why : LineError) → error ≡ WatchError.Line why
-            → (why ≡ LineError.Memory)
+            → ((why ≡ LineError.Memory) × (refusal_of (lines_of self.old.log) line ≡ None))
             ⊎ ((why ≡ LineError.TooMany) × (self.old.count ≡ 18446744073709551615))
             ⊎ (refusal_of (lines_of self.old.log) line ≡ Some why)) }
-        ensures settled { (self.new.from ≡ self.old.from) × (self.new.settled ≡ self.old.settled) }
-        ensures margin { (self.new.margin ≡ self.old.margin) × (self.new.horizon ≡ self.old.horizon) }
+        ensures settled { (self.new.from ≡ self.old.from)
+            × (self.new.settled ≡ self.old.settled) }
+        ensures margin { (self.new.margin ≡ self.old.margin)
+            × (self.new.horizon ≡ self.old.horizon) }
     {
         if line.times.is_none() {
             return Err(WatchError::NoTimes);
         }
         if self.count == u64::MAX {
             return Err(WatchError::Line(LineError::TooMany));
+        }
+        if let Some(error) = self.log.refusal(&line) {
+            return Err(WatchError::Line(error));
         }
         if let Err(_refused) = self.numbers.push(self.count) {
             return Err(WatchError::Line(LineError::Memory));
@@ -144,20 +160,28 @@ impl Watch {
     pub fn settle(&mut self, alloc: Global, at: u64) -> Result<Settled, AllocError>
         ensures told { IfOk result (λ it. (lines : List Line) → HasSeen self.old lines
             → IsTold self.old (Some (max self.old.from at)) lines it.numbers.items it.found.items) }
-        ensures lines { IfOk result (λ it. (lines : List Line) → HasSeen self.old lines
-            → (lines_of it.log).lines ≡ lines_in lines it.numbers.items) }
+        ensures had { IfOk result (λ it. (lines_of it.log ≡ lines_of self.old.log)
+            × (it.numbers.items ≡ self.old.numbers.items)) }
         ensures seen { (lines : List Line) → HasSeen self.old lines → HasSeen self.new lines }
-        ensures kept { IfOk result (λ it. (self.new.numbers.items ≡ map (slice_index it.numbers.items) it.kept.items)
+        ensures kept { IfOk result
+            (λ it. (self.new.numbers.items ≡ map (slice_index it.numbers.items) it.kept.items)
             × All (λ place. place < length it.numbers.items) it.kept.items) }
         ensures few { OnOk result (length self.new.numbers.items
             ≤ open_count self.old.margin (judged_from self.new) self.old.log.lines.items + 2) }
-        ensures settled { OnOk result ((self.new.from ≡ max self.old.from at) × (self.new.settled ≡ self.old.count)) }
+        ensures settled { OnOk result ((self.new.from ≡ max self.old.from at)
+            × (self.new.settled ≡ self.old.count)) }
         ensures err { OnErr result (self.new ≡ self.old) }
-        ensures margin { (self.new.margin ≡ self.old.margin) × (self.new.horizon ≡ self.old.horizon) }
+        ensures margin { (self.new.margin ≡ self.old.margin)
+            × (self.new.horizon ≡ self.old.horizon) }
     {
         let at = at.max(self.from);
         let found = self.found(alloc, Some(at))?;
-        let kept = standing(alloc, &self.log, self.margin, at.saturating_sub(self.horizon))?;
+        let kept = standing(
+            alloc,
+            &self.log,
+            self.margin,
+            at.saturating_sub(self.horizon),
+        )?;
         let numbers = numbers_at(alloc, &self.numbers, &kept)?;
         let log = self.log.part(alloc, &kept)?;
         self.from = at;
@@ -170,12 +194,13 @@ impl Watch {
         })
     }
 
-    /// Tells of all lines that it has not told of. An error only where memory is refused.
+    /// Settles for good: tells of all lines that it has not told of, but for those that came too
+    /// late. An error only where memory is refused; what was not told is lost then.
     pub fn finish(self, alloc: Global) -> Result<Settled, AllocError>
         ensures told { IfOk result (λ it. (lines : List Line) → HasSeen self lines
             → IsTold self None lines it.numbers.items it.found.items) }
-        ensures lines { IfOk result (λ it. (lines : List Line) → HasSeen self lines
-            → (lines_of it.log).lines ≡ lines_in lines it.numbers.items) }
+        ensures had { IfOk result (λ it. (lines_of it.log ≡ lines_of self.log)
+            × (it.numbers.items ≡ self.numbers.items) × (it.kept.items ≡ [])) }
     {
         let found = self.found(alloc, None)?;
         Ok(Settled {

@@ -1,8 +1,8 @@
 -- Which lines stand for all, as the code finds them.
 use Rattle.std.specs.Prelude.{ℕ, ◌==◌, ◌&&◌, ◌||◌, not, nat_le, nat_lt, Bool, true, false, List, Option, None, Some}
 use Rattle.fdb_lines.specs.declared.line.Line.{Line}
-use Rattle.fdb_lines.specs.Before.{began}
-use Rattle.fdb_lines.specs.Carried.{is_past}
+use Rattle.fdb_lines.specs.Before.{began, ended}
+use Rattle.fdb_lines.specs.Carried.{ends_later, is_past}
 use Rattle.fdb_lines.specs.Lines.{Kind, draws, kind_of, line_at, shows, version_of}
 use Rattle.fdb_lines.specs.Reasons.{shows_or_draws}
 use Rattle.fdb_lines.specs.private.Known.{version_in}
@@ -28,7 +28,7 @@ is_at (Some k) j = k == j
 abbrev pub is_needed : ℕ → ℕ → List Line → Option ℕ → Option ℕ → Line → Bool
 is_needed margin at lines shown known line =
     nat_le at (began line)
-    || (not (is_past margin at line)
+    || (ends_later margin at (ended line)
     && ((shows (kind_of line.call) && is_above lines (version_of line.call) shown) || (draws (kind_of line.call) && is_above lines (version_of line.call) known)))
 
 abbrev pub is_kept : ℕ → ℕ → List Line → Option ℕ → Option ℕ → ℕ → Bool
