@@ -1,5 +1,5 @@
 -- The keys of lines, and the places of the lines of a key.
-use Rattle.std.proofs.Common.{◌≡◌, ◌≢◌, ◌==◌, ℕ, zero, suc, ◌<◌, ◌≤◌, Bool, true, false, cond, List, [], ◌∷◌, ◌++◌, Option, None, Some, length, slice_index, refl, ap, sym, subst, ◌∙◌, inl, inr, arith, append-nil, length-append}
+use Rattle.std.proofs.Common.{◌≡◌, ◌≢◌, ◌==◌, ℕ, zero, suc, ◌<◌, ◌≤◌, Bool, true, false, cond, List, [], ◌∷◌, ◌++◌, ◌+◌, Option, None, Some, length, slice_index, refl, ap, sym, subst, ◌∙◌, inl, inr, arith, append-nil, length-append, zero-le}
 use Rattle.std.proofs.lemmas.Bool.{both_ways, cases_lt, eqb-true}
 use Rattle.std.proofs.lemmas.Bool.Decides.{nat_tests}
 use Rattle.std.proofs.lemmas.List.{get_or_append_left, get_or_push}
@@ -181,6 +181,20 @@ has_none keys n key none = elim (cases_lt 0 (length (places_below keys key n))) 
       absurd (none has.0 has.1 (has.2 ∙ same_is _ _ is.1))
   | inr ge ↦ omega arith
 ]
+
+-- there are no more than lines
+pub few_keys : (keys : List (Option ℕ)) (n : ℕ) → length (keys_below keys n) ≤ n
+few_keys keys zero = zero-le
+few_keys keys (suc n) =
+    let few = few_keys keys n in
+    let sum = length-append (keys_below keys n) (cond (place_among keys n == 0) (key_at keys n ∷ []) []) in
+    one_more (place_among keys n == 0) few sum
+  where
+    one_more : (b : Bool) → length (keys_below keys n) ≤ n
+        → length (keys_below keys n ++ cond b (key_at keys n ∷ []) []) ≡ length (keys_below keys n) + length (cond b (key_at keys n ∷ []) [])
+        → length (keys_below keys n ++ cond b (key_at keys n ∷ []) []) ≤ suc n
+    one_more true few sum = omega arith
+    one_more false few sum = omega arith
 
 -- no two of them are one
 new_key : (keys : List (Option ℕ)) (n i : ℕ) → (place_among keys n == 0) ≡ true → i < length (keys_below keys n) → key_at (keys_below keys n) i ≢ key_at keys n

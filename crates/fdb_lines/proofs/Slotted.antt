@@ -4,18 +4,19 @@ use Rattle.std.specs.declared.alloc.Global.{Global}
 use Rattle.std.proofs.lemmas.List.{get_or-map, get_or-set_other, get_or-set_same, length-map, map-set, map_push}
 use Rattle.fdb_lines.specs.private.Keys.{items_at}
 
-nothing_more : {X : Type 0} (xs : List (List X)) (k : ℕ) → get_or (xs ++ [] ∷ []) k [] ≡ get_or xs k []
-nothing_more [] zero = refl
-nothing_more [] (suc k) = refl
-nothing_more (x ∷ xs) zero = refl
-nothing_more (x ∷ xs) (suc k) = nothing_more xs k
+-- what stands past a list is as good as in it
+pub nothing_more : {X : Type 0} (xs : List X) (none : X) (k : ℕ) → get_or (xs ++ none ∷ []) k none ≡ get_or xs k none
+nothing_more [] none zero = refl
+nothing_more [] none (suc k) = refl
+nothing_more (x ∷ xs) none zero = refl
+nothing_more (x ∷ xs) none (suc k) = nothing_more xs none k
 
 -- an empty one more
 pub empty_more : {X : Type 0} (lists : List (Vec X Global)) (list : Vec X Global) (k : ℕ) → list.items ≡ [] → items_at (lists ++ list ∷ []) k ≡ items_at lists k
 empty_more {X} lists list k none =
     let items = λ (v : Vec X Global). v.items in
     ap (λ (ls : List (List X)). get_or ls k []) (map_push items lists list)
-    ∙ (ap (λ (l : List X). get_or (map items lists ++ l ∷ []) k []) none ∙ nothing_more (map items lists) k)
+    ∙ (ap (λ (l : List X). get_or (map items lists ++ l ∷ []) k []) none ∙ nothing_more (map items lists) [] k)
 
 -- one is written
 pub items_set_same : {X : Type 0} (lists : List (Vec X Global)) (i : ℕ) (list : Vec X Global) → i < length lists → items_at (set lists i list) i ≡ list.items

@@ -1,12 +1,12 @@
 //! Counts what a verdict on a log with keys stands on.
 
-ghost use Rattle.std.specs.Prelude.{◌≡◌, IfOk, IsTrue, None, Some, cond, length};
+ghost use Rattle.std.specs.Prelude.{◌≡◌, IfOk, None, Some, cond, length};
 ghost use Rattle.std.specs.List.{sum_by};
-ghost use Rattle.fdb_lines.specs.Audit.{case_of};
 ghost use Rattle.fdb_lines.specs.Lines.{is_ask, is_commit, is_learn, is_read, is_report};
 ghost use Rattle.fdb_lines.specs.Log.{lines_of};
-ghost use Rattle.fdb_lines.specs.Summary.{how_many, ordered, ordered_by_key, unreported_by_key};
-ghost use Rattle.fdb_lines.specs.private.KeySums.{ordered_of, unreported_of, ArePartsOf};
+ghost use Rattle.fdb_lines.specs.Summary.{how_many, ordered_by_key, unreported_by_key};
+ghost use Rattle.fdb_lines.specs.private.KeySums.{ordered_if, ordered_of, unreported_of};
+ghost use Rattle.fdb_lines.specs.private.KeySums.{ArePartsOf};
 
 use crate::log::Log;
 use crate::opts::AuditOpts;
@@ -44,55 +44,50 @@ pub fn summary_by_key(
         (Some (ordered_by_key (lines_of log.now) keys.now opts.now)) None) }
 {
     let parts = parts_of(alloc, keys)?;
-    let unreported = unreported_in(alloc, log, &parts, opts)?;
-    let ordered = ordered_in(alloc, log, &parts, opts)?;
-    Ok(counted(log, unreported, ordered))
+    let sums = sums_of(alloc, log, &parts, opts)?;
+    let ordered = if_timed(log, sums.ordered);
+    Ok(counted(log, sums.unreported, ordered))
 }
 
-/// How many versions were read, other than the start, that no line of their part reports.
-fn unreported_in(
-    alloc: Global,
-    log: &Log,
-    parts: &[Part],
-    opts: &AuditOpts,
-) -> Result<u64, AllocError>
-    requires { ArePartsOf (lines_of log.now) parts.now }
-    ensures { IfOk result (λ sum. sum ≡ sum_by (unreported_of (lines_of log.now) opts.now) parts.now) }
+/// How many pairs are in order, of a log with times; none of another.
+fn if_timed(log: &Log, pairs: u64) -> Option<u64>
+    ensures { result ≡ cond (lines_of log.now).timed (Some pairs) None }
 {
-    let mut sum = 0;
+    if log.is_timed() { Some(pairs) } else { None }
+}
+
+/// What is counted of the lines of each part by themselves, added up.
+#[derive(Clone, Copy)]
+struct Sums {
+    /// How many versions were read, other than the start, that no line of their part reports.
+    unreported: u64,
+    /// Of how many pairs of lines of one part one comes before the other; 0 of lines without times.
+    ordered: u64,
+}
+
+/// What is counted of the lines of each part.
+fn sums_of(alloc: Global, log: &Log, parts: &[Part], opts: &AuditOpts) -> Result<Sums, AllocError>
+    requires { ArePartsOf (lines_of log.now) parts.now }
+    ensures unreported { IfOk result (λ sums. sums.unreported
+        ≡ sum_by (unreported_of (lines_of log.now) opts.now) parts.now) }
+    ensures ordered { IfOk result (λ sums. sums.ordered
+        ≡ sum_by (ordered_of (lines_of log.now) opts.now) parts.now) }
+{
+    let mut sums = Sums {
+        unreported: 0,
+        ordered: 0,
+    };
     for part in 0..parts.len() {
         let lines = log.part(alloc, &parts[part].places)?;
-        sum += unreported(alloc, &lines, opts)?;
+        sums.unreported += unreported(alloc, &lines, opts)?;
+        sums.ordered += pairs_of(alloc, &lines, opts)?;
     }
-    Ok(sum)
+    Ok(sums)
 }
 
-/// Of how many pairs of lines of one part one comes before the other, where the lines have times.
-fn ordered_in(
-    alloc: Global,
-    log: &Log,
-    parts: &[Part],
-    opts: &AuditOpts,
-) -> Result<Option<u64>, AllocError>
-    requires { ArePartsOf (lines_of log.now) parts.now }
-    ensures { IfOk result (λ sum. sum ≡ cond (lines_of log.now).timed
-        (Some (sum_by (ordered_of (lines_of log.now) opts.now) parts.now)) None) }
-{
-    if !log.is_timed() {
-        return Ok(None);
-    }
-    let mut sum = 0;
-    for part in 0..parts.len() {
-        let lines = log.part(alloc, &parts[part].places)?;
-        sum += pairs_of(alloc, &lines, opts)?;
-    }
-    Ok(Some(sum))
-}
-
-/// Of how many pairs of lines with times one comes before the other.
+/// Of how many pairs of lines one comes before the other; 0 where the lines have no times.
 fn pairs_of(alloc: Global, log: &Log, opts: &AuditOpts) -> Result<u64, AllocError>
-    requires { IsTrue (lines_of log.now).timed }
-    ensures { IfOk result (λ pairs. pairs ≡ ordered (case_of (lines_of log.now) opts.now)) }
+    ensures { IfOk result (λ pairs. pairs ≡ ordered_if (lines_of log.now) opts.now) }
 {
     match ordered(alloc, log, opts)? {
         Some(pairs) => Ok(pairs),

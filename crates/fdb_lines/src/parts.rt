@@ -1,12 +1,10 @@
 //! The keys of a log, each with where its lines stand.
 
 ghost use Rattle.std.specs.Prelude.{◌≡◌, ◌==◌, ℕ, ◌<◌, ◌≤◌, All, IfOk};
-ghost use Rattle.std.specs.Prelude.{OnOk, Some, cond, length};
-ghost use Rattle.std.specs.BTreeMap.{get};
-ghost use Rattle.std.specs.Ordering.{nat_cmp};
+ghost use Rattle.std.specs.Prelude.{None, OnOk, Some, cond, length};
 ghost use Rattle.fdb_lines.specs.Keys.{key_at, keys_of, places_of};
-ghost use Rattle.fdb_lines.specs.private.Keys.{keys_in, number_of, AreNumbered, IsPartMore};
-ghost use Rattle.fdb_lines.specs.private.Keys.{IsPlaceMore};
+ghost use Rattle.fdb_lines.specs.private.Keys.{keys_in, number_of, part_number, AreNumbered};
+ghost use Rattle.fdb_lines.specs.private.Keys.{IsPartMore, IsPlaceMore};
 ghost use Rattle.fdb_lines.specs.private.KeySums.{lines_in_all};
 
 use std::alloc::{AllocError, Global};
@@ -19,6 +17,59 @@ pub(crate) struct Part {
     pub(crate) places: Vec<u32>,
 }
 
+/// Which part is that of each key, by the number of the key. Where keys are numbered as they come,
+/// all are in the list.
+#[derive(Drop)]
+pub(crate) struct PartNumbers {
+    /// Of the lowest numbers, as many as there are lines, and one for no key.
+    near: Vec<Option<u32>>,
+    /// Of the others. A table that compares: no choice of keys makes it slow, as it would one that
+    /// hashes.
+    far: BTreeMap<u64, u32>,
+}
+
+impl PartNumbers {
+    /// No key has a part.
+    fn new(alloc: Global, lines: usize) -> Result<Self, AllocError>
+        requires { lines ≤ 4294967295 }
+        ensures { IfOk result (λ numbers. (q : ℕ) → part_number numbers q ≡ None) }
+    {
+        let many = lines + 1;
+        let mut near = Vec::with_capacity(alloc, many)?;
+        for _number in 0..many {
+            near.push(None)?;
+        }
+        Ok(PartNumbers {
+            near,
+            far: BTreeMap::new(alloc),
+        })
+    }
+
+    /// The part of a key, if it has one.
+    fn get(&self, number: u64) -> Option<u32>
+        ensures { result ≡ part_number self.now number }
+    {
+        if number < self.near.len() as u64 {
+            self.near[number as usize]
+        } else {
+            self.far.get(&number).copied()
+        }
+    }
+
+    /// Gives a key its part.
+    fn set(&mut self, number: u64, part: u32) -> Result<(), AllocError>
+        ensures { OnOk result ((q : ℕ) → part_number self.new q
+            ≡ cond (q == number) (Some part) (part_number self.old q)) }
+    {
+        if number < self.near.len() as u64 {
+            self.near[number as usize] = Some(part);
+        } else {
+            self.far.insert(number, part)?;
+        }
+        Ok(())
+    }
+}
+
 /// The keys of a log, in the order of their first lines, each with the places of its lines.
 /// `n log n` in how many lines there are, whatever the keys.
 pub(crate) fn parts_of(alloc: Global, keys: &[Option<u32>]) -> Result<Vec<Part>, AllocError>
@@ -28,8 +79,7 @@ pub(crate) fn parts_of(alloc: Global, keys: &[Option<u32>]) -> Result<Vec<Part>,
         (λ parts. All (λ part. part.places.items ≡ places_of keys.now part.key) parts.items) }
     ensures lines { IfOk result (λ parts. lines_in_all parts.items ≡ length keys.now) }
 {
-    // A table that compares: no choice of keys makes it slow, as it would one that hashes.
-    let mut numbers = BTreeMap::new(alloc);
+    let mut numbers = PartNumbers::new(alloc, keys.len())?;
     let mut parts = Vec::new(alloc);
     for (place, key) in keys.iter().enumerate() {
         let number = part_of_key(alloc, &mut numbers, &mut parts, *key)?;
@@ -50,40 +100,29 @@ fn add_place(parts: &mut Vec<Part>, number: usize, place: u32) -> Result<(), All
 /// Which part is that of a key. It is added, without places, unless it is there.
 fn part_of_key(
     alloc: Global,
-    numbers: &mut BTreeMap<u64, usize>,
+    numbers: &mut PartNumbers,
     parts: &mut Vec<Part>,
     key: Option<u32>,
 ) -> Result<usize, AllocError>
-    requires { AreNumbered (λ q. get nat_cmp numbers.old q) (keys_in parts.old.items) }
+    requires few { length parts.old.items < 4294967295 }
+    requires numbered { AreNumbered (part_number numbers.old) (keys_in parts.old.items) }
     ensures numbered { OnOk result
-        (AreNumbered (λ q. get nat_cmp numbers.new q) (keys_in parts.new.items)) }
+        (AreNumbered (part_number numbers.new) (keys_in parts.new.items)) }
     ensures within { IfOk result (λ number. number < length parts.new.items) }
     ensures key { IfOk result (λ number. key_at (keys_in parts.new.items) number ≡ key) }
     ensures more { OnOk result (IsPartMore key parts.old.items parts.new.items) }
 {
     let code = number_of(key);
-    if let Some(number) = numbers.get(&code).copied() {
-        return Ok(number);
+    if let Some(number) = numbers.get(code) {
+        return Ok(number as usize);
     }
     let number = parts.len();
-    give_number(numbers, code, number)?;
+    numbers.set(code, number as u32)?;
     parts.push(Part {
         key,
         places: Vec::new(alloc),
     })?;
     Ok(number)
-}
-
-fn give_number(
-    numbers: &mut BTreeMap<u64, usize>,
-    code: u64,
-    number: usize,
-) -> Result<(), AllocError>
-    ensures { OnOk result ((q : ℕ) → get nat_cmp numbers.new q
-        ≡ cond (q == code) (Some number) (get nat_cmp numbers.old q)) }
-{
-    numbers.insert(code, number)?;
-    Ok(())
 }
 
 /// A number for each key: 0 for that of lines without one.

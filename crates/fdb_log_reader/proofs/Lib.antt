@@ -1,4 +1,5 @@
 pub mod Digits
+pub mod Codes
 pub mod Naming
 pub mod Room
 pub mod Splitting

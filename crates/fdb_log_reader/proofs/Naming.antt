@@ -4,10 +4,8 @@ use Rattle.std.proofs.lemmas.Bool.{false≢true}
 use Rattle.std.proofs.lemmas.List.{length-map, map-append}
 use Rattle.std.proofs.lemmas.List.Quantifiers.{all_pairs_push}
 use Rattle.std.proofs.lemmas.List.Sums.{fails_before_first}
-use Rattle.std.proofs.lemmas.Map.Text.{btree_map_updates_text}
-use Rattle.std.specs.BTreeMap.{BTreeMap, Updates, get_by_text}
 use Rattle.std.specs.Prelude.{String}
-use Rattle.std.specs.String.{string_bytes, string_cmp}
+use Rattle.std.specs.String.{string_bytes}
 use Rattle.std.specs.declared.alloc.Global.{Global}
 use Rattle.std.proofs.lemmas.Iterator.Adapters.{position_from-zero}
 use Rattle.std.proofs.lemmas.Slice.Eq.{bytes_eq-Decides}
@@ -15,7 +13,9 @@ use Rattle.std.specs.List.{position_from, position_or_len}
 use Rattle.std.specs.Option.{option_or}
 use Rattle.std.specs.Str.{bytes_eq}
 use Rattle.json.specs.Strict.{AreDistinct}
+use Rattle.fdb_log_reader.specs.declared.name_numbers.NameNumbers.{NameNumbers}
 use Rattle.fdb_log_reader.specs.Numbers.{number_in}
+use Rattle.fdb_log_reader.specs.private.Codes.{number_at, AreBytes}
 
 -- whether an element with one more at the end is found
 from_more : {X : Type 0} (p : X → Bool) (i : ℕ) (xs : List X) (x : X)
@@ -76,18 +76,18 @@ number_within names name = below (position_or_len (bytes_eq name) names) (length
       | false ↦ λ _. tt
     ] refl
 
--- a table that has the number of each text has it still once a new text is put into both
-pub numbered_more : (old new : BTreeMap (String Global) ℕ) (texts : List (String Global)) (text key : String Global)
-    → ((q : List ℕ) → get_by_text old q ≡ number_in (map string_bytes texts) q)
-    → number_in (map string_bytes texts) (string_bytes text) ≡ None → string_bytes key ≡ string_bytes text
-    → Updates string_cmp old new key (Some (length texts))
-    → (q : List ℕ) → get_by_text new q ≡ number_in (map string_bytes (texts ++ text ∷ [])) q
-numbered_more old new texts text key numbered none keyed updates q =
-    btree_map_updates_text (string_bytes key) old new (Some (length texts)) updates q
-    ∙ (ap (λ n. cond (bytes_eq n q) (Some (length texts)) (get_by_text old q)) keyed
-    ∙ (ap (λ o. cond (bytes_eq (string_bytes text) q) (Some (length texts)) o) (numbered q)
-    ∙ (ap (λ n. cond (bytes_eq (string_bytes text) q) (Some n) (number_in (map string_bytes texts) q)) (sym (length-map texts string_bytes))
-    ∙ (sym (number_added (map string_bytes texts) (string_bytes text) q none)
+-- numbers that are those of the texts are so still once a new text comes to both
+pub numbered_more : (old new : NameNumbers) (texts : List (String Global)) (text : String Global) (name : List ℕ)
+    → ((q : List ℕ) → AreBytes q → number_at old q ≡ number_in (map string_bytes texts) q)
+    → number_in (map string_bytes texts) name ≡ None → string_bytes text ≡ name
+    → ((q : List ℕ) → AreBytes q → number_at new q ≡ cond (bytes_eq name q) (Some (length texts)) (number_at old q))
+    → (q : List ℕ) → AreBytes q → number_at new q ≡ number_in (map string_bytes (texts ++ text ∷ [])) q
+numbered_more old new texts text name numbered none is set q bytes =
+    set q bytes
+    ∙ (ap (λ o. cond (bytes_eq name q) (Some (length texts)) o) (numbered q bytes)
+    ∙ (ap (λ n. cond (bytes_eq name q) (Some n) (number_in (map string_bytes texts) q)) (sym (length-map texts string_bytes))
+    ∙ (sym (number_added (map string_bytes texts) name q none)
+    ∙ (ap (λ n. number_in (map string_bytes texts ++ n ∷ []) q) (sym is)
     ∙ ap (λ names. number_in names q) (sym (map-append string_bytes texts (text ∷ [])))))))
 
 none_behind : (k count : ℕ) → cond (nat_lt k count) (Some k) None ≡ None → count ≤ k

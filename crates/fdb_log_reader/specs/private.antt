@@ -1,4 +1,5 @@
 -- What a log and its names owe each other, and what a line has not. (this product's own)
+pub mod Codes
 pub mod Feeding
 pub mod Texts
 pub mod Usual

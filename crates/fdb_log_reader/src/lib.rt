@@ -8,6 +8,7 @@
 mod error;
 mod keys;
 mod member;
+mod name_numbers;
 mod named_log;
 mod names;
 mod parsing;

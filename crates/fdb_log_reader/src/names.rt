@@ -2,24 +2,23 @@
 
 ghost use Rattle.std.specs.Prelude.{◌≡◌, ◌<◌, ℕ, List, [], IfOk, IfSome, OnErr, OnOk, Some, length};
 ghost use Rattle.std.specs.Prelude.{map, option_map, slice_get, string_bytes};
-ghost use Rattle.std.specs.BTreeMap.{get_by_text};
 ghost use Rattle.json.specs.Strict.{AreDistinct};
 ghost use Rattle.fdb_log_reader.specs.Numbers.{number_in, with_name};
 ghost use Rattle.fdb_log_reader.specs.Printed.{printed, read_back, shown_text};
+ghost use Rattle.fdb_log_reader.specs.private.Codes.{number_at, AreBytes};
 
+use crate::name_numbers::NameNumbers;
 use crate::printing::{printed_name, shown_text};
 use std::alloc::{AllocError, Global};
-use std::collections::BTreeMap;
 
 /// The names of the clients of a log, or its keys or shown texts. The number of each is its place,
 /// counted from 0.
 #[derive(Drop)]
 pub struct Names {
     texts: Vec<String>,
-    // A table that compares: no choice of names makes it slow, as it would one that hashes.
-    numbers: BTreeMap<String, usize>,
-    ghost numbered: { (name : List ℕ)
-        → get_by_text numbers name ≡ number_in (map string_bytes texts.items) name },
+    numbers: NameNumbers,
+    ghost numbered: { (name : List ℕ) → AreBytes name
+        → number_at numbers name ≡ number_in (map string_bytes texts.items) name },
     ghost distinct: { AreDistinct (map string_bytes texts.items) },
 }
 
@@ -31,7 +30,7 @@ impl Names {
     {
         Names {
             texts: Vec::new(alloc),
-            numbers: BTreeMap::new(alloc),
+            numbers: NameNumbers::new(alloc),
         }
     }
 
@@ -93,7 +92,7 @@ impl Names {
         ensures number { result ≡ number_in (names_of self.now) name.now }
         ensures within { IfSome result (λ number. number < length (names_of self.now)) }
     {
-        self.numbers.get(name).copied()
+        self.numbers.get(name)
     }
 
     /// The number of the client of a name, which is added unless it is there.
@@ -110,9 +109,8 @@ impl Names {
         }
         let number = self.texts.len();
         let text = String::from_str(alloc, name)?;
-        let key = String::from_str(alloc, name)?;
         self.texts.push(text)?;
-        let Ok(_) = self.numbers.insert(key, number) else {
+        let Ok(_) = self.numbers.set(alloc, name, number) else {
             self.texts.pop();
             return Err(AllocError);
         };

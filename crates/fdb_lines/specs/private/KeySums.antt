@@ -1,5 +1,5 @@
 -- What is counted of the lines of each part of a log.
-use Rattle.std.specs.Prelude.{ℕ, ◌<◌, ◌≤◌, List, All, length, slice_index}
+use Rattle.std.specs.Prelude.{ℕ, ◌<◌, ◌≤◌, List, All, cond, length, slice_index}
 use Rattle.std.specs.List.{sum_by}
 use Rattle.fdb_lines.specs.declared.opts.AuditOpts.{AuditOpts}
 use Rattle.fdb_lines.specs.declared.parts.Part.{Part}
@@ -10,8 +10,12 @@ use Rattle.fdb_lines.specs.Summary.{ordered, unreported}
 abbrev pub unreported_of : Lines → AuditOpts → Part → ℕ
 unreported_of log opts part = unreported (case_of (part_of log part.places.items) opts)
 
+-- of lines without times no pair is counted
+abbrev pub ordered_if : Lines → AuditOpts → ℕ
+ordered_if log opts = cond log.timed (ordered (case_of log opts)) 0
+
 abbrev pub ordered_of : Lines → AuditOpts → Part → ℕ
-ordered_of log opts part = ordered (case_of (part_of log part.places.items) opts)
+ordered_of log opts part = ordered_if (part_of log part.places.items) opts
 
 abbrev pub lines_in_all : List Part → ℕ
 lines_in_all parts = sum_by (λ (part : Part). length part.places.items) parts

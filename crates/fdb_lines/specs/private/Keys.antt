@@ -1,9 +1,12 @@
 -- The parts of a log, one for each key, and what was found at each line.
-use Rattle.std.specs.Prelude.{◌≡◌, ◌≢◌, ◌⊎◌, ℕ, zero, suc, ◌<◌, List, [], ◌∷◌, ◌++◌, Option, None, Some, Vec, length, map, set, slice_index_or}
+use Rattle.std.specs.Prelude.{◌≡◌, ◌≢◌, ◌⊎◌, ℕ, zero, suc, ◌<◌, List, [], ◌∷◌, ◌++◌, Option, None, Some, Vec, cond, length, map, nat_lt, set, slice_index_or}
+use Rattle.std.specs.BTreeMap.{get}
+use Rattle.std.specs.Ordering.{nat_cmp}
 use Rattle.std.specs.declared.alloc.Global.{Global}
 use Rattle.std.specs.List.{All}
 use Rattle.fdb_lines.specs.declared.opts.AuditOpts.{AuditOpts}
 use Rattle.fdb_lines.specs.declared.parts.Part.{Part}
+use Rattle.fdb_lines.specs.declared.parts.PartNumbers.{PartNumbers}
 use Rattle.fdb_lines.specs.declared.reason.Finding.{Finding}
 use Rattle.fdb_lines.specs.Audit.{case_of}
 use Rattle.fdb_lines.specs.Keys.{key_at, placed_late, placed_reason, told_at}
@@ -21,6 +24,10 @@ number_of (Some key) = suc key
 abbrev pub key_of : ℕ → Option ℕ
 key_of zero = None
 key_of (suc key) = Some key
+
+-- the part of a key, by its number: the lowest are in a list, the others in a table
+abbrev pub part_number : PartNumbers → ℕ → Option ℕ
+part_number numbers q = cond (nat_lt q (length numbers.near.items)) (slice_index_or numbers.near.items q None) (get nat_cmp numbers.far q)
 
 abbrev pub keys_in : List Part → List (Option ℕ)
 keys_in parts = map (λ (part : Part). part.key) parts

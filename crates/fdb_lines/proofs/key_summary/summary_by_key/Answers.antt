@@ -1,22 +1,15 @@
-use Rattle.std.proofs.Common.{None, Some, ap, cond, subst, sym, ◌∙◌}
+use Rattle.std.proofs.Common.{ℕ, None, Some, ap, cond, subst, sym, ◌∙◌}
 use Rattle.std.specs.List.{sum_by}
 use Rattle.fdb_lines.specs.Log.{lines_of}
 use Rattle.fdb_lines.specs.private.KeySums.{ordered_of, unreported_of, ArePartsOf}
 use Rattle.fdb_lines.proofs.Totals.{are_parts, ordered_is, unreported_is}
 use Rattle.fdb_lines.proofs.key_summary.summary_by_key.Goals as goal
 
-pub unreported_in-requires : goal.unreported_in-requires
-unreported_in-requires c =
+pub sums_of-requires : goal.sums_of-requires
+sums_of-requires c =
     let log = lines_of c.args.log.now in
     let parts = c.in_ok-parts.ensures in
     subst (ArePartsOf log) (sym c.deref.ensures.value)
-    (are_parts log c.args.keys.now c.in_ok-parts.parts.items c.requires.as_many c.args.log.now.few parts.lines parts.places)
-
-pub ordered_in-requires : goal.ordered_in-requires
-ordered_in-requires c =
-    let log = lines_of c.args.log.now in
-    let parts = c.in_ok-parts.ensures in
-    subst (ArePartsOf log) (sym c.deref-2.ensures.value)
     (are_parts log c.args.keys.now c.in_ok-parts.parts.items c.requires.as_many c.args.log.now.few parts.lines parts.places)
 
 pub returns-clause-unreported : goal.returns-clause-unreported
@@ -25,7 +18,7 @@ returns-clause-unreported c =
     let opts = c.args.opts.now in
     let parts = c.in_ok-parts.ensures in
     c.counted.ensures.unreported
-    ∙ (c.in_ok-unreported.ensures
+    ∙ (c.in_ok-sums.ensures.unreported
     ∙ (ap (sum_by (unreported_of log opts)) c.deref.ensures.value ∙ unreported_is log c.args.keys.now opts c.in_ok-parts.parts.items parts.keys parts.places))
 
 pub returns-clause-ordered : goal.returns-clause-ordered
@@ -34,6 +27,6 @@ returns-clause-ordered c =
     let opts = c.args.opts.now in
     let parts = c.in_ok-parts.ensures in
     c.counted.ensures.ordered
-    ∙ (c.in_ok-ordered.ensures
-    ∙ ap (λ pairs. cond log.timed (Some pairs) None)
-    (ap (sum_by (ordered_of log opts)) c.deref-2.ensures.value ∙ ordered_is log c.args.keys.now opts c.in_ok-parts.parts.items parts.keys parts.places))
+    ∙ (c.if_timed-ordered.ensures
+    ∙ (ap (λ (pairs : ℕ). cond log.timed (Some pairs) None) (c.in_ok-sums.ensures.ordered ∙ ap (sum_by (ordered_of log opts)) c.deref.ensures.value)
+    ∙ ordered_is log c.args.keys.now opts c.in_ok-parts.parts.items parts.keys parts.places))

@@ -1,11 +1,20 @@
 use Rattle.std.proofs.Common.{◌≡◌, ◌+◌, length, ap, subst, sym, ◌∙◌, add-one, arith}
-use Rattle.std.specs.BTreeMap.{get}
 use Rattle.std.specs.List.{All}
-use Rattle.std.specs.Ordering.{nat_cmp}
+use Rattle.std.proofs.lemmas.List.{length-map}
+use Rattle.fdb_lines.specs.declared.parts.Part.{Part}
 use Rattle.fdb_lines.specs.Keys.{keys_below}
-use Rattle.fdb_lines.specs.private.Keys.{AreNumbered}
+use Rattle.fdb_lines.specs.private.Keys.{part_number, AreNumbered}
+use Rattle.fdb_lines.proofs.Keyed.{few_keys}
 use Rattle.fdb_lines.proofs.Parted.{line_more, parts_more, same_keys, IsPart}
 use Rattle.fdb_lines.proofs.parts.parts_of.Goals as goal
+
+pub part_of_key-requires-clause-few : goal.part_of_key-requires-clause-few
+part_of_key-requires-clause-few c =
+    let parts = c.loop-place.parts.items in
+    let size = length-map parts (λ (part : Part). part.key) in
+    let keys = ap length c.loop-place.invariant.keys in
+    let few = few_keys c.args.keys.now c.loop-place.place in
+    omega arith
 
 pub loop-place-preserved : goal.loop-place-preserved
 loop-place-preserved c =
@@ -20,7 +29,7 @@ loop-place-preserved c =
     let place = c.in_ok-add_place.ensures in
     let more = parts_more keys n number old mid new inv.keys inv.places its.more its.within its.key place in
     record {
-      numbered = subst (AreNumbered (λ q. get nat_cmp c.part_of_key.new.numbers q)) (sym (same_keys mid new number n place)) its.numbered;
+      numbered = subst (AreNumbered (part_number c.part_of_key.new.numbers)) (sym (same_keys mid new number n place)) its.numbered;
       keys = rw add-one more.0;
       places = rw add-one more.1;
       lines = line_more _ n number old mid new its.more its.within place ∙ ap (λ m. m + 1) inv.lines;

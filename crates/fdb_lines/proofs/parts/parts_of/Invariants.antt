@@ -1,16 +1,14 @@
 use Rattle.std.proofs.Common.{◌≡◌}
-use Rattle.std.specs.BTreeMap.{get}
 use Rattle.std.specs.List.{All}
-use Rattle.std.specs.Ordering.{nat_cmp}
 use Rattle.fdb_lines.specs.Keys.{keys_below}
-use Rattle.fdb_lines.specs.private.Keys.{keys_in, AreNumbered}
+use Rattle.fdb_lines.specs.private.Keys.{keys_in, part_number, AreNumbered}
 use Rattle.fdb_lines.specs.private.KeySums.{lines_in_all}
 use Rattle.fdb_lines.proofs.Parted.{IsPart}
 use Rattle.fdb_lines.proofs.parts.parts_of.Given as goal
 
 abbrev pub invariant-loop-place : goal.invariant-loop-place
 invariant-loop-place l = record {
-  numbered : AreNumbered (λ q. get nat_cmp l.numbers q) (keys_in l.parts.items);
+  numbered : AreNumbered (part_number l.numbers) (keys_in l.parts.items);
   keys : keys_in l.parts.items ≡ keys_below l.keys l.place;
   places : All (IsPart l.keys l.place) l.parts.items;
   lines : lines_in_all l.parts.items ≡ l.place;
