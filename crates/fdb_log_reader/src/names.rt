@@ -96,7 +96,7 @@ impl Names {
     }
 
     /// The number of the client of a name, which is added unless it is there.
-    #[tactic(auto, using(crate::proofs::Naming::numbered_more, crate::proofs::Naming::distinct_more, crate::proofs::Naming::number_there))]
+    #[tactic(auto, using(crate::proofs::Naming::number_there))]
     pub(crate) fn add(&mut self, alloc: Global, name: &str) -> Result<usize, AllocError>
         ensures added { OnOk result (names_of self.new ≡ with_name (names_of self.old) name.now) }
         ensures number { IfOk result
