@@ -13,3 +13,4 @@ pub mod Keys
 pub mod KeyOrders
 pub mod KeySums
 pub mod Late
+pub mod Quiet
