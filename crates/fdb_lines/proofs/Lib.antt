@@ -35,3 +35,5 @@ pub mod Kept
 pub mod Parted
 pub mod Placed
 pub mod Totals
+pub mod Opened
+pub mod PutOn

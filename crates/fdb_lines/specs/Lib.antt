@@ -17,4 +17,5 @@ pub mod Summary
 pub mod Carried
 pub mod Watching
 pub mod Watch
+pub mod KeyParts
 pub mod private

@@ -14,3 +14,4 @@ pub mod KeyOrders
 pub mod KeySums
 pub mod Late
 pub mod Quiet
+pub mod KeyParts

@@ -74,7 +74,7 @@ fn part_of_key(
     Ok(number)
 }
 
-fn give_number(
+pub(crate) fn give_number(
     numbers: &mut BTreeMap<u64, usize>,
     code: u64,
     number: usize,
@@ -87,7 +87,7 @@ fn give_number(
 }
 
 /// A number for each key: 0 for that of lines without one.
-fn number_of(key: Option<u32>) -> u64
+pub(crate) fn number_of(key: Option<u32>) -> u64
     ensures { result ≡ number_of key }
 {
     match key {

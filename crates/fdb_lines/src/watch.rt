@@ -211,6 +211,13 @@ impl Watch {
         Ok(Next { watch, found, kept })
     }
 
+    /// The lines that it keeps.
+    pub(crate) fn into_log(self) -> Log
+        ensures { result ≡ self.log }
+    {
+        self.log
+    }
+
     /// Whether it has told of all lines, and keeps two at most: until a line comes, it has nothing to
     /// tell and nothing to let go.
     pub(crate) fn is_quiet(&self) -> bool
@@ -227,7 +234,8 @@ impl Watch {
             → IsTold self None lines it.numbers.items it.found.items) }
         ensures lines { IfOk result (λ it. (lines : List Line) → HasSeen self lines
             → (lines_of it.log).lines ≡ lines_in lines it.numbers.items) }
-        ensures numbers { IfOk result (λ it. it.numbers.items ≡ self.numbers.items) }
+        ensures numbers { IfOk result (λ it. it.numbers ≡ self.numbers) }
+        ensures log { IfOk result (λ it. it.log ≡ self.log) }
     {
         let found = self.found(alloc, None)?;
         Ok(Settled {
@@ -259,7 +267,7 @@ impl Watch {
 }
 
 /// The numbers at some places.
-fn numbers_at(alloc: Global, numbers: &[u64], places: &[u32]) -> Result<Vec<u64>, AllocError>
+pub(crate) fn numbers_at(alloc: Global, numbers: &[u64], places: &[u32]) -> Result<Vec<u64>, AllocError>
     requires { (j : ℕ) → j < length places.now → slice_index places.now j < length numbers.now }
     ensures { IfOk result (λ some. some.items ≡ map (slice_index numbers.now) places.now) }
 {
