@@ -37,3 +37,4 @@ pub mod Placed
 pub mod Totals
 pub mod Opened
 pub mod PutOn
+pub mod SeenByKey

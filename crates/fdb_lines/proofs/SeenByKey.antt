@@ -4,7 +4,7 @@ use Rattle.std.specs.List.{All}
 use Rattle.std.proofs.lemmas.Bool.{cases_eq, cases_lt, false_from_ne_true}
 use Rattle.std.proofs.lemmas.Bool.Decides.{nat_tests}
 use Rattle.std.proofs.lemmas.List.{get_or_append_left, get_or_push, get_or-map, get_or-set_other, get_or-set_same, length_push, length-map, length-set, map-append, map-set, map_push, set-get_or}
-use Rattle.std.proofs.lemmas.List.Elements.{All-append, All-cons, All-from_get_or, All-get_or, All-nil}
+use Rattle.std.proofs.lemmas.List.Elements.{All-append, All-cons, All-from_get_or, All-get_or, All-nil, All-set}
 use Rattle.std.proofs.lemmas.Simd.{map-map}
 use Rattle.fdb_lines.specs.declared.key_part.KeyPart.{KeyPart}
 use Rattle.fdb_lines.specs.declared.line.Line.{Line}
@@ -13,10 +13,10 @@ use Rattle.fdb_lines.specs.KeyParts.{lines_of_one, names_of, HasSeenOne}
 use Rattle.fdb_lines.specs.Keys.{key_at, keys_below, keys_of, place_among, places_below, places_of, same_key}
 use Rattle.fdb_lines.specs.Lines.{line_at, lines_in, nobody}
 use Rattle.fdb_lines.specs.Watch.{HasSeen}
-use Rattle.fdb_lines.specs.private.KeyParts.{HasNoMore, HasNoMoreAt, HasOneMore, HasOneMoreAt, IsFirst, IsNext}
+use Rattle.fdb_lines.specs.private.KeyParts.{HasNoMore, HasNoMoreAt, HasOneMore, HasOneMoreAt, IsAlike, IsFirst, IsNext, StaysAt}
 use Rattle.fdb_lines.proofs.Keyed.{each_once, has_lines, has_none, place_is, same_is, same_self}
 
-key_is : KeyPart → Option ℕ
+abbrev key_is : KeyPart → Option ℕ
 key_is part = part.key
 
 -- ---- the places of a key, with one line more
@@ -131,11 +131,11 @@ module _ (lines : List Line) (keys : List (Option ℕ)) (as_many : length keys �
 -- ---- a part is as it was, or has settled
 
 pub seen_no_more : (lines : List Line) (keys : List (Option ℕ)) (old new : KeyPart) → HasSeenOne lines keys old → HasNoMore old new → HasSeenOne lines keys new
-seen_no_more lines keys old new has no = record {
-  seen = subst (λ q. HasSeen new.watch (lines_of_one lines keys q)) (sym no.key) (no.seen (lines_of_one lines keys old.key) has.seen);
-  numbers = no.numbers
+seen_no_more lines keys old new has same = record {
+  seen = subst (λ q. HasSeen new.watch (lines_of_one lines keys q)) (sym same.key) (same.seen (lines_of_one lines keys old.key) has.seen);
+  numbers = same.numbers
       ∙ (has.numbers
-      ∙ (ap (map (slice_index (places_of keys old.key))) (sym no.kept) ∙ ap (λ q. map (slice_index (places_of keys q)) new.watch.numbers.items) (sym no.key)));
+      ∙ (ap (map (slice_index (places_of keys old.key))) (sym same.kept) ∙ ap (λ q. map (slice_index (places_of keys q)) new.watch.numbers.items) (sym same.key)));
 }
 
 pub seen_next : (lines : List Line) (keys : List (Option ℕ)) (at : ℕ) (old new : KeyPart) (found : List Finding) (places : List ℕ)
@@ -249,15 +249,38 @@ module _ (lines : List Line) (keys : List (Option ℕ)) (as_many : length keys �
 
 pub seen_still : (lines : List Line) (keys : List (Option ℕ)) (place : ℕ) (parts new : List KeyPart) → place < length parts → All (HasSeenOne lines keys) parts
     → HasNoMoreAt place parts new → (names_of new ≡ names_of parts) × All (HasSeenOne lines keys) new
-seen_still lines keys place parts new lt each (part, no, is) = (
-  same_names place parts new part no.key is lt,
+seen_still lines keys place parts new lt each (part, still, is) = (
+  same_names place parts new part still.key is lt,
   subst (All (HasSeenOne lines keys)) (sym is) (λ i d less.
     let many = length-set parts place part in
     let inside : i < length parts = omega arith in
     elim (cases_eq i place) [
       | inl same ↦
           subst (HasSeenOne lines keys) (sym (ap (λ m. get_or (set parts place part) m d) same ∙ get_or-set_same parts place part d lt))
-          (seen_no_more lines keys (get_or parts place part) part (All-get_or (HasSeenOne lines keys) parts place part lt each) no)
+          (seen_no_more lines keys (get_or parts place part) part (All-get_or (HasSeenOne lines keys) parts place part lt each) still)
       | inr away ↦ subst (HasSeenOne lines keys) (sym (get_or-set_other parts place i part d away)) (each i d inside)
     ]),
 )
+
+pub names_stay : (place : ℕ) (old new : List KeyPart) → place < length old → StaysAt place old new → names_of new ≡ names_of old
+names_stay place old new lt (part, key, same, is) = same_names place old new part key is lt
+
+pub alike_stay : (margin horizon from place : ℕ) (old new : List KeyPart) → place < length old → All (IsAlike margin horizon from) old → StaysAt place old new
+    → All (IsAlike margin horizon from) new
+alike_stay margin horizon from place old new lt each (part, key, same, is) =
+    let was = All-get_or (IsAlike margin horizon from) old place part lt each in
+    let low = was.its_from in
+    let up = same.its_from in
+    subst (All (IsAlike margin horizon from)) (sym is) (All-set (IsAlike margin horizon from) old place part (record {
+      its_margin = same.its_margin ∙ was.its_margin;
+      its_horizon = same.its_horizon ∙ was.its_horizon;
+      its_from = omega arith;
+    }) each)
+
+pub alike_first : (name : Option ℕ) (margin horizon from : ℕ) (line : Line) (number : ℕ) (old : List KeyPart) (part : KeyPart) → All (IsAlike margin horizon from) old
+    → IsFirst name margin horizon line number part → All (IsAlike margin horizon from) (old ++ part ∷ [])
+alike_first name margin horizon from line number old part each first =
+    let up = first.alike.its_from in
+    All-append (IsAlike margin horizon from) old (part ∷ []) each
+    (All-cons (IsAlike margin horizon from) part [] (record { its_margin = first.alike.its_margin; its_horizon = first.alike.its_horizon; its_from = omega arith })
+    (All-nil (IsAlike margin horizon from)))

@@ -18,4 +18,5 @@ pub mod Carried
 pub mod Watching
 pub mod Watch
 pub mod KeyParts
+pub mod KeyWatch
 pub mod private

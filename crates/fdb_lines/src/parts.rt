@@ -1,7 +1,7 @@
 //! The keys of a log, each with where its lines stand.
 
 ghost use Rattle.std.specs.Prelude.{◌≡◌, ◌==◌, ℕ, ◌<◌, ◌≤◌, All, IfOk};
-ghost use Rattle.std.specs.Prelude.{OnOk, Some, cond, length};
+ghost use Rattle.std.specs.Prelude.{OnErr, OnOk, Some, cond, length};
 ghost use Rattle.std.specs.BTreeMap.{get};
 ghost use Rattle.std.specs.Ordering.{nat_cmp};
 ghost use Rattle.fdb_lines.specs.Keys.{key_at, keys_of, places_of};
@@ -79,8 +79,9 @@ pub(crate) fn give_number(
     code: u64,
     number: usize,
 ) -> Result<(), AllocError>
-    ensures { OnOk result ((q : ℕ) → get nat_cmp numbers.new q
+    ensures ok { OnOk result ((q : ℕ) → get nat_cmp numbers.new q
         ≡ cond (q == code) (Some number) (get nat_cmp numbers.old q)) }
+    ensures err { OnErr result ((q : ℕ) → get nat_cmp numbers.new q ≡ get nat_cmp numbers.old q) }
 {
     numbers.insert(code, number)?;
     Ok(())

@@ -1,6 +1,6 @@
 -- The parts of an audit that watches by key: one for each key, of which some are open.
-use Rattle.std.specs.Prelude.{◌≡◌, ◌≢◌, ℕ, ◌<◌, ◌≤◌, max, Bool, true, false, All, List, [], ◌∷◌, ◌++◌, Option, Some, length, map, set, slice_index, slice_index_or}
-use Rattle.std.specs.List.{AllPairs, Contains}
+use Rattle.std.specs.Prelude.{◌≡◌, ◌≢◌, ◌==◌, ℕ, ◌<◌, ◌≤◌, max, Bool, true, false, All, List, [], ◌∷◌, ◌++◌, Option, Some, length, map, set, slice_index, slice_index_or}
+use Rattle.std.specs.List.{AllPairs, list_any}
 use Rattle.fdb_lines.specs.declared.key_part.KeyPart.{KeyPart}
 use Rattle.fdb_lines.specs.declared.key_part.SettledKey.{SettledKey}
 use Rattle.fdb_lines.specs.declared.line.Line.{Line}
@@ -16,10 +16,9 @@ abbrev pub flag_at : List Bool → ℕ → Bool
 flag_at flags i = slice_index_or flags i false
 
 -- those that are open are listed, each once
-pub record AreOpen (flags : List Bool) (open_places : List ℕ) : Type 0 where
-  pub once : AllPairs (λ i j. i ≢ j) open_places
-  pub listed : (i : ℕ) → flag_at flags i ≡ true → Contains open_places i
-  pub are : (i : ℕ) → Contains open_places i → flag_at flags i ≡ true
+pub record AreOpen (flags : List Bool) (places : List ℕ) : Type 0 where
+  pub once : AllPairs (λ i j. i ≢ j) places
+  pub listed : (i : ℕ) → list_any (λ j. j == i) places ≡ flag_at flags i
 
 -- a watch of these, that has settled no further than to a moment
 pub record IsAlike (margin horizon from : ℕ) (part : KeyPart) : Type 0 where

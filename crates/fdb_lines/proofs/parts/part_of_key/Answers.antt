@@ -32,7 +32,7 @@ returns-clause-numbered c =
     grind (arith, common_steps, c.get.ensures.value, c.copied.ensures, c.number_of-code.ensures, c.in_default.is) in
     let sizes = length-map parts (λ (part : Part). part.key) in
     let size : c.len-number.result ≡ length names = omega arith in
-    let more = numbered_more old new names c.args.key c.requires none (λ q. rw (← size, ← c.number_of-code.ensures) (c.in_ok-give_number.ensures q)) in
+    let more = numbered_more old new names c.args.key c.requires none (λ q. rw (← size, ← c.number_of-code.ensures) (c.in_ok-give_number.ensures.ok q)) in
     rw (c.in_ok-push.ensures.items, map_push (λ (part : Part). part.key)) more
 
 pub returns-clause-more : goal.returns-clause-more
