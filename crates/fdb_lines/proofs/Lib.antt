@@ -38,3 +38,4 @@ pub mod Totals
 pub mod Opened
 pub mod PutOn
 pub mod SeenByKey
+pub mod SettledByKey

@@ -1,11 +1,12 @@
 -- What the watch of each key has seen, as lines come.
-use Rattle.std.proofs.Common.{◌≡◌, ◌≢◌, ◌==◌, ℕ, zero, suc, ◌<◌, ◌≤◌, Bool, true, false, cond, List, [], ◌∷◌, ◌++◌, Option, None, length, map, set, get_or, slice_index, refl, ap, sym, subst, ◌∙◌, inl, inr, add-one, arith, append-nil, length-append}
+use Rattle.std.proofs.Common.{◌≡◌, ◌≢◌, ◌==◌, ◌-◌, ℕ, zero, suc, ◌<◌, ◌≤◌, Bool, true, false, cond, List, [], ◌∷◌, ◌++◌, Option, None, length, map, set, get_or, slice_index, take, refl, ap, sym, subst, ◌∙◌, inl, inr, add-one, arith, append-nil, length-append}
 use Rattle.std.specs.List.{All}
 use Rattle.std.proofs.lemmas.Bool.{cases_eq, cases_lt, false_from_ne_true}
 use Rattle.std.proofs.lemmas.Bool.Decides.{nat_tests}
 use Rattle.std.proofs.lemmas.List.{get_or_append_left, get_or_push, get_or-map, get_or-set_other, get_or-set_same, length_push, length-map, length-set, map-append, map-set, map_push, set-get_or}
 use Rattle.std.proofs.lemmas.List.Elements.{All-append, All-cons, All-from_get_or, All-get_or, All-nil, All-set}
 use Rattle.std.proofs.lemmas.Simd.{map-map}
+use Rattle.std.proofs.Math.Seq.{take-append_seam}
 use Rattle.fdb_lines.specs.declared.key_part.KeyPart.{KeyPart}
 use Rattle.fdb_lines.specs.declared.line.Line.{Line}
 use Rattle.fdb_lines.specs.declared.reason.Finding.{Finding}
@@ -13,6 +14,7 @@ use Rattle.fdb_lines.specs.KeyParts.{lines_of_one, names_of, HasSeenOne}
 use Rattle.fdb_lines.specs.Keys.{key_at, keys_below, keys_of, place_among, places_below, places_of, same_key}
 use Rattle.fdb_lines.specs.Lines.{line_at, lines_in, nobody}
 use Rattle.fdb_lines.specs.Watch.{HasSeen}
+use Rattle.fdb_lines.specs.private.Keys.{number_of, AreNumbered}
 use Rattle.fdb_lines.specs.private.KeyParts.{HasNoMore, HasNoMoreAt, HasOneMore, HasOneMoreAt, IsAlike, IsFirst, IsNext, StaysAt}
 use Rattle.fdb_lines.proofs.Keyed.{each_once, has_lines, has_none, place_is, same_is, same_self}
 
@@ -284,3 +286,17 @@ alike_first name margin horizon from line number old part each first =
     All-append (IsAlike margin horizon from) old (part ∷ []) each
     (All-cons (IsAlike margin horizon from) part [] (record { its_margin = first.alike.its_margin; its_horizon = first.alike.its_horizon; its_from = omega arith })
     (All-nil (IsAlike margin horizon from)))
+
+-- ---- what was put at the end is taken away again
+
+pub popped : {X : Type 0} (xs : List X) (x : X) (ys zs : List X) (n : ℕ) → ys ≡ xs ++ x ∷ [] → n ≡ length ys → zs ≡ take (n - 1) ys → zs ≡ xs
+popped {X} xs x ys zs n pushed size is =
+    let one = length-append xs (x ∷ []) in
+    let last : n - 1 ≡ length xs = omega (arith, ap length pushed) in
+    is ∙ (ap (λ m. take m ys) last ∙ (ap (λ (l : List X). take (length xs) l) pushed ∙ take-append_seam xs (x ∷ [])))
+
+pub numbered_same : (old new : ℕ → Option ℕ) (names : List (Option ℕ)) → AreNumbered old names → ((q : ℕ) → new q ≡ old q) → AreNumbered new names
+numbered_same old new names are same = record {
+  there = λ key number has. are.there key number (sym (same (number_of key)) ∙ has);
+  absent = λ key lacks. are.absent key (sym (same (number_of key)) ∙ lacks);
+}

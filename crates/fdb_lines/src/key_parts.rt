@@ -1,16 +1,18 @@
 //! The parts of an audit that watches by key: a line is added to one, and those that are open
 //! settle.
 
-ghost use Rattle.std.specs.Prelude.{◌≡◌, ◌≢◌, ◌<◌, All, IfOk, OnErr, OnOk, length};
+ghost use Rattle.std.specs.Prelude.{◌≡◌, ◌≢◌, ◌<◌, All, IfOk, None, OnErr, OnOk, length};
 ghost use Rattle.std.specs.List.{AllPairs, filter};
-ghost use Rattle.fdb_lines.specs.private.KeyParts.{flag_at, flags_of, AreNext, AreOpen, ArePut};
-ghost use Rattle.fdb_lines.specs.private.KeyParts.{HasNoMoreAt, HasOneMoreAt, IsFirst, StaysAt};
+ghost use Rattle.fdb_lines.specs.private.KeyParts.{flag_at, flags_of, AreEntries, AreNext, AreOpen};
+ghost use Rattle.fdb_lines.specs.private.KeyParts.{ArePut, HasNoMoreAt, HasOneMoreAt, IsFirst};
+ghost use Rattle.fdb_lines.specs.private.KeyParts.{StaysAt};
 
 use crate::key_part::{KeyPart, SettledKey};
 use crate::line::Line;
 use crate::log::{LineError, Log};
 use crate::watch::{Settled, WatchError};
 use std::alloc::{AllocError, Global};
+use std::mem::replace;
 
 /// Parts as they go on once they have settled, and what is told then.
 #[derive(Drop)]
@@ -106,6 +108,24 @@ pub(crate) fn put_parts(
         let place = next_parts.len();
         parts[places[place]].go_on(next, &mut told[place]);
     }
+}
+
+/// What is told of all lines of the parts at some places that were not told of.
+pub(crate) fn finish_parts(
+    alloc: Global,
+    mut parts: Vec<KeyPart>,
+    places: &[usize],
+) -> Result<Vec<SettledKey>, AllocError>
+    requires within { All (λ i. i < length parts.items) places.now }
+    requires once { AllPairs (λ i j. i ≢ j) places.now }
+    ensures { IfOk result (λ told. AreEntries None parts.items places.now told.items) }
+{
+    let mut told = Vec::with_capacity(alloc, places.len())?;
+    for place in places {
+        let part = replace(&mut parts[*place], KeyPart::new(alloc, None, 0, 0));
+        told.push(part.finish(alloc)?)?;
+    }
+    Ok(told)
 }
 
 /// Keeps of some places those at which a part is open.

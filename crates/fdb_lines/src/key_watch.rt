@@ -15,7 +15,7 @@ ghost use Rattle.fdb_lines.specs.private.Keys.{number_of, AreNumbered};
 ghost use Rattle.fdb_lines.specs.private.KeyParts.{flag_at, flags_of, AreOpen, IsAlike};
 
 use crate::key_part::{KeyPart, SettledKey};
-use crate::key_parts::{add_line, first_part, keep_open, next_parts, put_parts};
+use crate::key_parts::{add_line, finish_parts, first_part, keep_open, next_parts, put_parts};
 use crate::line::Line;
 use crate::log::LineError;
 use crate::parts::{give_number, number_of};
@@ -196,12 +196,7 @@ impl KeyWatch {
             → HasSeenByKey self lines keys
             → All (λ part. HasEntry told.items part.key ⊎ HasNothingToTell None lines keys part) self.parts.items) }
     {
-        let mut told = Vec::new(alloc);
-        for part in self.parts {
-            if part.is_open {
-                told.push(part.finish(alloc)?)?;
-            }
-        }
+        let told = finish_parts(alloc, self.parts, &self.open_parts)?;
         Ok(told)
     }
 }

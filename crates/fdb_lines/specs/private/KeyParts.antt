@@ -107,3 +107,15 @@ pub record ArePut (old : List KeyPart) (places : List ℕ) (nexts : List KeyPart
   pub put : (j : ℕ) (d : KeyPart) → j < length places → slice_index_or new (slice_index places j) d ≡ slice_index_or nexts j d
   pub others : (i : ℕ) (d : KeyPart) → ((j : ℕ) → j < length places → slice_index places j ≢ i) → slice_index_or new i d ≡ slice_index_or old i d
   pub its : (j : ℕ) (d : KeyPart) (e : SettledKey) → j < length places → IsGiven (slice_index_or old (slice_index places j) d) (slice_index_or entries j e) (slice_index_or given j e)
+
+-- ---- what is told of those at some places, up to a moment or for good
+
+pub record IsEntry (to : Option ℕ) (part : KeyPart) (entry : SettledKey) : Type 0 where
+  pub key : entry.key ≡ part.key
+  pub told : (lines : List Line) → HasSeen part.watch lines → IsTold part.watch to lines part.watch.numbers.items entry.settled.found.items
+  pub log : entry.settled.log ≡ part.watch.log
+  pub numbers : entry.settled.numbers ≡ part.numbers
+
+pub record AreEntries (to : Option ℕ) (parts : List KeyPart) (places : List ℕ) (entries : List SettledKey) : Type 0 where
+  pub as_many : length entries ≡ length places
+  pub each : (j : ℕ) (d : KeyPart) (e : SettledKey) → j < length places → IsEntry to (slice_index_or parts (slice_index places j) d) (slice_index_or entries j e)
