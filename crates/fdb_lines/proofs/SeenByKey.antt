@@ -295,8 +295,8 @@ popped {X} xs x ys zs n pushed size is =
     let last : n - 1 ≡ length xs = omega (arith, ap length pushed) in
     is ∙ (ap (λ m. take m ys) last ∙ (ap (λ (l : List X). take (length xs) l) pushed ∙ take-append_seam xs (x ∷ [])))
 
-pub numbered_same : (old new : ℕ → Option ℕ) (names : List (Option ℕ)) → AreNumbered old names → ((q : ℕ) → new q ≡ old q) → AreNumbered new names
-numbered_same old new names are same = record {
+pub numbered_same : (old new : ℕ → Option ℕ) (list : List (Option ℕ)) → AreNumbered old list → ((q : ℕ) → new q ≡ old q) → AreNumbered new list
+numbered_same old new list are same = record {
   there = λ key number has. are.there key number (sym (same (number_of key)) ∙ has);
   absent = λ key lacks. are.absent key (sym (same (number_of key)) ∙ lacks);
 }

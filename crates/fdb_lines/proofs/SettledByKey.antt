@@ -276,7 +276,9 @@ module _ (at : ℕ) (old : List KeyPart) (places : List ℕ) (nexts : List KeyPa
             let less = it.1 in
             inl (
               (it.0, omega (arith, length-map given entry_key), get_or-map entry_key given it.0 e (get_or old i d).key (omega arith) ∙ (its i d it).1),
-              record { key = n.key; from = omega arith; settled = n.settled },
+              record { key = n.key; from = omega arith; settled = n.settled; few = n.few },
             )
-        | inr same ↦ inr (same.1, none i d lt (f ∙ same.0))
+        | inr same ↦
+            let closed : (get_or old i d).is_open ≡ false = sym (get_or-map open_flag old i d false lt) ∙ (f ∙ same.0) in
+            inr (record { same = same.1; nothing = none i d lt (f ∙ same.0); few = ((get_or old i d).quiet closed).few })
       ]

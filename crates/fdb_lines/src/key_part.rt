@@ -1,6 +1,6 @@
 //! A key of a log that is watched, with the watch of its lines.
 
-ghost use Rattle.std.specs.Prelude.{◌≡◌, All, List, IfOk, OnErr, OnOk};
+ghost use Rattle.std.specs.Prelude.{◌≡◌, All, List, IfErr, IfOk, OnErr, OnOk};
 ghost use Rattle.std.specs.Prelude.{[], false, length, true};
 ghost use Rattle.fdb_lines.specs.declared.line.Line.{Line};
 ghost use Rattle.fdb_lines.specs.Watch.{HasSeen, IsTold};
@@ -44,6 +44,8 @@ pub(crate) struct NextPart {
 }
 
 impl KeyPart {
+    ghost use Rattle.fdb_lines.specs.declared.watch.WatchError.TheVariants.{NoTimes};
+    ghost use Rattle.fdb_lines.specs.Lines.{has_times};
     ghost use Rattle.fdb_lines.specs.private.KeyParts.{HasNoMore, HasOneMore, IsAlike, IsNext};
 
     /// The part of a key without lines.
@@ -65,6 +67,7 @@ impl KeyPart {
     pub(crate) fn push(&mut self, line: Line, number: u64) -> Result<(), WatchError>
         ensures ok { OnOk result (HasOneMore line number self.old self.new) }
         ensures err { OnErr result (HasNoMore self.old self.new) }
+        ensures untimed { IfErr result (λ error. error ≡ NoTimes → has_times line ≡ false) }
         ensures opened { self.new.is_open ≡ true }
         ensures key { self.new.key ≡ self.old.key }
         ensures alike { IsAlike self.old.watch.margin self.old.watch.horizon self.old.watch.from self.new }

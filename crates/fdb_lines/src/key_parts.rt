@@ -1,8 +1,11 @@
 //! The parts of an audit that watches by key: a line is added to one, and those that are open
 //! settle.
 
-ghost use Rattle.std.specs.Prelude.{◌≡◌, ◌≢◌, ◌<◌, All, IfOk, None, OnErr, OnOk, length};
+ghost use Rattle.std.specs.Prelude.{◌≡◌, ◌≢◌, ◌<◌, All, IfErr, IfOk, OnErr, OnOk};
+ghost use Rattle.std.specs.Prelude.{None, false, length};
 ghost use Rattle.std.specs.List.{AllPairs, filter};
+ghost use Rattle.fdb_lines.specs.declared.watch.WatchError.TheVariants.{NoTimes};
+ghost use Rattle.fdb_lines.specs.Lines.{has_times};
 ghost use Rattle.fdb_lines.specs.private.KeyParts.{flag_at, flags_of, AreEntries, AreNext, AreOpen};
 ghost use Rattle.fdb_lines.specs.private.KeyParts.{ArePut, HasNoMoreAt, HasOneMoreAt, IsFirst};
 ghost use Rattle.fdb_lines.specs.private.KeyParts.{StaysAt};
@@ -33,6 +36,7 @@ pub(crate) fn add_line(
     requires opened { AreOpen (flags_of parts.old.items) open_parts.old.items }
     ensures opened { AreOpen (flags_of parts.new.items) open_parts.new.items }
     ensures stays { StaysAt place parts.old.items parts.new.items }
+    ensures untimed { IfErr result (λ error. error ≡ NoTimes → has_times line ≡ false) }
     ensures ok { OnOk result (HasOneMoreAt place line number parts.old.items parts.new.items) }
     ensures err { OnErr result (HasNoMoreAt place parts.old.items parts.new.items) }
 {
@@ -53,10 +57,13 @@ pub(crate) fn first_part(
     line: Line,
     number: u64,
 ) -> Result<KeyPart, WatchError>
-    ensures { IfOk result (IsFirst key margin horizon line number) }
+    ensures first { IfOk result (IsFirst key margin horizon line number) }
+    ensures untimed { IfErr result (λ error. error ≡ NoTimes → has_times line ≡ false) }
 {
     let mut part = KeyPart::new(alloc, key, margin, horizon);
-    part.push(line, number)?;
+    if let Err(error) = part.push(line, number) {
+        return Err(error);
+    }
     Ok(part)
 }
 

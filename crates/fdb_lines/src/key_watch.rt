@@ -46,6 +46,7 @@ pub struct KeyWatch {
 }
 
 impl KeyWatch {
+    ghost use Rattle.fdb_lines.specs.declared.watch.WatchError.TheVariants.{NoTimes};
     ghost use Rattle.fdb_lines.specs.KeyWatch.{AreTold, GoesOn, HasEntry};
     ghost use Rattle.fdb_lines.specs.KeyWatch.{HasNothingToTell, HasSeenByKey};
 
@@ -80,6 +81,7 @@ impl KeyWatch {
             → HasSeenByKey self.old lines keys
             → HasSeenByKey self.new (lines ++ line ∷ []) (keys ++ key ∷ [])) }
         ensures taken { OnOk result (has_times line ≡ true) }
+        ensures untimed { IfErr result (λ error. error ≡ NoTimes ↔ (has_times line ≡ false)) }
         ensures err { OnErr result ((lines : List Line) → (keys : List (Option ℕ))
             → HasSeenByKey self.old lines keys → HasSeenByKey self.new lines keys) }
         ensures settled { self.new.from ≡ self.old.from }
@@ -107,6 +109,7 @@ impl KeyWatch {
             (keys ++ key_at (names_of self.old.parts.items) place ∷ [])) }
         ensures err { OnErr result ((lines : List Line) → (keys : List (Option ℕ))
             → HasSeenByKey self.old lines keys → HasSeenByKey self.new lines keys) }
+        ensures untimed { IfErr result (λ error. error ≡ NoTimes → has_times line ≡ false) }
         ensures settled { self.new.from ≡ self.old.from }
         ensures margin { (self.new.margin ≡ self.old.margin)
             × (self.new.horizon ≡ self.old.horizon) }
@@ -138,11 +141,15 @@ impl KeyWatch {
             → HasSeenByKey self.new (lines ++ line ∷ []) (keys ++ key ∷ [])) }
         ensures err { OnErr result ((lines : List Line) → (keys : List (Option ℕ))
             → HasSeenByKey self.old lines keys → HasSeenByKey self.new lines keys) }
+        ensures untimed { IfErr result (λ error. error ≡ NoTimes → has_times line ≡ false) }
         ensures settled { self.new.from ≡ self.old.from }
         ensures margin { (self.new.margin ≡ self.old.margin)
             × (self.new.horizon ≡ self.old.horizon) }
     {
-        let part = first_part(alloc, key, self.margin, self.horizon, line, self.count)?;
+        let part = match first_part(alloc, key, self.margin, self.horizon, line, self.count) {
+            Ok(part) => part,
+            Err(error) => return Err(error),
+        };
         let place = self.parts.len();
         if let Err(_refused) = self.open_parts.push(place) {
             return Err(WatchError::Line(LineError::Memory));

@@ -1,11 +1,12 @@
 -- The parts of an audit that watches by key: one for each key, of which some are open.
-use Rattle.std.specs.Prelude.{◌≡◌, ◌≢◌, ◌==◌, ℕ, ◌<◌, ◌≤◌, max, Bool, true, false, All, List, [], ◌∷◌, ◌++◌, Option, Some, length, map, set, slice_index, slice_index_or}
+use Rattle.std.specs.Prelude.{◌≡◌, ◌≢◌, ◌==◌, ℕ, ◌+◌, ◌<◌, ◌≤◌, max, Bool, true, false, All, List, [], ◌∷◌, ◌++◌, Option, Some, length, map, set, slice_index, slice_index_or}
 use Rattle.std.specs.List.{AllPairs, list_any}
 use Rattle.fdb_lines.specs.declared.key_part.KeyPart.{KeyPart}
 use Rattle.fdb_lines.specs.declared.key_part.SettledKey.{SettledKey}
 use Rattle.fdb_lines.specs.declared.line.Line.{Line}
 use Rattle.fdb_lines.specs.declared.reason.Finding.{Finding}
-use Rattle.fdb_lines.specs.Watch.{HasSeen, IsTold}
+use Rattle.fdb_lines.specs.Carried.{open_count}
+use Rattle.fdb_lines.specs.Watch.{judged_from, HasSeen, IsTold}
 use Rattle.fdb_lines.specs.private.Quiet.{IsQuiet}
 
 -- whether each is open
@@ -52,6 +53,7 @@ pub record IsNext (at : ℕ) (old new : KeyPart) (found : List Finding) (places 
   pub settled : new.watch.settled ≡ old.watch.count
   pub margin : new.watch.margin ≡ old.watch.margin
   pub horizon : new.watch.horizon ≡ old.watch.horizon
+  pub few : length new.watch.numbers.items ≤ open_count old.watch.margin (judged_from new.watch) old.watch.log.lines.items + 2
   pub quiet : IsQuiet new.watch → new.is_open ≡ false
 
 -- what it tells is for the entry of its key

@@ -17,8 +17,8 @@ pub invariant_of-self-2 : goal.invariant_of-self-2
 invariant_of-self-2 c =
     let watch = c.args.self.now in
     let parts = watch.parts.items in
-    let part = c.in_ok-part.part in
-    let first = c.in_ok-part.ensures in
+    let part = c.in-Ok.part in
+    let first = c.in-Ok.ensures.first in
     let key_is = λ (part : KeyPart). part.key in
     let open_flag = λ (part : KeyPart). part.is_open in
     let place_is : c.len-place.result ≡ length (flags_of parts) = (let sizes = length-map parts open_flag in let is = c.len-place.ensures in omega (arith, watch.parts.ok.0)) in
@@ -43,12 +43,12 @@ pub returns-clause-ok : goal.returns-clause-ok
 returns-clause-ok c = λ lines keys seen.
     let watch = c.args.self.now in
     let parts = watch.parts.items in
-    let part = c.in_ok-part.part in
+    let part = c.in-Ok.part in
     let line = c.args.line in
     let new = c.push-2.new.self.items in
     let pushed : new ≡ parts ++ part ∷ [] = c.in_default-push.ensures.items in
     let first : IsFirst c.args.key watch.margin watch.horizon line (length lines) part =
-    subst (λ n. IsFirst c.args.key watch.margin watch.horizon line n part) seen.count c.in_ok-part.ensures in
+    subst (λ n. IsFirst c.args.key watch.margin watch.horizon line n part) seen.count c.in-Ok.ensures.first in
     let it = seen_first lines keys seen.as_many line c.args.key parts seen.names seen.each watch.margin watch.horizon part new
     (λ i lt. watch.numbered.absent c.args.key c.requires.absent i lt) first pushed in
     let count = seen.count in
@@ -64,9 +64,9 @@ pub invariant_of-self-in-Err-give_number : goal.invariant_of-self-in-Err-give_nu
 invariant_of-self-in-Err-give_number c =
     let watch = c.args.self.now in
     let parts = watch.parts.items in
-    let pushed : c.push-2.new.self.items ≡ parts ++ c.in_ok-part.part ∷ [] = c.in_default-push.ensures.items in
+    let pushed : c.push-2.new.self.items ≡ parts ++ c.in-Ok.part ∷ [] = c.in_default-push.ensures.items in
     let back : c.pop-in-Err-give_number-2.new.self.items ≡ parts =
-    popped parts c.in_ok-part.part c.push-2.new.self.items c.pop-in-Err-give_number-2.new.self.items c.push-2.new.self.len pushed (omega (arith, c.push-2.new.self.ok.0))
+    popped parts c.in-Ok.part c.push-2.new.self.items c.pop-in-Err-give_number-2.new.self.items c.push-2.new.self.len pushed (omega (arith, c.push-2.new.self.ok.0))
     c.pop-in-Err-give_number-2.ensures.rest in
     let places = watch.open_parts.items in
     let listed : c.push.new.self.items ≡ places ++ c.len-place.result ∷ [] = c.in_default.ensures.items in
@@ -85,8 +85,8 @@ pub returns-in-Err-give_number-clause-err : goal.returns-in-Err-give_number-clau
 returns-in-Err-give_number-clause-err c = λ lines keys seen.
     let watch = c.args.self.now in
     let parts = watch.parts.items in
-    let pushed : c.push-2.new.self.items ≡ parts ++ c.in_ok-part.part ∷ [] = c.in_default-push.ensures.items in
+    let pushed : c.push-2.new.self.items ≡ parts ++ c.in-Ok.part ∷ [] = c.in_default-push.ensures.items in
     let back : c.pop-in-Err-give_number-2.new.self.items ≡ parts =
-    popped parts c.in_ok-part.part c.push-2.new.self.items c.pop-in-Err-give_number-2.new.self.items c.push-2.new.self.len pushed (omega (arith, c.push-2.new.self.ok.0))
+    popped parts c.in-Ok.part c.push-2.new.self.items c.pop-in-Err-give_number-2.new.self.items c.push-2.new.self.len pushed (omega (arith, c.push-2.new.self.ok.0))
     c.pop-in-Err-give_number-2.ensures.rest in
     record { count = seen.count; as_many = seen.as_many; names = ap names_of back ∙ seen.names; each = subst (All (HasSeenOne lines keys)) (sym back) seen.each }
