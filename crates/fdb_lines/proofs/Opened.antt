@@ -88,7 +88,7 @@ list_more : (flags : List Bool) (places : List ℕ) (i : ℕ) → AreListed flag
     → AreListed (set flags i true) (places ++ i ∷ [])
 list_more flags places i are lt closed = record {
   once = all_pairs_push (λ a b. a ≢ b) places i are.once (λ k d less same.
-    both_ways _ closed (are.are i (subst (Contains places) same (Contains-get_or places k d less))));
+      both_ways _ closed (are.are i (subst (Contains places) same (Contains-get_or places k d less))));
   listed = λ j is. elim (cases_eq j i) [
     | inl same ↦ subst (Contains (places ++ i ∷ [])) (sym same) (Contains-push places i)
     | inr other ↦ Contains-append_left places (i ∷ []) j (are.listed j (sym (get_or-set_other flags i j true false other) ∙ is))
@@ -108,7 +108,7 @@ list_more flags places i are lt closed = record {
 list_first : (flags : List Bool) (places : List ℕ) → AreListed flags places → AreListed (flags ++ true ∷ []) (places ++ length flags ∷ [])
 list_first flags places are = record {
   once = all_pairs_push (λ a b. a ≢ b) places (length flags) are.once (λ k d less same.
-    let inside = flag_within flags (length flags) (are.are (length flags) (subst (Contains places) same (Contains-get_or places k d less))) in omega arith);
+      let inside = flag_within flags (length flags) (are.are (length flags) (subst (Contains places) same (Contains-get_or places k d less))) in omega arith);
   listed = λ j is. elim (cases_lt j (length flags)) [
     | inl lt ↦ Contains-append_left places (length flags ∷ []) j (are.listed j (sym (get_or_append_left flags (true ∷ []) false j lt) ∙ is))
     | inr ge ↦

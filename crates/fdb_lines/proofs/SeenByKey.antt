@@ -223,8 +223,8 @@ module _ (lines : List Line) (keys : List (Option ℕ)) (as_many : length keys �
   seen_first margin horizon part new absent first is = (
     ap names_of is ∙ (map_push key_is parts part ∙ (ap (λ q. names_of parts ++ q ∷ []) named ∙ (ap (λ (ks : List (Option ℕ)). ks ++ key ∷ []) are ∙ sym one_name))),
     subst (All (HasSeenOne (lines ++ line ∷ []) (keys ++ key ∷ []))) (sym is)
-    (All-append (HasSeenOne (lines ++ line ∷ []) (keys ++ key ∷ [])) parts (part ∷ []) others
-    (All-cons (HasSeenOne (lines ++ line ∷ []) (keys ++ key ∷ [])) part [] mine (All-nil (HasSeenOne (lines ++ line ∷ []) (keys ++ key ∷ []))))),
+        (All-append (HasSeenOne (lines ++ line ∷ []) (keys ++ key ∷ [])) parts (part ∷ []) others
+        (All-cons (HasSeenOne (lines ++ line ∷ []) (keys ++ key ∷ [])) part [] mine (All-nil (HasSeenOne (lines ++ line ∷ []) (keys ++ key ∷ []))))),
   )
     where
       named : part.key ≡ key
@@ -254,14 +254,14 @@ pub seen_still : (lines : List Line) (keys : List (Option ℕ)) (place : ℕ) (p
 seen_still lines keys place parts new lt each (part, still, is) = (
   same_names place parts new part still.key is lt,
   subst (All (HasSeenOne lines keys)) (sym is) (λ i d less.
-    let many = length-set parts place part in
-    let inside : i < length parts = omega arith in
-    elim (cases_eq i place) [
-      | inl same ↦
-          subst (HasSeenOne lines keys) (sym (ap (λ m. get_or (set parts place part) m d) same ∙ get_or-set_same parts place part d lt))
-          (seen_no_more lines keys (get_or parts place part) part (All-get_or (HasSeenOne lines keys) parts place part lt each) still)
-      | inr away ↦ subst (HasSeenOne lines keys) (sym (get_or-set_other parts place i part d away)) (each i d inside)
-    ]),
+      let many = length-set parts place part in
+      let inside : i < length parts = omega arith in
+      elim (cases_eq i place) [
+        | inl same ↦
+            subst (HasSeenOne lines keys) (sym (ap (λ m. get_or (set parts place part) m d) same ∙ get_or-set_same parts place part d lt))
+            (seen_no_more lines keys (get_or parts place part) part (All-get_or (HasSeenOne lines keys) parts place part lt each) still)
+        | inr away ↦ subst (HasSeenOne lines keys) (sym (get_or-set_other parts place i part d away)) (each i d inside)
+      ]),
 )
 
 pub names_stay : (place : ℕ) (old new : List KeyPart) → place < length old → StaysAt place old new → names_of new ≡ names_of old

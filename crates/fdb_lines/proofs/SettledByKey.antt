@@ -159,11 +159,10 @@ module _ (at : ℕ) (old : List KeyPart) (places : List ℕ) (nexts : List KeyPa
       let had = get_or entries j e in
       let has = get_or given j e in
       let its = put.its j d e lt in
-      let it = next.each j d d e lt in
-      (
+      let it = next.each j d d e lt in (
         subst (λ (x : KeyPart). IsNext at was x has.settled.found.items has.settled.kept.items) (sym (put.put j d lt))
-        (subst (λ (f : Vec Finding Global). IsNext at was (get_or nexts j d) f.items has.settled.kept.items) (sym its.found)
-        (subst (λ (k : Vec ℕ Global). IsNext at was (get_or nexts j d) had.settled.found.items k.items) (sym its.kept) it.0)),
+            (subst (λ (f : Vec Finding Global). IsNext at was (get_or nexts j d) f.items has.settled.kept.items) (sym its.found)
+            (subst (λ (k : Vec ℕ Global). IsNext at was (get_or nexts j d) had.settled.found.items k.items) (sym its.kept) it.0)),
         its.key ∙ it.1,
       )
 
@@ -175,8 +174,11 @@ module _ (at : ℕ) (old : List KeyPart) (places : List ℕ) (nexts : List KeyPa
   where_is i d true is =
       let has = place_listed (flags_of old) places i open_are is in
       inl (has.0, has.1, get_or_default places has.0 0 i has.1 ∙ has.2)
-  where_is i d false is = inr (refl, put.others i d (λ j lt same.
-    both_ways _ is (subst (λ m. flag_at (flags_of old) m ≡ true) same (listed_open (flags_of old) places (slice_index places j) open_are (Contains-get_or places j 0 lt)))))
+  where_is i d false is = inr (
+    refl,
+    put.others i d (λ j lt same.
+        both_ways _ is (subst (λ m. flag_at (flags_of old) m ≡ true) same (listed_open (flags_of old) places (slice_index places j) open_are (Contains-get_or places j 0 lt)))),
+  )
 
   an_entry : (j : ℕ) → j < length places → SettledKey
   an_entry j lt = some_of given (let one = put.entries_too in let two = next.entries_too in omega arith)
@@ -205,7 +207,7 @@ module _ (at : ℕ) (old : List KeyPart) (places : List ℕ) (nexts : List KeyPa
           let d = some_of new (let lt = inside in omega arith) in
           elim (where_is i d false f) [
             | inl it ↦ absurd (both_ways _ f (subst (λ m. flag_at (flags_of old) m ≡ true) it.2
-              (listed_open (flags_of old) places (slice_index places it.0) open_are (Contains-get_or places it.0 0 it.1))))
+                (listed_open (flags_of old) places (slice_index places it.0) open_are (Contains-get_or places it.0 0 it.1))))
             | inr same ↦
                 let many = put.as_many in
                 let lt = inside in
@@ -251,7 +253,7 @@ module _ (at : ℕ) (old : List KeyPart) (places : List ℕ) (nexts : List KeyPa
         record {
           key = it.1;
           told = λ lines seen. subst (λ m. IsTold (get_or old (slice_index places j) d).watch (Some m) lines (get_or old (slice_index places j) d).watch.numbers.items
-          (get_or given j e).settled.found.items) most (n.told lines seen);
+              (get_or given j e).settled.found.items) most (n.told lines seen);
           log = g.log;
           numbers = g.numbers;
         };

@@ -128,12 +128,7 @@ impl KeyWatch {
     }
 
     /// Adds the first line of a key.
-    fn push_first(
-        &mut self,
-        alloc: Global,
-        key: Option<u32>,
-        line: Line,
-    ) -> Result<(), WatchError>
+    fn push_first(&mut self, alloc: Global, key: Option<u32>, line: Line) -> Result<(), WatchError>
         requires absent { get nat_cmp self.old.numbers (number_of key) ≡ None }
         requires room { self.old.count < 18446744073709551615 }
         ensures ok { OnOk result ((lines : List Line) → (keys : List (Option ℕ))
@@ -188,7 +183,12 @@ impl KeyWatch {
     {
         let at = at.max(self.from);
         let mut next = next_parts(alloc, &self.parts, &self.open_parts, at)?;
-        put_parts(&mut self.parts, &self.open_parts, next.parts, &mut next.told);
+        put_parts(
+            &mut self.parts,
+            &self.open_parts,
+            next.parts,
+            &mut next.told,
+        );
         keep_open(&self.parts, &mut self.open_parts);
         self.from = at;
         Ok(next.told)

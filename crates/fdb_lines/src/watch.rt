@@ -196,7 +196,12 @@ impl Watch {
     {
         let at = at.max(self.from);
         let found = self.found(alloc, Some(at))?;
-        let kept = standing(alloc, &self.log, self.margin, at.saturating_sub(self.horizon))?;
+        let kept = standing(
+            alloc,
+            &self.log,
+            self.margin,
+            at.saturating_sub(self.horizon),
+        )?;
         let numbers = numbers_at(alloc, &self.numbers, &kept)?;
         let log = self.log.part(alloc, &kept)?;
         let watch = Watch {
@@ -267,7 +272,11 @@ impl Watch {
 }
 
 /// The numbers at some places.
-pub(crate) fn numbers_at(alloc: Global, numbers: &[u64], places: &[u32]) -> Result<Vec<u64>, AllocError>
+pub(crate) fn numbers_at(
+    alloc: Global,
+    numbers: &[u64],
+    places: &[u32],
+) -> Result<Vec<u64>, AllocError>
     requires { (j : ℕ) → j < length places.now → slice_index places.now j < length numbers.now }
     ensures { IfOk result (λ some. some.items ≡ map (slice_index numbers.now) places.now) }
 {

@@ -13,8 +13,7 @@ returns-in-Err-clause-err c =
     let parts = c.args.parts.now.items in
     let place = c.args.place in
     let it = c.index.result.now in
-    let is = c.index.ensures in
-    (
+    let is = c.index.ensures in (
       it,
       subst (λ (old : KeyPart). HasNoMore old it) is (record { key = refl; seen = λ lines seen. seen; kept = refl; numbers = refl }),
       sym (ap (set parts place) is ∙ set-get_or parts place it),
@@ -25,8 +24,7 @@ returns-in-Err-clause-stays c =
     let parts = c.args.parts.now.items in
     let place = c.args.place in
     let it = c.index.result.now in
-    let is = c.index.ensures in
-    (
+    let is = c.index.ensures in (
       it,
       ap (λ (part : KeyPart). part.key) is,
       subst (λ (old : KeyPart). IsAs old it) is (record { its_margin = refl; its_horizon = refl; its_from = omega arith }),

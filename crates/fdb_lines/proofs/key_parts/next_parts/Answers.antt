@@ -23,7 +23,7 @@ loop-place-preserved c =
     let inside = c.requires n 0 c.loop-place-test.true in
     let here : (d : KeyPart) → IsNextOf at (get_or parts (slice_index places n) d) next entry = λ d. (
       subst (λ (it : KeyPart). IsNext at it next entry.settled.found.items entry.settled.kept.items)
-      (c.index-parts-place.is ∙ get_or_default parts (slice_index places n) c.index-parts-place.result d inside) c.in_ok-next.ensures,
+          (c.index-parts-place.is ∙ get_or_default parts (slice_index places n) c.index-parts-place.result d inside) c.in_ok-next.ensures,
       ap (λ (it : KeyPart). it.key) (get_or_default parts (slice_index places n) c.index-parts-place-in-loop-place.result d inside),
     ) in
     let nexts_are : c.push.new.self.items ≡ nexts ++ next ∷ [] = c.in_ok-push.ensures.items in
