@@ -36,3 +36,7 @@ pub mod Kept
 pub mod Parted
 pub mod Placed
 pub mod Totals
+pub mod Opened
+pub mod PutOn
+pub mod SeenByKey
+pub mod SettledByKey

@@ -17,4 +17,6 @@ pub mod Summary
 pub mod Carried
 pub mod Watching
 pub mod Watch
+pub mod KeyParts
+pub mod KeyWatch
 pub mod private

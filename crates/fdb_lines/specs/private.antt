@@ -13,3 +13,5 @@ pub mod Keys
 pub mod KeyOrders
 pub mod KeySums
 pub mod Late
+pub mod Quiet
+pub mod KeyParts

@@ -126,7 +126,7 @@ fn part_of_key(
 }
 
 /// A number for each key: 0 for that of lines without one.
-fn number_of(key: Option<u32>) -> u64
+pub(crate) fn number_of(key: Option<u32>) -> u64
     ensures { result ≡ number_of key }
 {
     match key {

@@ -2,9 +2,10 @@
 
 ghost use Rattle.std.specs.Prelude.{◌≡◌, ◌+◌, ◌-◌, ◌<◌, ◌≤◌, ◌++◌, ◌∷◌, [], All, List, IfErr, IfOk};
 ghost use Rattle.std.specs.Prelude.{None, OnErr, OnOk, Some, length, map, max, slice_index, true};
-ghost use Rattle.std.specs.Prelude.{false};
+ghost use Rattle.std.specs.Prelude.{false, IsTrue};
 ghost use Rattle.std.specs.Prelude.{◌↔◌, ◌⊎◌, ℕ};
 ghost use Rattle.fdb_lines.specs.declared.line.Line.{Line};
+ghost use Rattle.fdb_lines.specs.Before.{began};
 ghost use Rattle.fdb_lines.specs.Carried.{open_count};
 ghost use Rattle.fdb_lines.specs.Lines.{has_times};
 ghost use Rattle.fdb_lines.specs.Log.{lines_of, refusal_of};
@@ -77,10 +78,19 @@ pub struct Watch {
     ghost timed: { 0 < length log.lines.items → log.timed ≡ true },
 }
 
+/// A watch that has settled, what it tells, and the places of the lines that it keeps on.
+#[derive(Drop)]
+pub(crate) struct Next {
+    pub(crate) watch: Watch,
+    pub(crate) found: Vec<Finding>,
+    pub(crate) kept: Vec<u32>,
+}
+
 impl Watch {
     ghost use Rattle.fdb_lines.specs.declared.watch.WatchError.TheVariants.{NoTimes};
     ghost use Rattle.fdb_lines.specs.Watch.{judged_from, HasSeen, IsTold};
     ghost use Rattle.fdb_lines.specs.Log.{added};
+    ghost use Rattle.fdb_lines.specs.private.Quiet.{IsQuiet};
 
     /// A watch that has seen no line. Margin and horizon are in the unit of the times.
     pub fn new(alloc: Global, margin: u64, horizon: u64) -> Self
@@ -121,10 +131,14 @@ impl Watch {
         ensures taken { OnOk result ((has_times line ≡ true)
             × (refusal_of (lines_of self.old.log) line ≡ None)
             × (lines_of self.new.log ≡ added (lines_of self.old.log) line)) }
-        ensures left { OnErr result ((lines_of self.new.log ≡ lines_of self.old.log)
-            × (self.new.numbers.items ≡ self.old.numbers.items) × (self.new.count ≡ self.old.count)) }
+        ensures numbers { OnOk result
+            (self.new.numbers.items ≡ self.old.numbers.items ++ self.old.count ∷ []) }
         ensures err { OnErr result ((lines : List Line) → HasSeen self.old lines
             → HasSeen self.new lines) }
+        ensures same { OnErr result ((lines_of self.new.log ≡ lines_of self.old.log)
+            × (self.new.count ≡ self.old.count)) }
+        ensures same_numbers { OnErr result
+            (self.new.numbers.items ≡ self.old.numbers.items) }
         ensures untimed { IfErr result (λ error. error ≡ NoTimes ↔ (has_times line ≡ false)) }
         ensures refused { IfErr result (λ error. (why : LineError) → error ≡ WatchError.Line why
             → ((why ≡ LineError.Memory) × (refusal_of (lines_of self.old.log) line ≡ None))
@@ -174,6 +188,32 @@ impl Watch {
         ensures margin { (self.new.margin ≡ self.old.margin)
             × (self.new.horizon ≡ self.old.horizon) }
     {
+        let next = self.next(alloc, at)?;
+        let old = replace(self, next.watch);
+        Ok(Settled {
+            log: old.log,
+            numbers: old.numbers,
+            found: next.found,
+            kept: next.kept,
+        })
+    }
+
+    /// How it goes on once it has settled up to a moment, and what it tells then.
+    pub(crate) fn next(&self, alloc: Global, at: u64) -> Result<Next, AllocError>
+        ensures told { IfOk result (λ it. (lines : List Line) → HasSeen self.now lines
+            → IsTold self.now (Some (max self.now.from at)) lines self.now.numbers.items it.found.items) }
+        ensures seen { IfOk result (λ it. (lines : List Line) → HasSeen self.now lines
+            → HasSeen it.watch lines) }
+        ensures kept { IfOk result (λ it. (it.watch.numbers.items
+            ≡ map (slice_index self.now.numbers.items) it.kept.items)
+            × All (λ place. place < length self.now.numbers.items) it.kept.items) }
+        ensures few { IfOk result (λ it. length it.watch.numbers.items
+            ≤ open_count self.now.margin (judged_from it.watch) self.now.log.lines.items + 2) }
+        ensures settled { IfOk result (λ it. (it.watch.from ≡ max self.now.from at)
+            × (it.watch.settled ≡ self.now.count)) }
+        ensures margin { IfOk result (λ it. (it.watch.margin ≡ self.now.margin)
+            × (it.watch.horizon ≡ self.now.horizon)) }
+    {
         let at = at.max(self.from);
         let found = self.found(alloc, Some(at))?;
         let kept = standing(
@@ -184,14 +224,33 @@ impl Watch {
         )?;
         let numbers = numbers_at(alloc, &self.numbers, &kept)?;
         let log = self.log.part(alloc, &kept)?;
-        self.from = at;
-        self.settled = self.count;
-        Ok(Settled {
-            log: replace(&mut self.log, log),
-            numbers: replace(&mut self.numbers, numbers),
-            found,
-            kept,
-        })
+        let watch = Watch {
+            margin: self.margin,
+            horizon: self.horizon,
+            from: at,
+            settled: self.count,
+            count: self.count,
+            log,
+            numbers,
+        };
+        Ok(Next { watch, found, kept })
+    }
+
+    /// The lines that it keeps.
+    pub(crate) fn into_log(self) -> Log
+        ensures { result ≡ self.log }
+    {
+        self.log
+    }
+
+    /// Whether it has told of all lines, and keeps two at most: until a line comes, it has nothing to
+    /// tell and nothing to let go.
+    pub(crate) fn is_quiet(&self) -> bool
+        ensures { IsTrue result ↔ IsQuiet self.now }
+    {
+        self.settled == self.count
+            && self.numbers.len() <= 2
+            && began_before(self.log.lines(), self.from)
     }
 
     /// Settles for good: tells of all lines that it has not told of, but for those that came too
@@ -199,8 +258,9 @@ impl Watch {
     pub fn finish(self, alloc: Global) -> Result<Settled, AllocError>
         ensures told { IfOk result (λ it. (lines : List Line) → HasSeen self lines
             → IsTold self None lines it.numbers.items it.found.items) }
-        ensures had { IfOk result (λ it. (lines_of it.log ≡ lines_of self.log)
-            × (it.numbers.items ≡ self.numbers.items) × (it.kept.items ≡ [])) }
+        ensures numbers { IfOk result (λ it. it.numbers ≡ self.numbers) }
+        ensures log { IfOk result (λ it. it.log ≡ self.log) }
+        ensures kept { IfOk result (λ it. it.kept.items ≡ []) }
     {
         let found = self.found(alloc, None)?;
         Ok(Settled {
@@ -232,7 +292,11 @@ impl Watch {
 }
 
 /// The numbers at some places.
-fn numbers_at(alloc: Global, numbers: &[u64], places: &[u32]) -> Result<Vec<u64>, AllocError>
+pub(crate) fn numbers_at(
+    alloc: Global,
+    numbers: &[u64],
+    places: &[u32],
+) -> Result<Vec<u64>, AllocError>
     requires { (j : ℕ) → j < length places.now → slice_index places.now j < length numbers.now }
     ensures { IfOk result (λ some. some.items ≡ map (slice_index numbers.now) places.now) }
 {
@@ -241,4 +305,11 @@ fn numbers_at(alloc: Global, numbers: &[u64], places: &[u32]) -> Result<Vec<u64>
         some.push(numbers[*place as usize])?;
     }
     Ok(some)
+}
+
+/// Whether all lines began before a moment.
+fn began_before(lines: &[Line], at: u64) -> bool
+    ensures { IsTrue result ↔ All (λ line. began line < at) lines.now }
+{
+    lines.iter().all(|line| line.began() < at)
 }

@@ -1,0 +1,55 @@
+-- What an audit that watches by key has seen, and what it tells: of each key what a watch of its lines does. (this product's own)
+use Rattle.std.specs.Prelude.{◌≡◌, ◌≢◌, ◌⊎◌, ℕ, ◌+◌, ◌<◌, ◌≤◌, All, List, [], Option, Some, length, map, slice_index, slice_index_or}
+use Rattle.std.specs.List.{AllPairs, Contains}
+use Rattle.fdb_lines.specs.declared.key_part.KeyPart.{KeyPart}
+use Rattle.fdb_lines.specs.declared.key_part.SettledKey.{SettledKey}
+use Rattle.fdb_lines.specs.declared.key_watch.KeyWatch.{KeyWatch}
+use Rattle.fdb_lines.specs.declared.line.Line.{Line}
+use Rattle.fdb_lines.specs.Carried.{open_count}
+use Rattle.fdb_lines.specs.KeyParts.{lines_of_one, names_of, HasSeenOne}
+use Rattle.fdb_lines.specs.Keys.{keys_of, places_of}
+use Rattle.fdb_lines.specs.Lines.{lines_in}
+use Rattle.fdb_lines.specs.Log.{lines_of}
+use Rattle.fdb_lines.specs.Watch.{due, judged_from, IsTold}
+use Rattle.fdb_lines.specs.Watching.{told_of}
+
+-- All lines that ever came, with their keys: each key that has lines has one watch, which has seen them, and no other key.
+pub record HasSeenByKey (watch : KeyWatch) (lines : List Line) (keys : List (Option ℕ)) : Type 0 where
+  pub count : watch.count ≡ length lines
+  pub as_many : length keys ≡ length lines
+  pub names : names_of watch.parts.items ≡ keys_of keys
+  pub each : All (HasSeenOne lines keys) watch.parts.items
+
+-- What is told of a key is what its watch tells of its lines; of the lines that it kept, the numbers are those among all.
+pub record IsToldOf (to : Option ℕ) (lines : List Line) (keys : List (Option ℕ)) (entry : SettledKey) (part : KeyPart) : Type 0 where
+  pub key : entry.key ≡ part.key
+  pub told : IsTold part.watch to (lines_of_one lines keys part.key) part.watch.numbers.items entry.settled.found.items
+  pub numbers : entry.settled.numbers.items ≡ map (slice_index (places_of keys part.key)) part.watch.numbers.items
+  pub log : (lines_of entry.settled.log).lines ≡ lines_in lines entry.settled.numbers.items
+
+-- Each entry tells of a key, and no two tell of one.
+pub record AreTold (to : Option ℕ) (lines : List Line) (keys : List (Option ℕ)) (parts : List KeyPart) (entries : List SettledKey) : Type 0 where
+  pub each : All (λ entry. (i : ℕ) × (i < length parts) × ((d : KeyPart) → IsToldOf to lines keys entry (slice_index_or parts i d))) entries
+  pub once : AllPairs (λ one other. one.key ≢ other.key) entries
+
+abbrev pub HasEntry : List SettledKey → Option ℕ → Type 0
+HasEntry entries key = Contains (map (λ (entry : SettledKey). entry.key) entries) key
+
+abbrev pub HasNothingToTell : Option ℕ → List Line → List (Option ℕ) → KeyPart → Type 0
+HasNothingToTell to lines keys part = told_of part.watch.margin (due part.watch to) (lines_of_one lines keys part.key) ≡ []
+
+-- Once all have settled up to a moment, a key has an entry, and has told of all its lines; or it is as it was: there is nothing
+-- to tell of it, and it keeps few lines.
+pub record HasSettled (to : ℕ) (old new : KeyPart) : Type 0 where
+  pub key : new.key ≡ old.key
+  pub from : new.watch.from ≡ to
+  pub settled : new.watch.settled ≡ old.watch.count
+  pub few : length new.watch.numbers.items ≤ open_count old.watch.margin (judged_from new.watch) old.watch.log.lines.items + 2
+
+pub record StaysQuiet (to : ℕ) (lines : List Line) (keys : List (Option ℕ)) (old new : KeyPart) : Type 0 where
+  pub same : new ≡ old
+  pub nothing : HasNothingToTell (Some to) lines keys old
+  pub few : length old.watch.numbers.items ≤ 2
+
+abbrev pub GoesOn : ℕ → List Line → List (Option ℕ) → List SettledKey → KeyPart → KeyPart → Type 0
+GoesOn to lines keys entries old new = (HasEntry entries old.key × HasSettled to old new) ⊎ StaysQuiet to lines keys old new

@@ -1,0 +1,224 @@
+//! An audit that watches a log with keys: each key is watched by itself.
+
+ghost use Rattle.std.specs.Prelude.{◌≡◌, ◌⊎◌, ◌<◌, ◌≤◌, ◌++◌, ◌∷◌, ℕ, All, List, IfErr, IfOk};
+ghost use Rattle.std.specs.Prelude.{[], None, OnErr, OnOk, Option, Some, false, true};
+ghost use Rattle.std.specs.Prelude.{◌↔◌, ◌==◌, cond, length, max, slice_index_or};
+ghost use Rattle.std.specs.BTreeMap.{get};
+ghost use Rattle.std.specs.List.{Contains};
+ghost use Rattle.std.specs.Ordering.{nat_cmp};
+ghost use Rattle.fdb_lines.specs.declared.key_part.KeyPart.{KeyPart};
+ghost use Rattle.fdb_lines.specs.declared.line.Line.{Line};
+ghost use Rattle.fdb_lines.specs.KeyParts.{names_of};
+ghost use Rattle.fdb_lines.specs.Keys.{key_at};
+ghost use Rattle.fdb_lines.specs.Lines.{has_times};
+ghost use Rattle.fdb_lines.specs.private.Keys.{number_of, AreNumbered};
+ghost use Rattle.fdb_lines.specs.private.KeyParts.{flag_at, flags_of, AreOpen, IsAlike};
+
+use crate::key_part::{KeyPart, SettledKey};
+use crate::key_parts::{add_line, finish_parts, first_part, keep_open, next_parts, put_parts};
+use crate::line::Line;
+use crate::log::LineError;
+use crate::parts::number_of;
+use crate::watch::WatchError;
+use std::alloc::{AllocError, Global};
+use std::collections::BTreeMap;
+
+/// An audit that watches a log whose lines have keys, or none. Each key is a register of its own,
+/// and lines without one are of one register too: the lines of each are watched by a
+/// [`Watch`](crate::Watch) of their own.
+///
+/// A push is logarithmic in the keys. A settling goes over the keys alone to which a line was added
+/// since they settled last, and those that still keep more than two lines, or one of which it was
+/// not yet time to tell. All others are quiet, and stay as they are: such a key goes on from the
+/// moment up to which it settled last.
+#[derive(Drop)]
+pub struct KeyWatch {
+    margin: u64,
+    horizon: u64,
+    from: u64,
+    count: u64,
+    parts: Vec<KeyPart>,
+    numbers: BTreeMap<u64, usize>,
+    open_parts: Vec<usize>,
+    ghost numbered: { AreNumbered (λ q. get nat_cmp numbers q) (names_of parts.items) },
+    ghost alike: { All (IsAlike margin horizon from) parts.items },
+    ghost opened: { AreOpen (flags_of parts.items) open_parts.items },
+}
+
+impl KeyWatch {
+    ghost use Rattle.fdb_lines.specs.declared.watch.WatchError.TheVariants.{NoTimes};
+    ghost use Rattle.fdb_lines.specs.KeyWatch.{AreTold, GoesOn, HasEntry};
+    ghost use Rattle.fdb_lines.specs.KeyWatch.{HasNothingToTell, HasSeenByKey};
+
+    /// A watch that has seen no line.
+    pub fn new(alloc: Global, margin: u64, horizon: u64) -> Self
+        ensures seen { HasSeenByKey result [] [] }
+        ensures from { result.from ≡ 0 }
+        ensures margin { result.margin ≡ margin }
+        ensures horizon { result.horizon ≡ horizon }
+    {
+        KeyWatch {
+            margin,
+            horizon,
+            from: 0,
+            count: 0,
+            parts: Vec::new(alloc),
+            numbers: BTreeMap::new(alloc),
+            open_parts: Vec::new(alloc),
+        }
+    }
+
+    /// The moment up to which it has settled.
+    pub fn settled_to(&self) -> u64
+        ensures { result ≡ self.now.from }
+    {
+        self.from
+    }
+
+    /// Adds a line of a key, or of none. An error says why it is refused; nothing is added then.
+    pub fn push(&mut self, alloc: Global, key: Option<u32>, line: Line) -> Result<(), WatchError>
+        ensures ok { OnOk result ((lines : List Line) → (keys : List (Option ℕ))
+            → HasSeenByKey self.old lines keys
+            → HasSeenByKey self.new (lines ++ line ∷ []) (keys ++ key ∷ [])) }
+        ensures taken { OnOk result (has_times line ≡ true) }
+        ensures untimed { IfErr result (λ error. error ≡ NoTimes ↔ (has_times line ≡ false)) }
+        ensures err { OnErr result ((lines : List Line) → (keys : List (Option ℕ))
+            → HasSeenByKey self.old lines keys → HasSeenByKey self.new lines keys) }
+        ensures settled { self.new.from ≡ self.old.from }
+        ensures margin { (self.new.margin ≡ self.old.margin)
+            × (self.new.horizon ≡ self.old.horizon) }
+    {
+        if line.times.is_none() {
+            return Err(WatchError::NoTimes);
+        }
+        if self.count == u64::MAX {
+            return Err(WatchError::Line(LineError::TooMany));
+        }
+        if let Some(place) = self.numbers.get(&number_of(key)).copied() {
+            return self.push_to(place, line);
+        }
+        self.push_first(alloc, key, line)
+    }
+
+    /// Adds a line of a key that has a part.
+    fn push_to(&mut self, place: usize, line: Line) -> Result<(), WatchError>
+        requires within { place < length self.old.parts.items }
+        requires room { self.old.count < 18446744073709551615 }
+        ensures ok { OnOk result ((lines : List Line) → (keys : List (Option ℕ))
+            → HasSeenByKey self.old lines keys → HasSeenByKey self.new (lines ++ line ∷ [])
+            (keys ++ key_at (names_of self.old.parts.items) place ∷ [])) }
+        ensures err { OnErr result ((lines : List Line) → (keys : List (Option ℕ))
+            → HasSeenByKey self.old lines keys → HasSeenByKey self.new lines keys) }
+        ensures untimed { IfErr result (λ error. error ≡ NoTimes → has_times line ≡ false) }
+        ensures settled { self.new.from ≡ self.old.from }
+        ensures margin { (self.new.margin ≡ self.old.margin)
+            × (self.new.horizon ≡ self.old.horizon) }
+    {
+        if let Err(error) = add_line(
+            &mut self.parts,
+            &mut self.open_parts,
+            place,
+            line,
+            self.count,
+        ) {
+            return Err(error);
+        }
+        self.count += 1;
+        Ok(())
+    }
+
+    /// Adds the first line of a key.
+    fn push_first(&mut self, alloc: Global, key: Option<u32>, line: Line) -> Result<(), WatchError>
+        requires absent { get nat_cmp self.old.numbers (number_of key) ≡ None }
+        requires room { self.old.count < 18446744073709551615 }
+        ensures ok { OnOk result ((lines : List Line) → (keys : List (Option ℕ))
+            → HasSeenByKey self.old lines keys
+            → HasSeenByKey self.new (lines ++ line ∷ []) (keys ++ key ∷ [])) }
+        ensures err { OnErr result ((lines : List Line) → (keys : List (Option ℕ))
+            → HasSeenByKey self.old lines keys → HasSeenByKey self.new lines keys) }
+        ensures untimed { IfErr result (λ error. error ≡ NoTimes → has_times line ≡ false) }
+        ensures settled { self.new.from ≡ self.old.from }
+        ensures margin { (self.new.margin ≡ self.old.margin)
+            × (self.new.horizon ≡ self.old.horizon) }
+    {
+        let part = match first_part(alloc, key, self.margin, self.horizon, line, self.count) {
+            Ok(part) => part,
+            Err(error) => return Err(error),
+        };
+        let place = self.parts.len();
+        if let Err(_refused) = self.open_parts.push(place) {
+            return Err(WatchError::Line(LineError::Memory));
+        }
+        if let Err(_refused) = self.parts.push(part) {
+            self.open_parts.pop();
+            return Err(WatchError::Line(LineError::Memory));
+        }
+        if let Err(_refused) = give_number(&mut self.numbers, number_of(key), place) {
+            self.open_parts.pop();
+            self.parts.pop();
+            return Err(WatchError::Line(LineError::Memory));
+        }
+        self.count += 1;
+        Ok(())
+    }
+
+    /// Settles each key up to a moment, or up to where it has settled, if that is later. What is
+    /// told of a key is what its watch tells; a key of which there is nothing to tell may have no
+    /// entry. An error only where memory is refused; all is as it was then.
+    pub fn settle(&mut self, alloc: Global, at: u64) -> Result<Vec<SettledKey>, AllocError>
+        ensures told { IfOk result (λ told. (lines : List Line) → (keys : List (Option ℕ))
+            → HasSeenByKey self.old lines keys
+            → AreTold (Some (max self.old.from at)) lines keys self.old.parts.items told.items) }
+        ensures rest { IfOk result (λ told. (lines : List Line) → (keys : List (Option ℕ))
+            → HasSeenByKey self.old lines keys
+            → (i : ℕ) → (d : KeyPart) → i < length self.old.parts.items
+            → GoesOn (max self.old.from at) lines keys told.items
+            (slice_index_or self.old.parts.items i d) (slice_index_or self.new.parts.items i d)) }
+        ensures seen { (lines : List Line) → (keys : List (Option ℕ))
+            → HasSeenByKey self.old lines keys → HasSeenByKey self.new lines keys }
+        ensures settled { OnOk result (self.new.from ≡ max self.old.from at) }
+        ensures err { OnErr result (self.new ≡ self.old) }
+        ensures margin { (self.new.margin ≡ self.old.margin)
+            × (self.new.horizon ≡ self.old.horizon) }
+    {
+        let at = at.max(self.from);
+        let mut next = next_parts(alloc, &self.parts, &self.open_parts, at)?;
+        put_parts(
+            &mut self.parts,
+            &self.open_parts,
+            next.parts,
+            &mut next.told,
+        );
+        keep_open(&self.parts, &mut self.open_parts);
+        self.from = at;
+        Ok(next.told)
+    }
+
+    /// Tells of all lines that it has not told of. An error only where memory is refused.
+    pub fn finish(self, alloc: Global) -> Result<Vec<SettledKey>, AllocError>
+        ensures told { IfOk result (λ told. (lines : List Line) → (keys : List (Option ℕ))
+            → HasSeenByKey self lines keys
+            → AreTold None lines keys self.parts.items told.items) }
+        ensures rest { IfOk result (λ told. (lines : List Line) → (keys : List (Option ℕ))
+            → HasSeenByKey self lines keys
+            → All (λ part. HasEntry told.items part.key ⊎ HasNothingToTell None lines keys part) self.parts.items) }
+    {
+        let told = finish_parts(alloc, self.parts, &self.open_parts)?;
+        Ok(told)
+    }
+}
+
+/// Gives the key of a number its part.
+fn give_number(
+    numbers: &mut BTreeMap<u64, usize>,
+    code: u64,
+    place: usize,
+) -> Result<(), AllocError>
+    ensures ok { OnOk result ((q : ℕ) → get nat_cmp numbers.new q
+        ≡ cond (q == code) (Some place) (get nat_cmp numbers.old q)) }
+    ensures err { OnErr result
+        ((q : ℕ) → get nat_cmp numbers.new q ≡ get nat_cmp numbers.old q) }
+{
+    numbers.insert(code, place)?;
+    Ok(())
+}
