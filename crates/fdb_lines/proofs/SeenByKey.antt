@@ -3,14 +3,14 @@ use Rattle.std.proofs.Common.{◌≡◌, ◌≢◌, ◌==◌, ◌-◌, ℕ, zero
 use Rattle.std.specs.List.{All}
 use Rattle.std.proofs.lemmas.Bool.{cases_eq, cases_lt, false_from_ne_true}
 use Rattle.std.proofs.lemmas.Bool.Decides.{nat_tests}
-use Rattle.std.proofs.lemmas.List.{get_or_append_left, get_or_push, get_or-map, get_or-set_other, get_or-set_same, length_push, length-map, length-set, map-append, map-set, map_push, set-get_or}
+use Rattle.std.proofs.lemmas.List.{get_or_append_left, get_or_default, get_or_push, get_or-map, get_or-set_other, get_or-set_same, length_push, length-map, length-set, map-append, map-set, map_push, set-get_or}
 use Rattle.std.proofs.lemmas.List.Elements.{All-append, All-cons, All-from_get_or, All-get_or, All-nil, All-set}
 use Rattle.std.proofs.lemmas.Simd.{map-map}
 use Rattle.std.proofs.Math.Seq.{take-append_seam}
 use Rattle.fdb_lines.specs.declared.key_part.KeyPart.{KeyPart}
 use Rattle.fdb_lines.specs.declared.line.Line.{Line}
 use Rattle.fdb_lines.specs.declared.reason.Finding.{Finding}
-use Rattle.fdb_lines.specs.KeyParts.{lines_of_one, names_of, HasSeenOne}
+use Rattle.fdb_lines.specs.KeyParts.{lines_of_one, names_of, HasSeenOne, HasStayed, HaveStayed}
 use Rattle.fdb_lines.specs.Keys.{key_at, keys_below, keys_of, place_among, places_below, places_of, same_key}
 use Rattle.fdb_lines.specs.Lines.{line_at, lines_in, nobody}
 use Rattle.fdb_lines.specs.Watch.{HasSeen}
@@ -265,11 +265,11 @@ seen_still lines keys place parts new lt each (part, still, is) = (
 )
 
 pub names_stay : (place : ℕ) (old new : List KeyPart) → place < length old → StaysAt place old new → names_of new ≡ names_of old
-names_stay place old new lt (part, key, same, is) = same_names place old new part key is lt
+names_stay place old new lt (part, stay, same, is) = same_names place old new part stay.key is lt
 
 pub alike_stay : (margin horizon from place : ℕ) (old new : List KeyPart) → place < length old → All (IsAlike margin horizon from) old → StaysAt place old new
     → All (IsAlike margin horizon from) new
-alike_stay margin horizon from place old new lt each (part, key, same, is) =
+alike_stay margin horizon from place old new lt each (part, stay, same, is) =
     let was = All-get_or (IsAlike margin horizon from) old place part lt each in
     let low = was.its_from in
     let up = same.its_from in
@@ -300,3 +300,32 @@ numbered_same old new list are same = record {
   there = λ key number has. are.there key number (sym (same (number_of key)) ∙ has);
   absent = λ key lacks. are.absent key (sym (same (number_of key)) ∙ lacks);
 }
+
+-- ---- each has settled as far as it had
+
+pub stay_same : (old new : List KeyPart) → new ≡ old → HaveStayed old new
+stay_same old new is = subst (HaveStayed old) (sym is) (λ i d lt. inl (lt, record { key = refl; from = refl; settled = refl }))
+
+pub stay_at : (place : ℕ) (old new : List KeyPart) → place < length old → StaysAt place old new → HaveStayed old new
+stay_at place old new lt (part, stay, same, is) = subst (HaveStayed old) (sym is) (λ i d less.
+  let many = length-set old place part in
+  let inside : i < length old = omega arith in
+  elim (cases_eq i place) [
+    | inl at ↦
+        let now : get_or (set old place part) i d ≡ part = ap (λ m. get_or (set old place part) m d) at ∙ get_or-set_same old place part d lt in
+        let was : get_or old place part ≡ get_or old i d = get_or_default old place part d lt ∙ ap (λ m. get_or old m d) (sym at) in
+        inl (inside, subst (HasStayed (get_or old i d)) (sym now) (subst (λ (x : KeyPart). HasStayed x part) was stay))
+    | inr away ↦ inl (inside, subst (HasStayed (get_or old i d)) (sym (get_or-set_other old place i part d away)) (record { key = refl; from = refl; settled = refl }))
+  ])
+
+pub stay_first : (name : Option ℕ) (margin horizon : ℕ) (line : Line) (number : ℕ) (old new : List KeyPart) (part : KeyPart)
+    → IsFirst name margin horizon line number part → new ≡ old ++ part ∷ [] → HaveStayed old new
+stay_first name margin horizon line number old new part first is = subst (HaveStayed old) (sym is) (λ i d less.
+  elim (cases_lt i (length old)) [
+    | inl inside ↦ inl (inside, subst (HasStayed (get_or old i d)) (sym (get_or_append_left old (part ∷ []) d i inside)) (record { key = refl; from = refl; settled = refl }))
+    | inr ge ↦
+        let longer = length-append old (part ∷ []) in
+        let now : get_or (old ++ part ∷ []) i d ≡ part = get_or_push old part d i (omega arith) in
+        let low = first.alike.its_from in
+        inr (ge, ap (λ (x : KeyPart). x.watch.from) now ∙ (let none : part.watch.from ≡ 0 = omega arith in none))
+  ])

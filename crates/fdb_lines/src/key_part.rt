@@ -45,6 +45,7 @@ pub(crate) struct NextPart {
 
 impl KeyPart {
     ghost use Rattle.fdb_lines.specs.declared.watch.WatchError.TheVariants.{NoTimes};
+    ghost use Rattle.fdb_lines.specs.KeyParts.{HasStayed};
     ghost use Rattle.fdb_lines.specs.Lines.{has_times};
     ghost use Rattle.fdb_lines.specs.private.KeyParts.{HasNoMore, HasOneMore, IsAlike, IsNext};
 
@@ -69,7 +70,7 @@ impl KeyPart {
         ensures err { OnErr result (HasNoMore self.old self.new) }
         ensures untimed { IfErr result (λ error. error ≡ NoTimes → has_times line ≡ false) }
         ensures opened { self.new.is_open ≡ true }
-        ensures key { self.new.key ≡ self.old.key }
+        ensures stays { HasStayed self.old self.new }
         ensures alike { IsAlike self.old.watch.margin self.old.watch.horizon self.old.watch.from self.new }
     {
         self.is_open = true;

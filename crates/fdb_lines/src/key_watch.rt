@@ -8,7 +8,7 @@ ghost use Rattle.std.specs.List.{Contains};
 ghost use Rattle.std.specs.Ordering.{nat_cmp};
 ghost use Rattle.fdb_lines.specs.declared.key_part.KeyPart.{KeyPart};
 ghost use Rattle.fdb_lines.specs.declared.line.Line.{Line};
-ghost use Rattle.fdb_lines.specs.KeyParts.{names_of};
+ghost use Rattle.fdb_lines.specs.KeyParts.{names_of, HaveStayed};
 ghost use Rattle.fdb_lines.specs.Keys.{key_at};
 ghost use Rattle.fdb_lines.specs.Lines.{has_times};
 ghost use Rattle.fdb_lines.specs.private.Keys.{number_of, AreNumbered};
@@ -84,6 +84,7 @@ impl KeyWatch {
         ensures untimed { IfErr result (λ error. error ≡ NoTimes ↔ (has_times line ≡ false)) }
         ensures err { OnErr result ((lines : List Line) → (keys : List (Option ℕ))
             → HasSeenByKey self.old lines keys → HasSeenByKey self.new lines keys) }
+        ensures stays { HaveStayed self.old.parts.items self.new.parts.items }
         ensures settled { self.new.from ≡ self.old.from }
         ensures margin { (self.new.margin ≡ self.old.margin)
             × (self.new.horizon ≡ self.old.horizon) }
@@ -110,6 +111,7 @@ impl KeyWatch {
         ensures err { OnErr result ((lines : List Line) → (keys : List (Option ℕ))
             → HasSeenByKey self.old lines keys → HasSeenByKey self.new lines keys) }
         ensures untimed { IfErr result (λ error. error ≡ NoTimes → has_times line ≡ false) }
+        ensures stays { HaveStayed self.old.parts.items self.new.parts.items }
         ensures settled { self.new.from ≡ self.old.from }
         ensures margin { (self.new.margin ≡ self.old.margin)
             × (self.new.horizon ≡ self.old.horizon) }
@@ -137,6 +139,7 @@ impl KeyWatch {
         ensures err { OnErr result ((lines : List Line) → (keys : List (Option ℕ))
             → HasSeenByKey self.old lines keys → HasSeenByKey self.new lines keys) }
         ensures untimed { IfErr result (λ error. error ≡ NoTimes → has_times line ≡ false) }
+        ensures stays { HaveStayed self.old.parts.items self.new.parts.items }
         ensures settled { self.new.from ≡ self.old.from }
         ensures margin { (self.new.margin ≡ self.old.margin)
             × (self.new.horizon ≡ self.old.horizon) }
@@ -162,9 +165,9 @@ impl KeyWatch {
         Ok(())
     }
 
-    /// Settles each key up to a moment, or up to where it has settled, if that is later. What is
-    /// told of a key is what its watch tells; a key of which there is nothing to tell may have no
-    /// entry. An error only where memory is refused; all is as it was then.
+    /// Settles each key up to a moment, or up to where all have settled, if that is later. What is
+    /// told of a key is what its watch tells. Of a key that has no entry there is nothing to tell.
+    /// An error only where memory is refused; all is as it was then.
     pub fn settle(&mut self, alloc: Global, at: u64) -> Result<Vec<SettledKey>, AllocError>
         ensures told { IfOk result (λ told. (lines : List Line) → (keys : List (Option ℕ))
             → HasSeenByKey self.old lines keys
@@ -201,7 +204,8 @@ impl KeyWatch {
             → AreTold None lines keys self.parts.items told.items) }
         ensures rest { IfOk result (λ told. (lines : List Line) → (keys : List (Option ℕ))
             → HasSeenByKey self lines keys
-            → All (λ part. HasEntry told.items part.key ⊎ HasNothingToTell None lines keys part) self.parts.items) }
+            → All (λ part. HasEntry told.items part.key
+            ⊎ HasNothingToTell None lines keys part) self.parts.items) }
     {
         let told = finish_parts(alloc, self.parts, &self.open_parts)?;
         Ok(told)

@@ -6,6 +6,7 @@ use Rattle.fdb_lines.specs.declared.key_part.SettledKey.{SettledKey}
 use Rattle.fdb_lines.specs.declared.line.Line.{Line}
 use Rattle.fdb_lines.specs.declared.reason.Finding.{Finding}
 use Rattle.fdb_lines.specs.Carried.{open_count}
+use Rattle.fdb_lines.specs.KeyParts.{HasStayed}
 use Rattle.fdb_lines.specs.Watch.{judged_from, HasSeen, IsTold}
 use Rattle.fdb_lines.specs.private.Quiet.{IsQuiet}
 
@@ -73,10 +74,10 @@ pub record IsGiven (part : KeyPart) (old new : SettledKey) : Type 0 where
 abbrev pub IsAs : KeyPart → KeyPart → Type 0
 IsAs old new = IsAlike old.watch.margin old.watch.horizon old.watch.from new
 
--- the part at a place is another of its key, and the others are as they were
+-- the part at a place is another, that has stayed, and the others are as they were
 abbrev pub StaysAt : ℕ → List KeyPart → List KeyPart → Type 0
 StaysAt place old new =
-    (part : KeyPart) × (part.key ≡ (slice_index_or old place part).key) × IsAs (slice_index_or old place part) part × (new ≡ set old place part)
+    (part : KeyPart) × HasStayed (slice_index_or old place part) part × IsAs (slice_index_or old place part) part × (new ≡ set old place part)
 
 -- it has one line more, or none
 abbrev pub HasOneMoreAt : ℕ → Line → ℕ → List KeyPart → List KeyPart → Type 0

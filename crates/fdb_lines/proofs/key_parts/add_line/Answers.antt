@@ -3,6 +3,7 @@ use Rattle.std.proofs.lemmas.Grind.{common_steps}
 use Rattle.std.proofs.lemmas.List.{get_or_default, get_or-map, length-map, map-set, set-get_or}
 use Rattle.std.proofs.lemmas.Result.{on_ok_weaker, on_err_weaker}
 use Rattle.fdb_lines.specs.declared.key_part.KeyPart.{KeyPart}
+use Rattle.fdb_lines.specs.KeyParts.{HasStayed}
 use Rattle.fdb_lines.specs.private.KeyParts.{flag_at, flags_of, AreOpen, HasNoMore, HasOneMore, IsAs}
 use Rattle.fdb_lines.proofs.Opened.{opened_more, opened_still}
 use Rattle.fdb_lines.proofs.key_parts.add_line.Goals as goal
@@ -26,7 +27,7 @@ returns-in-Err-clause-stays c =
     let it = c.index.result.now in
     let is = c.index.ensures in (
       it,
-      ap (λ (part : KeyPart). part.key) is,
+      subst (λ (old : KeyPart). HasStayed old it) is (record { key = refl; from = refl; settled = refl }),
       subst (λ (old : KeyPart). IsAs old it) is (record { its_margin = refl; its_horizon = refl; its_from = omega arith }),
       sym (ap (set parts place) is ∙ set-get_or parts place it),
     )
@@ -62,7 +63,7 @@ returns-clause-stays c =
     let new = c.push-2.new.self in
     let was = c.index_mut.result.now in
     let is : was ≡ get_or parts place new = c.index_mut.ensures.value ∙ get_or_default parts place was new c.requires.within in
-    (new, c.push-2.ensures.key ∙ ap (λ (part : KeyPart). part.key) is, subst (λ (old : KeyPart). IsAs old new) is c.push-2.ensures.alike, refl)
+    (new, subst (λ (old : KeyPart). HasStayed old new) is c.push-2.ensures.stays, subst (λ (old : KeyPart). IsAs old new) is c.push-2.ensures.alike, refl)
 
 pub returns-clause-ok : goal.returns-clause-ok
 returns-clause-ok c =

@@ -10,7 +10,7 @@ use Rattle.fdb_lines.specs.private.Keys.{number_of, AreNumbered}
 use Rattle.fdb_lines.specs.private.KeyParts.{flags_of, AreOpen, IsAlike, IsFirst}
 use Rattle.fdb_lines.proofs.Opened.{opened_first}
 use Rattle.fdb_lines.proofs.Parted.{numbered_more}
-use Rattle.fdb_lines.proofs.SeenByKey.{alike_first, numbered_same, popped, seen_first}
+use Rattle.fdb_lines.proofs.SeenByKey.{alike_first, numbered_same, popped, seen_first, stay_first, stay_same}
 use Rattle.fdb_lines.proofs.key_watch.KeyWatch.push_first.Goals as goal
 
 pub invariant_of-self-2 : goal.invariant_of-self-2
@@ -90,3 +90,19 @@ returns-in-Err-give_number-clause-err c = λ lines keys seen.
     popped parts c.in-Ok.part c.push-2.new.self.items c.pop-in-Err-give_number-2.new.self.items c.push-2.new.self.len pushed (omega (arith, c.push-2.new.self.ok.0))
     c.pop-in-Err-give_number-2.ensures.rest in
     record { count = seen.count; as_many = seen.as_many; names = ap names_of back ∙ seen.names; each = subst (All (HasSeenOne lines keys)) (sym back) seen.each }
+
+pub returns-in-Err-give_number-clause-stays : goal.returns-in-Err-give_number-clause-stays
+returns-in-Err-give_number-clause-stays c =
+    let watch = c.args.self.now in
+    let parts = watch.parts.items in
+    let pushed : c.push-2.new.self.items ≡ parts ++ c.in-Ok.part ∷ [] = c.in_default-push.ensures.items in
+    let back : c.pop-in-Err-give_number-2.new.self.items ≡ parts =
+    popped parts c.in-Ok.part c.push-2.new.self.items c.pop-in-Err-give_number-2.new.self.items c.push-2.new.self.len pushed (omega (arith, c.push-2.new.self.ok.0))
+    c.pop-in-Err-give_number-2.ensures.rest in
+    stay_same parts c.pop-in-Err-give_number-2.new.self.items back
+
+pub returns-clause-stays : goal.returns-clause-stays
+returns-clause-stays c =
+    let watch = c.args.self.now in
+    stay_first c.args.key watch.margin watch.horizon c.args.line watch.count watch.parts.items c.push-2.new.self.items c.in-Ok.part c.in-Ok.ensures.first
+    c.in_default-push.ensures.items

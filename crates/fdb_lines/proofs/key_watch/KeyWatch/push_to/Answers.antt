@@ -5,7 +5,7 @@ use Rattle.fdb_lines.specs.KeyParts.{names_of}
 use Rattle.fdb_lines.specs.Keys.{key_at}
 use Rattle.fdb_lines.specs.private.Keys.{AreNumbered}
 use Rattle.fdb_lines.specs.private.KeyParts.{HasOneMoreAt}
-use Rattle.fdb_lines.proofs.SeenByKey.{alike_stay, names_stay, seen_still, seen_there}
+use Rattle.fdb_lines.proofs.SeenByKey.{alike_stay, names_stay, seen_still, seen_there, stay_at}
 use Rattle.fdb_lines.proofs.key_watch.KeyWatch.push_to.Goals as goal
 
 pub invariant_of-self : goal.invariant_of-self
@@ -53,3 +53,9 @@ returns-clause-ok c = λ lines keys seen.
       names = it.0;
       each = it.1;
     }
+
+pub returns-in-Err-clause-stays : goal.returns-in-Err-clause-stays
+returns-in-Err-clause-stays c = stay_at c.args.place c.args.self.now.parts.items c.add_line.new.parts.items c.requires.within c.add_line.ensures.stays
+
+pub returns-clause-stays : goal.returns-clause-stays
+returns-clause-stays c = stay_at c.args.place c.args.self.now.parts.items c.add_line.new.parts.items c.requires.within c.add_line.ensures.stays
