@@ -138,7 +138,7 @@ module _ (margin at : ℕ) (lines : List Line) (places : List ℕ) (stand : Stan
   timed_only P untimed = absurd cc
 
   module _ (stands_here : (other : ℕ) → stands (case_of (with_times part) (record { complete = None; margin = other })) fault i ≡ true
-          → stands (case_of all (record { complete = None; margin = other })) fault k ≡ true)
+      → stands (case_of all (record { complete = None; margin = other })) fault k ≡ true)
       (stand_at : stands (case_of all opts) fault k ≡ true) (from : at ≤ began (line_at lines k)) where
     kept_first : (late : Late) → IsLate fault (with_times part) opts i (Some late) → Kept (Some late)
     kept_first late is =
@@ -147,14 +147,14 @@ module _ (margin at : ℕ) (lines : List Line) (places : List ℕ) (stand : Stan
         let lj = inside late.line first.there in
         elim (cases_lt end at) [
           | inl before ↦ inr (
-              end,
-              stand.within late.line lj,
-              sym (outdates_same late.line lj) ∙ first.passes,
-              sym (end_same late.line lj) ∙ first.ended_at,
-              before,
-              is.3 ∙ ap (λ n. n - end) begins_same,
-              λ other less. stands_here other (is.4.under other less),
-            )
+            end,
+            stand.within late.line lj,
+            sym (outdates_same late.line lj) ∙ first.passes,
+            sym (end_same late.line lj) ∙ first.ended_at,
+            before,
+            is.3 ∙ ap (λ n. n - end) begins_same,
+            λ other less. stands_here other (is.4.under other less),
+          )
           | inr later ↦
               let there = first_same late.line end first (not_before late.line end first later) in
               let by : late.by ≡ began (line_at lines k) - end = is.3 ∙ ap (λ n. n - end) begins_same in
@@ -174,8 +174,8 @@ module _ (margin at : ℕ) (lines : List Line) (places : List ℕ) (stand : Stan
     kept_none : IsLate fault (with_times part) opts i None → Kept None
     kept_none is = elim is.0 [
       | inl none ↦ inl (none_is all opts k fault stand_at (of_all (λ j. ended (line_at lines j) ≡ None)
-        (λ j lj passes. sym (end_same j lj) ∙ none j (outside j lj) passes)
-        (λ j left. elim left [ inl unknown ↦ unknown | inr before ↦ absurd (none-some before.3 (sym (none before.0 before.1 before.2) ∙ before.4)) ])))
+          (λ j lj passes. sym (end_same j lj) ∙ none j (outside j lj) passes)
+          (λ j left. elim left [ inl unknown ↦ unknown | inr before ↦ absurd (none-some before.3 (sym (none before.0 before.1 before.2) ∙ before.4)) ])))
       | inr own ↦
           let first = own.1 in
           let least = began_by (line_at part i) own.0 first.ended_at in

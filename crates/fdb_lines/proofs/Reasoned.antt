@@ -91,10 +91,10 @@ module _ (margin at : ℕ) (lines : List Line) (places : List ℕ) (stand : Stan
         let line = line_is m lm in (
           stand.rising m i less li,
           subst (λ (l : Line). one_client (line_at lines (place m)).client l.client ≡ true) (line_is i li)
-          (subst (λ (l : Line). one_client l.client (line_at part i).client ≡ true) line is.1),
+              (subst (λ (l : Line). one_client l.client (line_at part i).client ≡ true) line is.1),
           sym (ap (λ (l : Line). is_learn (kind_of l.call)) line) ∙ is.2,
           sym (ap (λ (l : Line). has_heard lines (place m) (teller_of l.call) (place j)) line)
-          ∙ heard_part m (teller_of (line_at part m).call) j (place m) (omega arith) lj (λ n lt. stand.rising n m lt lm) is.3,
+              ∙ heard_part m (teller_of (line_at part m).call) j (place m) (omega arith) lj (λ n lt. stand.rising n m lt lm) is.3,
         )
 
     witness_same : (lets_know : Kind → Bool) (version : ℕ) (by : Witness) → IsWitness (with_times part) (opts_of margin) lets_know i version by
@@ -116,7 +116,6 @@ module _ (margin at : ℕ) (lines : List Line) (places : List ℕ) (stand : Stan
     module _ (from : at ≤ began (line_at lines k)) (lets_know : Kind → Bool)
         (may : (line : Line) → MayGo margin at part line → (ended line ≡ None) ⊎ IsCovered margin at lets_know part line)
         (version : ℕ) (most : known margin lets_know part i ≤ version) where
-
       -- a line that covers one of the version lets it be known too
       covered_knew : (line : Line) → IsCovered margin at lets_know part line → lets_know (kind_of line.call) ≡ true → version_of line.call ≡ version
           → (j : ℕ) × (j < length part) × (knew_by (with_times part) (opts_of margin) lets_know i version j ≡ true)
@@ -139,10 +138,10 @@ module _ (margin at : ℕ) (lines : List Line) (places : List ℕ) (stand : Stan
         | inr go ↦ elim (may (line_at lines j) go) [
           | inl unknown ↦ rw (no_end (nat_lt j k) (line_at lines j) (line_at lines k) (ended (line_at lines j)) unknown) refl
           | inr covered ↦ false_from_ne_true _ (λ knew.
-            let parts = and_parts (by_time margin lines j k) _ knew in
-            let two = and_parts (lets_know (kind_of (line_at lines j).call)) _ parts.1 in
-            let there = covered_knew (line_at lines j) covered two.0 (let is = two.1 in grind (arith, nat_tests)) in
-            both_ways _ (none there.0 there.1) there.2)
+              let parts = and_parts (by_time margin lines j k) _ knew in
+              let two = and_parts (lets_know (kind_of (line_at lines j).call)) _ parts.1 in
+              let there = covered_knew (line_at lines j) covered two.0 (let is = two.1 in grind (arith, nat_tests)) in
+              both_ways _ (none there.0 there.1) there.2)
         ]
       ]
 
