@@ -308,24 +308,24 @@ stay_same old new is = subst (HaveStayed old) (sym is) (λ i d lt. inl (lt, reco
 
 pub stay_at : (place : ℕ) (old new : List KeyPart) → place < length old → StaysAt place old new → HaveStayed old new
 stay_at place old new lt (part, stay, same, is) = subst (HaveStayed old) (sym is) (λ i d less.
-  let many = length-set old place part in
-  let inside : i < length old = omega arith in
-  elim (cases_eq i place) [
-    | inl at ↦
-        let now : get_or (set old place part) i d ≡ part = ap (λ m. get_or (set old place part) m d) at ∙ get_or-set_same old place part d lt in
-        let was : get_or old place part ≡ get_or old i d = get_or_default old place part d lt ∙ ap (λ m. get_or old m d) (sym at) in
-        inl (inside, subst (HasStayed (get_or old i d)) (sym now) (subst (λ (x : KeyPart). HasStayed x part) was stay))
-    | inr away ↦ inl (inside, subst (HasStayed (get_or old i d)) (sym (get_or-set_other old place i part d away)) (record { key = refl; from = refl; settled = refl }))
-  ])
+    let many = length-set old place part in
+    let inside : i < length old = omega arith in
+    elim (cases_eq i place) [
+      | inl at ↦
+          let now : get_or (set old place part) i d ≡ part = ap (λ m. get_or (set old place part) m d) at ∙ get_or-set_same old place part d lt in
+          let was : get_or old place part ≡ get_or old i d = get_or_default old place part d lt ∙ ap (λ m. get_or old m d) (sym at) in
+          inl (inside, subst (HasStayed (get_or old i d)) (sym now) (subst (λ (x : KeyPart). HasStayed x part) was stay))
+      | inr away ↦ inl (inside, subst (HasStayed (get_or old i d)) (sym (get_or-set_other old place i part d away)) (record { key = refl; from = refl; settled = refl }))
+    ])
 
 pub stay_first : (name : Option ℕ) (margin horizon : ℕ) (line : Line) (number : ℕ) (old new : List KeyPart) (part : KeyPart)
     → IsFirst name margin horizon line number part → new ≡ old ++ part ∷ [] → HaveStayed old new
 stay_first name margin horizon line number old new part first is = subst (HaveStayed old) (sym is) (λ i d less.
-  elim (cases_lt i (length old)) [
-    | inl inside ↦ inl (inside, subst (HasStayed (get_or old i d)) (sym (get_or_append_left old (part ∷ []) d i inside)) (record { key = refl; from = refl; settled = refl }))
-    | inr ge ↦
-        let longer = length-append old (part ∷ []) in
-        let now : get_or (old ++ part ∷ []) i d ≡ part = get_or_push old part d i (omega arith) in
-        let low = first.alike.its_from in
-        inr (ge, ap (λ (x : KeyPart). x.watch.from) now ∙ (let none : part.watch.from ≡ 0 = omega arith in none))
-  ])
+    elim (cases_lt i (length old)) [
+      | inl inside ↦ inl (inside, subst (HasStayed (get_or old i d)) (sym (get_or_append_left old (part ∷ []) d i inside)) (record { key = refl; from = refl; settled = refl }))
+      | inr ge ↦
+          let longer = length-append old (part ∷ []) in
+          let now : get_or (old ++ part ∷ []) i d ≡ part = get_or_push old part d i (omega arith) in
+          let low = first.alike.its_from in
+          inr (ge, ap (λ (x : KeyPart). x.watch.from) now ∙ (let none : part.watch.from ≡ 0 = omega arith in none))
+    ])

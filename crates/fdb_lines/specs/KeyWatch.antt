@@ -38,8 +38,8 @@ HasEntry entries key = Contains (map (λ (entry : SettledKey). entry.key) entrie
 abbrev pub HasNothingToTell : Option ℕ → List Line → List (Option ℕ) → KeyPart → Type 0
 HasNothingToTell to lines keys part = told_of part.watch.margin (due part.watch to) (lines_of_one lines keys part.key) ≡ []
 
--- Once all have settled up to a moment, a key has an entry, and has told of all its lines; or it is as it was: there is nothing
--- to tell of it, and it keeps few lines.
+-- Once all settle up to a moment, a key has an entry and has settled; or it is as it was: there is nothing to tell of it, and it
+-- keeps few lines.
 pub record HasSettled (to : ℕ) (old new : KeyPart) : Type 0 where
   pub key : new.key ≡ old.key
   pub from : new.watch.from ≡ to

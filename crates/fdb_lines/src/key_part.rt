@@ -71,7 +71,8 @@ impl KeyPart {
         ensures untimed { IfErr result (λ error. error ≡ NoTimes → has_times line ≡ false) }
         ensures opened { self.new.is_open ≡ true }
         ensures stays { HasStayed self.old self.new }
-        ensures alike { IsAlike self.old.watch.margin self.old.watch.horizon self.old.watch.from self.new }
+        ensures alike { let was = self.old.watch in
+            IsAlike was.margin was.horizon was.from self.new }
     {
         self.is_open = true;
         if let Err(_refused) = self.numbers.push(number) {
@@ -104,7 +105,7 @@ impl KeyPart {
         })
     }
 
-    /// Puts in its place how it goes on, and gives the lines that it kept until now to what is told.
+    /// Puts in its place how it goes on, and gives the lines that it kept to what is told.
     pub(crate) fn go_on(&mut self, next: KeyPart, told: &mut SettledKey)
         ensures on { self.new ≡ next }
         ensures key { told.new.key ≡ told.old.key }

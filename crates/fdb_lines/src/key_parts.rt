@@ -75,7 +75,8 @@ pub(crate) fn next_parts(
     at: u64,
 ) -> Result<NextParts, AllocError>
     requires { All (λ i. i < length parts.now) places.now }
-    ensures { IfOk result (λ next. AreNext at parts.now places.now next.parts.items next.told.items) }
+    ensures { IfOk result
+        (λ next. AreNext at parts.now places.now next.parts.items next.told.items) }
 {
     let mut next_parts = Vec::with_capacity(alloc, places.len())?;
     let mut told = Vec::with_capacity(alloc, places.len())?;
@@ -108,8 +109,10 @@ pub(crate) fn put_parts(
 )
     requires within { All (λ i. i < length parts.old.items) places.now }
     requires once { AllPairs (λ i j. i ≢ j) places.now }
-    requires sizes { (length next_parts.items ≡ length places.now) × (length told.old.items ≡ length places.now) }
-    ensures { ArePut parts.old.items places.now next_parts.items told.old.items parts.new.items told.new.items }
+    requires sizes { (length next_parts.items ≡ length places.now)
+        × (length told.old.items ≡ length places.now) }
+    ensures { ArePut parts.old.items places.now next_parts.items told.old.items
+        parts.new.items told.new.items }
 {
     while let Some(next) = next_parts.pop() {
         let place = next_parts.len();

@@ -4,7 +4,6 @@ ghost use Rattle.std.specs.Prelude.{◌≡◌, ◌⊎◌, ◌<◌, ◌≤◌, �
 ghost use Rattle.std.specs.Prelude.{[], None, OnErr, OnOk, Option, Some, false, true};
 ghost use Rattle.std.specs.Prelude.{◌↔◌, ◌==◌, cond, length, max, slice_index_or};
 ghost use Rattle.std.specs.BTreeMap.{get};
-ghost use Rattle.std.specs.List.{Contains};
 ghost use Rattle.std.specs.Ordering.{nat_cmp};
 ghost use Rattle.fdb_lines.specs.declared.key_part.KeyPart.{KeyPart};
 ghost use Rattle.fdb_lines.specs.declared.line.Line.{Line};
@@ -12,7 +11,7 @@ ghost use Rattle.fdb_lines.specs.KeyParts.{names_of, HaveStayed};
 ghost use Rattle.fdb_lines.specs.Keys.{key_at};
 ghost use Rattle.fdb_lines.specs.Lines.{has_times};
 ghost use Rattle.fdb_lines.specs.private.Keys.{number_of, AreNumbered};
-ghost use Rattle.fdb_lines.specs.private.KeyParts.{flag_at, flags_of, AreOpen, IsAlike};
+ghost use Rattle.fdb_lines.specs.private.KeyParts.{flags_of, AreOpen, IsAlike};
 
 use crate::key_part::{KeyPart, SettledKey};
 use crate::key_parts::{add_line, finish_parts, first_part, keep_open, next_parts, put_parts};

@@ -201,7 +201,8 @@ impl Watch {
     /// How it goes on once it has settled up to a moment, and what it tells then.
     pub(crate) fn next(&self, alloc: Global, at: u64) -> Result<Next, AllocError>
         ensures told { IfOk result (λ it. (lines : List Line) → HasSeen self.now lines
-            → IsTold self.now (Some (max self.now.from at)) lines self.now.numbers.items it.found.items) }
+            → IsTold self.now (Some (max self.now.from at)) lines self.now.numbers.items
+            it.found.items) }
         ensures seen { IfOk result (λ it. (lines : List Line) → HasSeen self.now lines
             → HasSeen it.watch lines) }
         ensures kept { IfOk result (λ it. (it.watch.numbers.items
@@ -243,8 +244,8 @@ impl Watch {
         self.log
     }
 
-    /// Whether it has told of all lines, and keeps two at most: until a line comes, it has nothing to
-    /// tell and nothing to let go.
+    /// Whether it has told of all lines, and keeps two at most: until a line comes, it has nothing
+    /// to tell and nothing to let go.
     pub(crate) fn is_quiet(&self) -> bool
         ensures { IsTrue result ↔ IsQuiet self.now }
     {
