@@ -5,13 +5,13 @@ use Rattle.clap.specs.Words.{Text}
 use Rattle.fdb_command.specs.Driving.{Stops}
 use Rattle.fdb_command.specs.declared.fault.Fault.{Fault}
 use Rattle.fdb_command.specs.declared.fault.Fault.TheVariants as fault
-use Rattle.fdb_lines.specs.declared.fault.Found.{Found}
 use Rattle.fdb_log_reader.specs.declared.error.ReadError.{ReadError}
 use Rattle.fdb_log_reader.specs.declared.error.Why.{Why}
 use Rattle.fdb_log_reader.specs.declared.error.Why.TheVariants.{Empty, TooLong, TooMany, NotJson, NoCall, TwoCalls, SomeTimes, BadMember, BadKey, Memory}
 use Rattle.fdb_log_reader.specs.Reading.{reading_with}
 use Rattle.fdb_audit.specs.Program.{audit, key_asked, shown_asked, IsAsked}
 use Rattle.fdb_audit.specs.declared.arguments.AuditArguments.{AuditArguments}
+use Rattle.fdb_audit.specs.declared.fault.LogFault.{LogFault}
 use Rattle.fdb_audit.specs.declared.refused.LogsRefused.{LogsRefused}
 
 abbrev pub of_memory : Why → Bool
@@ -33,7 +33,7 @@ is_memory SomeTimes = inr (other SomeTimes refl)
 is_memory (BadMember member) = inr (other (BadMember member) refl)
 is_memory BadKey = inr (other BadKey refl)
 
-pub stops : (arguments : List Text) (asked : AuditArguments) (bytes : List ℕ) (error : ReadError) (made : Fault LogsRefused Found) → IsAsked arguments asked
+pub stops : (arguments : List Text) (asked : AuditArguments) (bytes : List ℕ) (error : ReadError) (made : Fault LogsRefused LogFault) → IsAsked arguments asked
     → (error.why ≡ Memory) ⊎ (reading_with (key_asked asked) (shown_asked asked) bytes ≡ Err error)
     → (error.why ≡ Memory → made ≡ fault.Memory) → (error.why ≢ Memory → made ≡ fault.Refused (record { error = error })) → Stops audit arguments bytes made
 stops arguments asked bytes error made is reads memory refused =

@@ -156,7 +156,7 @@ IsTextOf log it keys opts wanted (Some first) text =
 -- the same of lines without keys, beside which no member is printed
 abbrev pub IsText : Lines → List (List ℕ) → AuditOpts → Wanted → Option Found → List ℕ → Type 0
 IsText log names opts wanted first text =
-    IsTextOf log (record { lines = log.lines; names = names; beside = [] }) None opts wanted first text
+    IsTextOf log (record { lines = log.lines; names = names; numbers = []; beside = [] }) None opts wanted first text
 
 -- ---- of what was read
 
@@ -184,7 +184,7 @@ AreBeside (column ∷ columns) (it ∷ more) = IsBeside column it × AreBeside c
 
 -- what is printed of a log that was read: its clients are JSON strings, safe on a terminal and within a line
 abbrev pub print_of : Reading → List Beside → PrintedLog
-print_of reading shown = record { lines = reading.log.lines; names = map printed reading.names; beside = keys_beside reading.keys ++ shown }
+print_of reading shown = record { lines = reading.log.lines; names = map printed reading.names; numbers = []; beside = keys_beside reading.keys ++ shown }
 
 abbrev pub IsTextOfReading : Reading → AuditOpts → Wanted → Option Found → List ℕ → Type 0
 IsTextOfReading reading opts wanted first text =

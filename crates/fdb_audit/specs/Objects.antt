@@ -20,7 +20,7 @@ use Rattle.fdb_lines.specs.declared.turn.Turn.{Turn}
 use Rattle.fdb_lines.specs.declared.summed.Summary.{Summary}
 use Rattle.fdb_lines.specs.Lines.{line_at}
 use Rattle.fdb_log_reader.specs.Columns.{text_at}
-use Rattle.fdb_audit.specs.Text.{Beside, PrintedLog, line}
+use Rattle.fdb_audit.specs.Text.{Beside, PrintedLog, line, number_at}
 
 -- a number, or null
 abbrev pub number_or_null : Option ℕ → List ℕ
@@ -68,7 +68,7 @@ members_field (it ∷ more) place =
 abbrev pub line_object : PrintedLog → ℕ → List ℕ
 line_object it place =
     let this = line_at it.lines place in
-    codes "{\"line\":" ++ decimal (place + 1) ++ client_field it.names this.client ++ call_field it.names this.call
+    codes "{\"line\":" ++ decimal (number_at it.numbers place) ++ client_field it.names this.client ++ call_field it.names this.call
     ++ times_field this.times ++ members_field it.beside place ++ codes "}"
 
 -- ---- a fault

@@ -11,7 +11,9 @@ use Rattle.fdb_log_reader.specs.declared.reader.LogReader.{LogReader}
 use Rattle.fdb_log_reader.specs.Reader.{reads_on}
 use Rattle.fdb_log_reader.specs.Reading.{reading_with}
 use Rattle.fdb_audit.specs.Judged.{IsJudgementBy}
+use Rattle.fdb_audit.specs.Text.{fault_of}
 use Rattle.fdb_audit.specs.declared.arguments.AuditArguments.{AuditArguments}
+use Rattle.fdb_audit.specs.declared.fault.LogFault.{LogFault}
 use Rattle.fdb_audit.specs.declared.judging.Wanted.{Wanted}
 use Rattle.fdb_audit.specs.declared.refused.LogsRefused.{LogsRefused}
 use Rattle.fdb_audit.specs.declared.program.TheConstants.{MAX_LOG_BYTES}
@@ -72,13 +74,15 @@ shown_asked asked = map string_bytes asked.shown.items
 abbrev pub HasRead : AuditArguments → LogReader → List ℕ → Type 0
 HasRead asked reader bytes = (text : List ℕ) → reads_on reader text ≡ reading_with (key_asked asked) (shown_asked asked) (bytes ++ text)
 
--- what an audit prints of these bytes
-abbrev pub Prints : AuditArguments → List ℕ → List ℕ → Option Found → Type 0
-Prints asked bytes text found = IsJudgementBy (key_asked asked) (shown_asked asked) bytes asked.opts asked.wanted found text
+-- what an audit prints of these bytes, and what it tells of: the first fault, by the number of its line
+abbrev pub Prints : AuditArguments → List ℕ → List ℕ → Option LogFault → Type 0
+Prints asked bytes text found =
+    (first : Option Found) × (found ≡ option_map (fault_of []) first)
+    × IsJudgementBy (key_asked asked) (shown_asked asked) bytes asked.opts asked.wanted first text
 
 -- It prints what an audit of the log finds that the bytes stand for, and refuses what stands for none; that memory was
 -- refused says nothing of the bytes. Whatever it finds, it prints.
-abbrev pub audit : Promise AuditArguments LogReader LogsRefused Found
+abbrev pub audit : Promise AuditArguments LogReader LogsRefused LogFault
 audit = record {
   app = command;
   most = MAX_LOG_BYTES;

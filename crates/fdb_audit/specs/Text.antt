@@ -1,8 +1,9 @@
 -- What is printed of a log and its faults. (this product's own)
-use Rattle.std.specs.Prelude.{ℕ, ◌+◌, ◌-◌, ◌++◌, ◌∷◌, ◌==◌, ◌&&◌, nat_lt, not, Bool, true, false, cond, List, [], Option, None, Some, codes, decimal, slice_get}
+use Rattle.std.specs.Prelude.{ℕ, ◌+◌, ◌-◌, ◌++◌, ◌∷◌, ◌==◌, ◌&&◌, nat_lt, not, Bool, true, false, cond, List, [], Option, None, Some, codes, decimal, slice_get, unwrap_or}
 use Rattle.std.specs.List.{flat_map}
 use Rattle.fdb_lines.specs.declared.act.Act.{Act}
 use Rattle.fdb_lines.specs.declared.act.Act.TheVariants.{Asks, Reports, Reads}
+use Rattle.fdb_lines.specs.declared.fault.Found.{Found}
 use Rattle.fdb_lines.specs.declared.late.Late.{Late}
 use Rattle.fdb_lines.specs.declared.line.Call.{Call}
 use Rattle.fdb_lines.specs.declared.line.Call.TheVariants.{Read, Commit, Ask, Report, Learn}
@@ -17,8 +18,9 @@ use Rattle.fdb_lines.specs.declared.turn.Turn.{Turn}
 use Rattle.fdb_lines.specs.declared.summed.Summary.{Summary}
 use Rattle.fdb_lines.specs.Before.{began, ended}
 use Rattle.fdb_lines.specs.Lines.{draws, kind_of, line_at}
-use Rattle.fdb_lines.specs.Text.{found_text}
+use Rattle.fdb_lines.specs.Text.{fault_name}
 use Rattle.fdb_log_reader.specs.Columns.{text_at}
+use Rattle.fdb_audit.specs.declared.fault.LogFault.{LogFault}
 
 -- a line ends with one newline byte
 abbrev pub line : List ℕ → List ℕ
@@ -32,10 +34,12 @@ pub record Beside : Type 0 where
   pub texts : List (List ℕ)
   pub numbers : List (Option ℕ)
 
--- the lines, the names of their clients by number, and the members that are printed beside the calls
+-- the lines, the names of their clients by number, the numbers of the lines by place, and the members that are printed
+-- beside the calls
 pub record PrintedLog : Type 0 where
   pub lines : List Line
   pub names : List (List ℕ)
+  pub numbers : List ℕ
   pub beside : List Beside
 
 -- ---- a line, as a sentence names it
@@ -78,14 +82,17 @@ abbrev pub whose_text : List (List ℕ) → Option ℕ → List ℕ
 whose_text names None = []
 whose_text names (Some client) = client_text names client ++ codes ", "
 
--- lines are printed by their numbers, counted from 1
-abbrev pub number_text : ℕ → List ℕ
-number_text place = codes "line " ++ decimal (place + 1)
+-- lines are printed by their numbers, counted from 1: that of a place, or where it has none the place, counted from 1
+abbrev pub number_at : List ℕ → ℕ → ℕ
+number_at numbers place = unwrap_or (slice_get numbers place) (place + 1)
+
+abbrev pub number_text : List ℕ → ℕ → List ℕ
+number_text numbers place = codes "line " ++ decimal (number_at numbers place)
 
 abbrev pub mention : PrintedLog → ℕ → List ℕ
 mention it place =
     let this = line_at it.lines place in
-    number_text place ++ codes " (" ++ whose_text it.names this.client ++ call_text this.call
+    number_text it.numbers place ++ codes " (" ++ whose_text it.names this.client ++ call_text this.call
     ++ members_text it.beside place ++ codes ")"
 
 -- ---- why a fault stands, in one sentence
@@ -95,19 +102,21 @@ abbrev pub since : Option ℕ → ℕ → ℕ
 since None moment = 0
 since (Some end) moment = moment - end
 
-abbrev pub wait_text : ℕ → ℕ → List ℕ
-wait_text place wait = codes " had ended " ++ decimal wait ++ codes " before " ++ number_text place ++ codes " began"
+abbrev pub wait_text : List ℕ → ℕ → ℕ → List ℕ
+wait_text numbers place wait =
+    codes " had ended " ++ decimal wait ++ codes " before " ++ number_text numbers place ++ codes " began"
 
 -- that a line had ended before the call at a place began, and how long
 abbrev pub ended_text : PrintedLog → ℕ → ℕ → List ℕ
 ended_text it place other =
-    mention it other ++ wait_text place (since (ended (line_at it.lines other)) (began (line_at it.lines place)))
+    mention it other
+    ++ wait_text it.numbers place (since (ended (line_at it.lines other)) (began (line_at it.lines place)))
 
 -- how the call at a place knew of a line
 abbrev pub means_text : PrintedLog → ℕ → ℕ → Means → List ℕ
 means_text it place other Ended = ended_text it place other
 means_text it place other Own = mention it other ++ codes " is an earlier call of its client"
-means_text it place other (Learnt teller) = number_text teller ++ codes " had learnt of " ++ mention it other
+means_text it place other (Learnt teller) = number_text it.numbers teller ++ codes " had learnt of " ++ mention it other
 
 -- how the call at a place knew of a version
 abbrev pub known_text : PrintedLog → ℕ → ℕ → Option Witness → List ℕ
@@ -168,10 +177,17 @@ sentence_text it place late reason =
 
 -- ---- a fault, on a line of its own
 
+-- a fault, by the number of its line
+abbrev pub fault_of : List ℕ → Found → LogFault
+fault_of numbers found = record { fault = found.fault; number = number_at numbers found.line }
+
+abbrev pub fault_text : LogFault → List ℕ
+fault_text it = fault_name it.fault ++ decimal it.number
+
 -- a fault by its name and line, and why it stands
 abbrev pub finding_text : PrintedLog → Finding → List ℕ
 finding_text it finding =
-    codes "audit fault: " ++ found_text finding.found ++ codes ": "
+    codes "audit fault: " ++ fault_text (fault_of it.numbers finding.found) ++ codes ": "
     ++ sentence_text it finding.found.line finding.late finding.reason
 
 -- a line for each of some faults
@@ -218,7 +234,8 @@ owner_text names (Some client) = codes " " ++ client_text names client
 abbrev pub turn_owner : PrintedLog → List ℕ → Option ℕ → List ℕ
 turn_owner it key None = codes " others" ++ key
 turn_owner it key (Some place) =
-    codes " " ++ number_text place ++ owner_text it.names (line_at it.lines place).client ++ members_text it.beside place
+    codes " " ++ number_text it.numbers place ++ owner_text it.names (line_at it.lines place).client
+    ++ members_text it.beside place
 
 abbrev pub shared_text : Bool → List ℕ
 shared_text true = codes " shared"

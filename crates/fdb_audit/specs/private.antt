@@ -26,6 +26,7 @@ abbrev pub shown_in : View → PrintedLog
 shown_in view = record {
   lines = (lines_of view.log.now).lines;
   names = map string_bytes view.names.now;
+  numbers = view.numbers.now;
   beside = map beside_of view.beside.now;
 }
 

@@ -191,6 +191,7 @@ fn judge_named<'x>(
     let view = View {
         log: &named.log,
         names: &names,
+        numbers: &[],
         beside: &beside,
     };
     judge_asked(alloc, Asked { view, keys, opts }, wanted)
@@ -214,6 +215,7 @@ pub(crate) fn judge_named_by<'x, R: Threads + Sync>(
     let view = View {
         log: &named.log,
         names: &names,
+        numbers: &[],
         beside: &beside,
     };
     judge_asked_by(rt, alloc, Asked { view, keys, opts }, wanted)

@@ -7,6 +7,7 @@
 mod arguments;
 mod asked;
 mod beside;
+mod fault;
 mod grouped;
 mod groups;
 mod judging;
@@ -23,6 +24,7 @@ mod verdict;
 mod view;
 
 pub use arguments::AuditArguments;
+pub use fault::LogFault;
 pub use fdb_command::command_line;
 pub use judging::{Judgement, Wanted, judge, judge_text};
 pub use program::{Audit, MAX_LOG_BYTES, drive};

@@ -52,7 +52,7 @@ impl View<'_> {
             ≡ string_bytes out.old ++ line_object (shown_in self.entry) place) }
     {
         let line = self.line(place);
-        let number = place as u64 + 1;
+        let number = self.number(place);
         write!(out, "{{\"line\":{number}")?;
         self.push_client_field(out, line.client)?;
         self.push_call_field(out, line.call)?;

@@ -7,11 +7,12 @@ ghost use Rattle.fdb_audit.specs.Program.{audit, HasRead, IsAsked, Prints};
 ghost use Rattle.fdb_command.specs.Driving.{IsDriven, Stops};
 
 use crate::arguments::{AuditArguments, command, members, owned, text, wanted_of};
+use crate::fault::{LogFault, told};
 use crate::judging::{Judgement, judge_named_by};
 use crate::refused::LogsRefused;
 use clap::{ArgMatches, Command};
 use fdb_command::{Answer, Fault, Program, is_given, number};
-use fdb_lines::{AuditOpts, Found};
+use fdb_lines::AuditOpts;
 use fdb_log_reader::{LogReader, ReadError, Why};
 use std::alloc::{AllocError, Global};
 use std::fs::Files;
@@ -37,7 +38,7 @@ impl Program for Audit {
 
     type Refusal = LogsRefused;
 
-    type Finding = Found;
+    type Finding = LogFault;
 
     const NAME: &'static str = "fdb_audit";
 
@@ -76,7 +77,7 @@ impl Program for Audit {
         &self,
         reader: LogReader,
         bytes: &[u8],
-    ) -> Result<LogReader, Fault<LogsRefused, Found>> {
+    ) -> Result<LogReader, Fault<LogsRefused, LogFault>> {
         match reader.feed(bytes) {
             Ok(reader) => Ok(reader),
             Err(error) => Err(refusal(error)),
@@ -109,8 +110,8 @@ pub fn drive<R: Files + Threads + Sync, I: Read, O: Write, E: Write>(
         input.old input.new out.old out.new err.old err.new result }
 {
     let body = move |asked: AuditArguments, reader: LogReader| -> Result<
-        Answer<Found>,
-        Fault<LogsRefused, Found>,
+        Answer<LogFault>,
+        Fault<LogsRefused, LogFault>,
     >
         requires { IsSync R.row }
         ensures { (arguments : List Text) (bytes : List ℕ) → IsAsked arguments asked
@@ -125,7 +126,7 @@ pub fn drive<R: Files + Threads + Sync, I: Read, O: Write, E: Write>(
         match judge_named_by(rt, alloc, &named, &asked.opts, asked.wanted) {
             Ok(Judgement { fault, text }) => Ok(Answer {
                 text: text.into_bytes(),
-                found: fault,
+                found: told(fault),
             }),
             Err(_) => Err(Fault::Memory),
         }
@@ -134,7 +135,7 @@ pub fn drive<R: Files + Threads + Sync, I: Read, O: Write, E: Write>(
 }
 
 /// The fault that a program ends with whose log is refused.
-fn refusal(error: ReadError) -> Fault<LogsRefused, Found>
+fn refusal(error: ReadError) -> Fault<LogsRefused, LogFault>
     ensures memory { error.why ≡ Why.Memory → result ≡ Fault.Memory }
     ensures refused { error.why ≢ Why.Memory → result ≡ Fault.Refused (record { error = error }) }
 {

@@ -8,7 +8,7 @@ ghost use Rattle.fdb_audit.specs.Text.{is_told, known_text, late_text, line, lis
 ghost use Rattle.fdb_audit.specs.Text.{reason_text, sentence_text, since, wait_text};
 ghost use Rattle.fdb_audit.specs.private.{shown_in};
 
-use crate::view::{View, push_number};
+use crate::view::View;
 use fdb_lines::{Call, Finding, Late, Means, Reason, Witness};
 use std::alloc::AllocError;
 use std::fmt::Write;
@@ -30,9 +30,10 @@ impl View<'_> {
         ensures { OnOk result (string_bytes out.new ≡ string_bytes out.old
             ++ line (finding_text (shown_in self.entry) finding)) }
     {
-        let fault = finding.found;
+        let found = finding.found;
+        let fault = self.fault(found);
         write!(out, "audit fault: {fault}: ")?;
-        self.push_sentence(out, fault.line, finding.late, finding.reason)?;
+        self.push_sentence(out, found.line, finding.late, finding.reason)?;
         writeln!(out)
     }
 
@@ -135,7 +136,7 @@ impl View<'_> {
             ++ ended_text (shown_in self.entry) place other) }
     {
         self.push_mention(out, other)?;
-        push_wait(out, place, self.wait(other, place))
+        self.push_wait(out, place, self.wait(other, place))
     }
 
     /// Writes how the call at a place knew of a version.
@@ -159,11 +160,21 @@ impl View<'_> {
                 write!(out, " is an earlier call of its client")
             }
             Means::Learnt(teller) => {
-                push_number(out, teller)?;
+                self.push_number(out, teller)?;
                 write!(out, " had learnt of ")?;
                 self.push_mention(out, by.line)
             }
         }
+    }
+
+    /// Writes how long a line had ended when the call at a place began.
+    fn push_wait(self, out: &mut String, place: u32, wait: u64) -> Result<(), AllocError>
+        ensures { OnOk result (string_bytes out.new
+            ≡ string_bytes out.old ++ wait_text (shown_in self.entry).numbers place wait) }
+    {
+        write!(out, " had ended {wait} before ")?;
+        self.push_number(out, place)?;
+        write!(out, " began")
     }
 
     /// How long a line had ended when a call began; 0 where its end is not known.
@@ -176,15 +187,6 @@ impl View<'_> {
             None => 0,
         }
     }
-}
-
-/// Writes how long a line had ended when the call at a place began.
-fn push_wait(out: &mut String, place: u32, wait: u64) -> Result<(), AllocError>
-    ensures { OnOk result (string_bytes out.new ≡ string_bytes out.old ++ wait_text place wait) }
-{
-    write!(out, " had ended {wait} before ")?;
-    push_number(out, place)?;
-    write!(out, " began")
 }
 
 /// Writes what a caller did: it read, drew or reported a version.

@@ -7,7 +7,7 @@ ghost use Rattle.fdb_audit.specs.Text.{ordered_text, owner_text, parts_text, sum
 ghost use Rattle.fdb_audit.specs.Text.{turn_line, turn_owner, versions_text};
 ghost use Rattle.fdb_audit.specs.private.{shown_in};
 
-use crate::view::{View, push_number};
+use crate::view::View;
 use fdb_lines::{Act, Summary, Turn};
 use std::alloc::AllocError;
 use std::fmt::Write;
@@ -118,7 +118,7 @@ impl View<'_> {
         match line {
             Some(place) => {
                 write!(out, " ")?;
-                push_number(out, place)?;
+                self.push_number(out, place)?;
                 self.push_owner(out, self.line(place).client)?;
                 self.push_members(out, place)
             }

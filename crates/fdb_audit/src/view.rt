@@ -3,12 +3,13 @@
 ghost use Rattle.std.specs.Prelude.{◌≡◌, ◌++◌, [], OnOk, map, option_map, slice_get, string_bytes};
 ghost use Rattle.fdb_lines.specs.Lines.{line_at};
 ghost use Rattle.fdb_lines.specs.Log.{lines_of};
-ghost use Rattle.fdb_audit.specs.Text.{call_text, client_text, members_text, mention};
-ghost use Rattle.fdb_audit.specs.Text.{number_text, whose_text};
+ghost use Rattle.fdb_audit.specs.Text.{call_text, client_text, fault_of, members_text, mention};
+ghost use Rattle.fdb_audit.specs.Text.{number_at, number_text, whose_text};
 ghost use Rattle.fdb_audit.specs.private.{shown_in};
 
 use crate::beside::MemberBeside;
-use fdb_lines::{Call, Line, Log};
+use crate::fault::LogFault;
+use fdb_lines::{Call, Found, Line, Log};
 use std::alloc::AllocError;
 use std::fmt::Write;
 
@@ -19,25 +20,34 @@ const NOBODY: Line = Line {
     times: None,
 };
 
-/// What is printed of a log: its lines, the names of their clients, by the clients' numbers, and the
-/// members that are printed beside the calls. Who has a number beyond the names is printed by that.
+/// What is printed of a log: its lines, the names of their clients, by the clients' numbers, the
+/// numbers of the lines, counted from 1, by their places, and the members that are printed beside
+/// the calls. A client beyond the names is printed by its number, and a line beyond the numbers by
+/// its place, counted from 1.
 #[derive(Clone, Copy)]
 pub(crate) struct View<'a> {
     pub log: &'a Log,
     pub names: &'a [String],
+    pub numbers: &'a [u64],
     pub beside: &'a [MemberBeside<'a>],
 }
 
 impl<'a> View<'a> {
-    /// A log whose clients have these names, of which no member is printed beside the calls.
+    /// A log whose clients have these names, whose lines have no other numbers than their places,
+    /// and of which no member is printed beside the calls.
     pub(crate) fn of(log: &'a Log, names: &'a [String]) -> Self
-        ensures shown { shown_in result ≡ record
-            { lines = (lines_of log.now).lines; names = map string_bytes names.now; beside = [] } }
+        ensures shown { shown_in result ≡ record {
+          lines = (lines_of log.now).lines;
+          names = map string_bytes names.now;
+          numbers = [];
+          beside = [];
+        } }
         ensures log { lines_of result.log.now ≡ lines_of log.now }
     {
         View {
             log,
             names,
+            numbers: &[],
             beside: &[],
         }
     }
@@ -50,6 +60,24 @@ impl View<'_> {
     {
         let line = self.log.lines().get(place as usize);
         line.copied().unwrap_or(NOBODY)
+    }
+
+    /// The number under which the line at a place is printed, counted from 1.
+    pub(crate) fn number(self, place: u32) -> u64
+        ensures { result ≡ number_at (shown_in self.entry).numbers place }
+    {
+        let number = self.numbers.get(place as usize);
+        number.copied().unwrap_or(place as u64 + 1)
+    }
+
+    /// A fault, by the number of its line.
+    pub(crate) fn fault(self, found: Found) -> LogFault
+        ensures { result ≡ fault_of (shown_in self.entry).numbers found }
+    {
+        LogFault {
+            fault: found.fault,
+            number: self.number(found.line),
+        }
     }
 
     /// The name of a client; none where its number is beyond the names.
@@ -78,12 +106,21 @@ impl View<'_> {
             (string_bytes out.new ≡ string_bytes out.old ++ mention (shown_in self.entry) place) }
     {
         let line = self.line(place);
-        push_number(out, place)?;
+        self.push_number(out, place)?;
         write!(out, " (")?;
         self.push_whose(out, line.client)?;
         push_call(out, line.call)?;
         self.push_members(out, place)?;
         write!(out, ")")
+    }
+
+    /// Writes the line at a place by its number.
+    pub(crate) fn push_number(self, out: &mut String, place: u32) -> Result<(), AllocError>
+        ensures { OnOk result (string_bytes out.new
+            ≡ string_bytes out.old ++ number_text (shown_in self.entry).numbers place) }
+    {
+        let number = self.number(place);
+        write!(out, "line {number}")
     }
 
     /// Writes what is printed beside a line.
@@ -110,14 +147,6 @@ impl View<'_> {
             None => Ok(()),
         }
     }
-}
-
-/// Writes the number of a line, counted from 1, by its place.
-pub(crate) fn push_number(out: &mut String, place: u32) -> Result<(), AllocError>
-    ensures { OnOk result (string_bytes out.new ≡ string_bytes out.old ++ number_text place) }
-{
-    let number = place as u64 + 1;
-    write!(out, "line {number}")
 }
 
 /// Writes what a line says that was done, with the version, or of whom it has learnt, by number.

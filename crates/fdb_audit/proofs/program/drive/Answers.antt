@@ -3,14 +3,14 @@ use Rattle.clap.specs.Words.{Text}
 use Rattle.fdb_command.specs.Driving.{Stops}
 use Rattle.fdb_command.specs.declared.fault.Fault.{Fault}
 use Rattle.fdb_command.specs.declared.program.Answer.{Answer}
-use Rattle.fdb_lines.specs.declared.fault.Found.{Found}
 use Rattle.fdb_audit.specs.Program.{IsAsked, Prints, audit}
 use Rattle.fdb_audit.specs.declared.arguments.AuditArguments.{AuditArguments}
+use Rattle.fdb_audit.specs.declared.fault.LogFault.{LogFault}
 use Rattle.fdb_audit.specs.declared.refused.LogsRefused.{LogsRefused}
 use Rattle.fdb_audit.proofs.program.drive.Goals as goal
 
 -- what was judged as the flags say is what the program promises to print
-promised : (arguments : List Text) (asked : AuditArguments) (bytes : List ℕ) (made : Result (Answer Found) (Fault LogsRefused Found)) → IsAsked arguments asked
+promised : (arguments : List Text) (asked : AuditArguments) (bytes : List ℕ) (made : Result (Answer LogFault) (Fault LogsRefused LogFault)) → IsAsked arguments asked
     → MatchResult made (λ answer. Prints asked bytes answer.text.items answer.found) (Stops audit arguments bytes)
     → MatchResult made (λ answer. audit.prints arguments bytes answer.text.items answer.found) (Stops audit arguments bytes)
 promised arguments asked bytes (Ok answer) is judged = (asked, is, judged)
