@@ -40,3 +40,4 @@ pub mod Opened
 pub mod PutOn
 pub mod SeenByKey
 pub mod SettledByKey
+pub mod KeptByKey

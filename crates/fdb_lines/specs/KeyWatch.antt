@@ -1,14 +1,15 @@
 -- What an audit that watches by key has seen, and what it tells: of each key what a watch of its lines does. (this product's own)
 use Rattle.std.specs.Prelude.{◌≡◌, ◌≢◌, ◌⊎◌, ℕ, ◌+◌, ◌<◌, ◌≤◌, All, List, [], Option, Some, length, map, slice_index, slice_index_or}
-use Rattle.std.specs.List.{AllPairs, Contains}
+use Rattle.std.specs.List.{AllPairs, Contains, flat_map}
+use Rattle.fdb_lines.specs.declared.key_part.KeptLine.{KeptLine}
 use Rattle.fdb_lines.specs.declared.key_part.KeyPart.{KeyPart}
 use Rattle.fdb_lines.specs.declared.key_part.SettledKey.{SettledKey}
 use Rattle.fdb_lines.specs.declared.key_watch.KeyWatch.{KeyWatch}
 use Rattle.fdb_lines.specs.declared.line.Line.{Line}
 use Rattle.fdb_lines.specs.Carried.{open_count}
 use Rattle.fdb_lines.specs.KeyParts.{lines_of_one, names_of, HasSeenOne}
-use Rattle.fdb_lines.specs.Keys.{keys_of, places_of}
-use Rattle.fdb_lines.specs.Lines.{lines_in}
+use Rattle.fdb_lines.specs.Keys.{key_at, keys_of, places_of}
+use Rattle.fdb_lines.specs.Lines.{line_at, lines_in}
 use Rattle.fdb_lines.specs.Log.{lines_of}
 use Rattle.fdb_lines.specs.Watch.{due, judged_from, IsTold}
 use Rattle.fdb_lines.specs.Watching.{told_of}
@@ -19,6 +20,17 @@ pub record HasSeenByKey (watch : KeyWatch) (lines : List Line) (keys : List (Opt
   pub as_many : length keys ≡ length lines
   pub names : names_of watch.parts.items ≡ keys_of keys
   pub each : All (HasSeenOne lines keys) watch.parts.items
+
+-- A line that is kept is the one of its number among all lines that came, with its key.
+pub record IsKept (lines : List Line) (keys : List (Option ℕ)) (kept : KeptLine) : Type 0 where
+  pub came : kept.number < length lines
+  pub key : kept.key ≡ key_at keys kept.number
+  pub line : kept.line ≡ line_at lines kept.number
+
+-- The lines that are kept are those whose numbers the parts have, part by part; none is left out, and none comes in.
+pub record AreKept (lines : List Line) (keys : List (Option ℕ)) (parts : List KeyPart) (kept : List KeptLine) : Type 0 where
+  pub each : All (IsKept lines keys) kept
+  pub all : map (λ (one : KeptLine). one.number) kept ≡ flat_map (λ (part : KeyPart). part.numbers.items) parts
 
 -- What is told of a key is what its watch tells of its lines; of the lines that it kept, the numbers are those among all.
 pub record IsToldOf (to : Option ℕ) (lines : List Line) (keys : List (Option ℕ)) (entry : SettledKey) (part : KeyPart) : Type 0 where

@@ -1,6 +1,6 @@
 //! A key of a log that is watched, with the watch of its lines.
 
-ghost use Rattle.std.specs.Prelude.{◌≡◌, All, List, IfErr, IfOk, OnErr, OnOk};
+ghost use Rattle.std.specs.Prelude.{◌≡◌, ◌++◌, All, List, IfErr, IfOk, OnErr, OnOk};
 ghost use Rattle.std.specs.Prelude.{[], false, length, true};
 ghost use Rattle.fdb_lines.specs.declared.line.Line.{Line};
 ghost use Rattle.fdb_lines.specs.Watch.{HasSeen, IsTold};
@@ -16,9 +16,20 @@ use std::mem::replace;
 /// A key, and what its watch tells when it settles.
 #[derive(Debug, Drop)]
 pub struct SettledKey {
+    /// None for the lines without a key.
     pub key: Option<u32>,
     /// The numbers are those among all lines of the whole log.
     pub settled: Settled,
+}
+
+/// A line that a watch by key keeps.
+#[derive(Clone, Copy, Debug)]
+pub struct KeptLine {
+    /// Its number among all lines of the whole log, counted from 0.
+    pub number: u64,
+    /// None for a line without a key.
+    pub key: Option<u32>,
+    pub line: Line,
 }
 
 /// A key with the watch of its lines.
@@ -47,7 +58,8 @@ impl KeyPart {
     ghost use Rattle.fdb_lines.specs.declared.watch.WatchError.TheVariants.{NoTimes};
     ghost use Rattle.fdb_lines.specs.KeyParts.{HasStayed};
     ghost use Rattle.fdb_lines.specs.Lines.{has_times};
-    ghost use Rattle.fdb_lines.specs.private.KeyParts.{HasNoMore, HasOneMore, IsAlike, IsNext};
+    ghost use Rattle.fdb_lines.specs.private.KeyParts.{kept_of, HasNoMore, HasOneMore, IsAlike};
+    ghost use Rattle.fdb_lines.specs.private.KeyParts.{IsNext};
 
     /// The part of a key without lines.
     pub(crate) fn new(alloc: Global, key: Option<u32>, margin: u64, horizon: u64) -> Self
@@ -81,6 +93,21 @@ impl KeyPart {
         if let Err(error) = self.watch.push(line) {
             self.numbers.pop();
             return Err(error);
+        }
+        Ok(())
+    }
+
+    /// Adds the lines that it keeps.
+    pub(crate) fn add_kept(&self, kept: &mut Vec<KeptLine>) -> Result<(), AllocError>
+        ensures { OnOk result (kept.new.items ≡ kept.old.items ++ kept_of self.now) }
+    {
+        let lines = self.watch.lines();
+        for (place, number) in self.numbers.iter().enumerate() {
+            kept.push(KeptLine {
+                number: *number,
+                key: self.key,
+                line: lines[place],
+            })?;
         }
         Ok(())
     }

@@ -3,14 +3,14 @@
 
 ghost use Rattle.std.specs.Prelude.{◌≡◌, ◌≢◌, ◌<◌, All, IfErr, IfOk, OnErr, OnOk};
 ghost use Rattle.std.specs.Prelude.{None, false, length};
-ghost use Rattle.std.specs.List.{AllPairs, filter};
+ghost use Rattle.std.specs.List.{AllPairs, filter, flat_map};
 ghost use Rattle.fdb_lines.specs.declared.watch.WatchError.TheVariants.{NoTimes};
 ghost use Rattle.fdb_lines.specs.Lines.{has_times};
 ghost use Rattle.fdb_lines.specs.private.KeyParts.{flag_at, flags_of, AreEntries, AreNext, AreOpen};
 ghost use Rattle.fdb_lines.specs.private.KeyParts.{ArePut, HasNoMoreAt, HasOneMoreAt, IsFirst};
-ghost use Rattle.fdb_lines.specs.private.KeyParts.{StaysAt};
+ghost use Rattle.fdb_lines.specs.private.KeyParts.{kept_of, StaysAt};
 
-use crate::key_part::{KeyPart, SettledKey};
+use crate::key_part::{KeptLine, KeyPart, SettledKey};
 use crate::line::Line;
 use crate::log::{LineError, Log};
 use crate::watch::{Settled, WatchError};
@@ -136,6 +136,17 @@ pub(crate) fn finish_parts(
         told.push(part.finish(alloc)?)?;
     }
     Ok(told)
+}
+
+/// The lines that some parts keep.
+pub(crate) fn kept_lines(alloc: Global, parts: &[KeyPart]) -> Result<Vec<KeptLine>, AllocError>
+    ensures { IfOk result (λ kept. kept.items ≡ flat_map kept_of parts.now) }
+{
+    let mut kept = Vec::new(alloc);
+    for part in parts {
+        part.add_kept(&mut kept)?;
+    }
+    Ok(kept)
 }
 
 /// Keeps of some places those at which a part is open.

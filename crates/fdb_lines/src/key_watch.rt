@@ -13,8 +13,10 @@ ghost use Rattle.fdb_lines.specs.Lines.{has_times};
 ghost use Rattle.fdb_lines.specs.private.Keys.{number_of, AreNumbered};
 ghost use Rattle.fdb_lines.specs.private.KeyParts.{flags_of, AreOpen, IsAlike};
 
-use crate::key_part::{KeyPart, SettledKey};
-use crate::key_parts::{add_line, finish_parts, first_part, keep_open, next_parts, put_parts};
+use crate::key_part::{KeptLine, KeyPart, SettledKey};
+use crate::key_parts::{
+    add_line, finish_parts, first_part, keep_open, kept_lines, next_parts, put_parts,
+};
 use crate::line::Line;
 use crate::log::LineError;
 use crate::parts::number_of;
@@ -46,7 +48,7 @@ pub struct KeyWatch {
 
 impl KeyWatch {
     ghost use Rattle.fdb_lines.specs.declared.watch.WatchError.TheVariants.{NoTimes};
-    ghost use Rattle.fdb_lines.specs.KeyWatch.{AreTold, GoesOn, HasEntry};
+    ghost use Rattle.fdb_lines.specs.KeyWatch.{AreKept, AreTold, GoesOn, HasEntry};
     ghost use Rattle.fdb_lines.specs.KeyWatch.{HasNothingToTell, HasSeenByKey};
 
     /// A watch that has seen no line.
@@ -72,6 +74,16 @@ impl KeyWatch {
         ensures { result ≡ self.now.from }
     {
         self.from
+    }
+
+    /// The lines that it keeps, of each key in the order in which they came.
+    pub fn kept(&self, alloc: Global) -> Result<Vec<KeptLine>, AllocError>
+        ensures { IfOk result (λ kept. (lines : List Line) → (keys : List (Option ℕ))
+            → HasSeenByKey self.now lines keys
+            → AreKept lines keys self.now.parts.items kept.items) }
+    {
+        let kept = kept_lines(alloc, &self.parts)?;
+        Ok(kept)
     }
 
     /// Adds a line of a key, or of none. An error says why it is refused; nothing is added then.

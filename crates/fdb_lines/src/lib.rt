@@ -48,7 +48,7 @@ pub use fault::{Fault, Found};
 pub use judging::{faults, findings, first_fault, first_finding, first_finding_by};
 pub use key_order::KeyOrder;
 pub use key_orders::orders_by_key;
-pub use key_part::SettledKey;
+pub use key_part::{KeptLine, SettledKey};
 pub use key_summary::summary_by_key;
 pub use key_watch::KeyWatch;
 pub use keys::findings_by_key;

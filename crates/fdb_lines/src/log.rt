@@ -6,29 +6,45 @@ ghost use Rattle.fdb_lines.specs.Lines.{has_times, line_at};
 
 use crate::line::{Call, Line};
 use std::alloc::{AllocError, Global};
-use thiserror::Error;
+use std::error::Error;
+use std::fmt;
 
 /// How many lines a log may have: each place fits 32 bits.
 pub const MAX_LINES: usize = 4_294_967_295;
 
 /// Why [`Log::push`] refuses a line. The first that holds is given, and memory last.
-#[derive(Clone, Copy, Debug, PartialEq, Eq, Error)]
+#[derive(Clone, Copy, Debug, PartialEq, Eq)]
 pub enum LineError {
     /// There are as many lines as a log may have.
-    #[error("too many lines")]
     TooMany,
     /// It has times and the lines above have none, or the other way round.
-    #[error("times on some lines only")]
     SomeTimes,
     /// A line with times has learnt: there the times alone say what comes before.
-    #[error("a learn beside times")]
     TimedLearn,
     /// A line without times names no client.
-    #[error("no client and no times")]
     NoClient,
-    #[error("want of memory")]
+    /// Memory was refused, which says nothing of the line.
     Memory,
 }
+
+impl fmt::Display for LineError {
+    ghost use Rattle.std.specs.Prelude.{Some};
+    ghost use Rattle.fdb_lines.specs.Text.{line_error_text};
+
+    ghost output = { λ error. Some (line_error_text error) };
+
+    fn fmt<W: fmt::Write>(&self, f: &mut fmt::Formatter<W>) -> fmt::Result {
+        f.write_str(match self {
+            LineError::TooMany => "too many lines",
+            LineError::SomeTimes => "times on some lines only",
+            LineError::TimedLearn => "a learn beside times",
+            LineError::NoClient => "no client and no times",
+            LineError::Memory => "want of memory",
+        })
+    }
+}
+
+impl Error for LineError {}
 
 /// The lines of a log: all have times, or all have none.
 #[derive(Debug, Drop)]

@@ -17,6 +17,8 @@ use crate::log::{LineError, Log};
 use crate::opts::AuditOpts;
 use crate::reason::Finding;
 use std::alloc::{AllocError, Global};
+use std::error::Error;
+use std::fmt;
 use std::mem::replace;
 
 /// Why [`Watch::push`] refuses a line. The first that holds is given, and memory last.
@@ -27,6 +29,21 @@ pub enum WatchError {
     /// The log of the lines that are kept does not take it, or there have been 2^64 - 1 lines.
     Line(LineError),
 }
+
+impl fmt::Display for WatchError {
+    ghost use Rattle.fdb_lines.specs.Text.{watch_error_text};
+
+    ghost output = { λ error. Some (watch_error_text error) };
+
+    fn fmt<W: fmt::Write>(&self, f: &mut fmt::Formatter<W>) -> fmt::Result {
+        match self {
+            WatchError::NoTimes => f.write_str("no times"),
+            WatchError::Line(error) => write!(f, "{error}"),
+        }
+    }
+}
+
+impl Error for WatchError {}
 
 /// What an audit that watches tells when it settles.
 #[derive(Debug, Drop)]
@@ -238,6 +255,13 @@ impl Watch {
     }
 
     /// The lines that it keeps.
+    pub(crate) fn lines(&self) -> &[Line]
+        ensures { result.now ≡ self.now.log.lines.items }
+    {
+        self.log.lines()
+    }
+
+    /// The log of the lines that it keeps.
     pub(crate) fn into_log(self) -> Log
         ensures { result ≡ self.log }
     {

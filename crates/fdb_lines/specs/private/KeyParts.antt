@@ -1,12 +1,14 @@
 -- The parts of an audit that watches by key: one for each key, of which some are open.
-use Rattle.std.specs.Prelude.{◌≡◌, ◌≢◌, ◌==◌, ℕ, ◌+◌, ◌<◌, ◌≤◌, max, Bool, true, false, All, List, [], ◌∷◌, ◌++◌, Option, Some, length, map, set, slice_index, slice_index_or}
+use Rattle.std.specs.Prelude.{◌≡◌, ◌≢◌, ◌==◌, ℕ, zero, suc, ◌+◌, ◌<◌, ◌≤◌, max, Bool, true, false, All, List, [], ◌∷◌, ◌++◌, Option, Some, length, map, set, slice_index, slice_index_or}
 use Rattle.std.specs.List.{AllPairs, list_any}
+use Rattle.fdb_lines.specs.declared.key_part.KeptLine.{KeptLine}
 use Rattle.fdb_lines.specs.declared.key_part.KeyPart.{KeyPart}
 use Rattle.fdb_lines.specs.declared.key_part.SettledKey.{SettledKey}
 use Rattle.fdb_lines.specs.declared.line.Line.{Line}
 use Rattle.fdb_lines.specs.declared.reason.Finding.{Finding}
 use Rattle.fdb_lines.specs.Carried.{open_count}
 use Rattle.fdb_lines.specs.KeyParts.{HasStayed}
+use Rattle.fdb_lines.specs.Lines.{line_at}
 use Rattle.fdb_lines.specs.Watch.{judged_from, HasSeen, IsTold}
 use Rattle.fdb_lines.specs.private.Quiet.{IsQuiet}
 
@@ -27,6 +29,17 @@ pub record IsAlike (margin horizon from : ℕ) (part : KeyPart) : Type 0 where
   pub its_margin : part.watch.margin ≡ margin
   pub its_horizon : part.watch.horizon ≡ horizon
   pub its_from : part.watch.from ≤ from
+
+-- the lines that it keeps, with their numbers among all
+abbrev pub kept_at : KeyPart → ℕ → KeptLine
+kept_at part i = record { number = slice_index part.numbers.items i; key = part.key; line = line_at part.watch.log.lines.items i }
+
+abbrev pub kept_below : KeyPart → ℕ → List KeptLine
+kept_below part zero = []
+kept_below part (suc n) = kept_below part n ++ kept_at part n ∷ []
+
+abbrev pub kept_of : KeyPart → List KeptLine
+kept_of part = kept_below part (length part.numbers.items)
 
 -- it has seen one line more, which has this number among all
 pub record HasOneMore (line : Line) (number : ℕ) (old new : KeyPart) : Type 0 where
