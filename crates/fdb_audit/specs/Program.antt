@@ -22,12 +22,13 @@ use Rattle.fdb_audit.specs.declared.program.TheConstants.{MAX_LOG_BYTES}
 abbrev pub text_rule : Text → Rule
 text_rule name = record (new_rule name) { long = Some name; value_names = 1 }
 
--- LOGS, --complete START, --margin N, --key MEMBER, --show MEMBER,MEMBER, --all, --summary, --json, --history and --progress
+-- LOGS, --complete START, --margin N, --follow N, --key MEMBER, --show MEMBER,MEMBER, --all, --summary, --json, --history and --progress
 abbrev pub command : App
 command = command_of (codes "fdb_audit")
     (file_rule
     ∷ number_rule (codes "complete") (pos 0) (pos 9223372036854775807)
     ∷ number_rule (codes "margin") (pos 0) (pos 9223372036854775807)
+    ∷ number_rule (codes "follow") (pos 0) (pos 9223372036854775807)
     ∷ text_rule (codes "key") ∷ text_rule (codes "show") ∷ flag_rule (codes "all") ∷ flag_rule (codes "summary") ∷ flag_rule (codes "json") ∷ flag_rule (codes "history") ∷ flag_rule (codes "progress") ∷ [])
 
 -- the number that an argument gives, if it is given
@@ -57,6 +58,7 @@ members_named (Some text) = slice_split is_comma text
 pub record IsAsked (arguments : List Text) (asked : AuditArguments) : Type 0 where
   pub complete : asked.opts.complete ≡ number_named (codes "complete") arguments
   pub margin : asked.opts.margin ≡ unwrap_or (number_named (codes "margin") arguments) 0
+  pub follow : asked.follow ≡ number_named (codes "follow") arguments
   pub wanted : IsWanted arguments asked.wanted
   pub key : option_map string_bytes asked.key ≡ first_of (codes "key") (matches_of command arguments)
   pub shown : map string_bytes asked.shown.items ≡ members_named (first_of (codes "show") (matches_of command arguments))

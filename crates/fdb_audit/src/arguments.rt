@@ -29,6 +29,8 @@ const COMPLETE_HELP: &str = "The log has the calls of all clients, and all began
 
 const MARGIN_HELP: &str = "How far the clocks of two clients may be apart [default: 0]";
 
+const FOLLOW_HELP: &str = "Watch the log as it grows: lines may begin N behind the newest end";
+
 const KEY_HELP: &str = "The member that names a line's key: each key is judged by itself";
 
 const SHOW_HELP: &str = "Members, parted by commas, that are printed with each line that is told";
@@ -38,6 +40,9 @@ const SHOW_HELP: &str = "Members, parted by commas, that are printed with each l
 #[derive(Debug, Drop)]
 pub struct AuditArguments {
     pub opts: AuditOpts,
+    /// How far behind the newest end a line that comes may begin, where the log is to be followed as
+    /// it grows.
+    pub follow: Option<u64>,
     pub wanted: Wanted,
     /// The member that names a line's key, if each key is to be judged by itself.
     pub key: Option<String>,
@@ -133,7 +138,7 @@ fn members_in(alloc: Global, text: &str) -> Result<Vec<String>, AllocError>
     Ok(members)
 }
 
-/// The command that clap is given: one file, two numbers from 0 to 2^63 - 1, two texts, and
+/// The command that clap is given: one file, three numbers from 0 to 2^63 - 1, two texts, and
 /// five flags.
 pub(crate) fn command<'a>(alloc: Global) -> Result<Command<'a>, AllocError>
     ensures { IfOk result (λ made. app_of made ≡ command) }
@@ -151,6 +156,7 @@ pub(crate) fn command<'a>(alloc: Global) -> Result<Command<'a>, AllocError>
     ))?
     .arg(number_argument(alloc, "complete", 0, i64::MAX, "START", COMPLETE_HELP))?
     .arg(number_argument(alloc, "margin", 0, i64::MAX, "N", MARGIN_HELP))?
+    .arg(number_argument(alloc, "follow", 0, i64::MAX, "N", FOLLOW_HELP))?
     .arg(text_argument(alloc, "key", "MEMBER", KEY_HELP))?
     .arg(text_argument(alloc, "show", "MEMBERS", SHOW_HELP))?
     .arg(flag_argument(

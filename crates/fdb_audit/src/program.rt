@@ -8,10 +8,12 @@ ghost use Rattle.fdb_command.specs.Driving.{IsDriven, Stops};
 
 use crate::arguments::{AuditArguments, command, members, owned, text, wanted_of};
 use crate::fault::{LogFault, told};
+use crate::follower::{Followed, Follower};
 use crate::judging::{Judgement, judge_named_by};
 use crate::refused::LogsRefused;
+use crate::teller::Said;
 use clap::{ArgMatches, Command};
-use fdb_command::{Answer, Fault, Program, is_given, number};
+use fdb_command::{Answer, Fault, Program, Told, is_given, number};
 use fdb_lines::AuditOpts;
 use fdb_log_reader::{LogReader, ReadError, Why};
 use std::alloc::{AllocError, Global};
@@ -19,6 +21,7 @@ use std::fs::Files;
 use std::io;
 use std::io::{Read, Write};
 use std::thread::Threads;
+use std::time::Clock;
 
 /// The most bytes of a log: as many lines as it may have, each as long as it may be.
 pub const MAX_LOG_BYTES: u64 = 4_503_603_921_289_215;
@@ -34,7 +37,7 @@ impl Program for Audit {
 
     type Options = AuditArguments;
 
-    type Intake = LogReader;
+    type Intake = AuditIntake;
 
     type Refusal = LogsRefused;
 
@@ -62,6 +65,7 @@ impl Program for Audit {
                 complete: number(matches, "complete"),
                 margin: number(matches, "margin").unwrap_or(0),
             },
+            follow: number(matches, "follow"),
             wanted: wanted_of(matches),
             key: owned(alloc, text(matches, "key"))?,
             shown: members(alloc, text(matches, "show"))?,
@@ -69,24 +73,58 @@ impl Program for Audit {
         })
     }
 
-    fn begin(&self, alloc: Global, asked: &AuditArguments) -> Result<LogReader, AllocError> {
-        LogReader::with_columns(alloc, asked.key.as_deref(), &asked.shown)
+    fn begin(&self, alloc: Global, asked: &AuditArguments) -> Result<AuditIntake, AllocError> {
+        match asked.follow {
+            Some(behind) => {
+                let follower = Follower::new(alloc, asked, behind)?;
+                Ok(AuditIntake::Followed(follower))
+            }
+            None => {
+                let reader =
+                    LogReader::with_columns(alloc, asked.key.as_deref(), &asked.shown)?;
+                Ok(AuditIntake::Whole(reader))
+            }
+        }
     }
 
     fn take(
         &self,
-        reader: LogReader,
+        intake: AuditIntake,
         bytes: &[u8],
-    ) -> Result<LogReader, Fault<LogsRefused, LogFault>> {
-        match reader.feed(bytes) {
-            Ok(reader) => Ok(reader),
-            Err(error) => Err(refusal(error)),
+    ) -> Result<AuditIntake, Fault<LogsRefused, LogFault>> {
+        match intake {
+            AuditIntake::Whole(reader) => match reader.feed(bytes) {
+                Ok(reader) => Ok(AuditIntake::Whole(reader)),
+                Err(error) => Err(refusal(error)),
+            },
+            AuditIntake::Followed(mut follower) => match follower.feed(bytes) {
+                Ok(()) => Ok(AuditIntake::Followed(follower)),
+                Err(_) => Err(Fault::Memory),
+            },
         }
     }
 
-    fn progress(&self, asked: &AuditArguments, reader: &LogReader) -> Option<u64> {
+    fn tell<R: Files + Clock>(
+        &self,
+        _rt: &R,
+        alloc: Global,
+        _asked: &AuditArguments,
+        intake: AuditIntake,
+        is_idle: bool,
+    ) -> Result<Told<AuditIntake>, Fault<LogsRefused, LogFault>> {
+        match intake {
+            AuditIntake::Whole(reader) => Ok(Told {
+                intake: AuditIntake::Whole(reader),
+                text: Vec::new(alloc),
+                warnings: Vec::new(alloc),
+            }),
+            AuditIntake::Followed(follower) => tell_of(follower, is_idle),
+        }
+    }
+
+    fn progress(&self, asked: &AuditArguments, intake: &AuditIntake) -> Option<u64> {
         if asked.progress {
-            Some(reader.line_count() as u64)
+            Some(intake.line_count())
         } else {
             None
         }
@@ -95,10 +133,60 @@ impl Program for Audit {
     ghost simple = { refl };
 }
 
+/// What is kept of a log: its calls, or of one that is followed those that may yet come to matter.
+#[derive(Drop)]
+pub enum AuditIntake {
+    Whole(LogReader),
+    Followed(Follower),
+}
+
+impl AuditIntake {
+    /// How many lines have been read and were not refused.
+    fn line_count(&self) -> u64 {
+        match self {
+            AuditIntake::Whole(reader) => reader.line_count() as u64,
+            AuditIntake::Followed(follower) => follower.line_count(),
+        }
+    }
+}
+
+/// Tells what has become certain of a log that is followed.
+fn tell_of(
+    mut follower: Follower,
+    is_idle: bool,
+) -> Result<Told<AuditIntake>, Fault<LogsRefused, LogFault>> {
+    match follower.tell(is_idle) {
+        Ok(Said { text, warnings }) => Ok(Told {
+            intake: AuditIntake::Followed(follower),
+            text: text.into_bytes(),
+            warnings: warnings.into_bytes(),
+        }),
+        Err(_) => Err(Fault::Memory),
+    }
+}
+
+/// What is left to be said of a log that was followed.
+fn ended(
+    follower: Follower,
+) -> Result<Answer<LogsRefused, LogFault>, Fault<LogsRefused, LogFault>> {
+    match follower.finish() {
+        Ok(Followed {
+            said,
+            found,
+            refused,
+        }) => Ok(Answer {
+            text: said.text.into_bytes(),
+            found,
+            refused: refused.map(|error| LogsRefused { error }),
+        }),
+        Err(_) => Err(Fault::Memory),
+    }
+}
+
 /// Audits the log of the file that the arguments name or else of the input, and writes what is
 /// found to `out`; or writes the help there. Answers the status of the program, as
 /// [`fdb_command::drive`] says.
-pub fn drive<R: Files + Threads + Sync, I: Read, O: Write, E: Write>(
+pub fn drive<R: Files + Clock + Threads + Sync, I: Read, O: Write, E: Write>(
     rt: &R,
     alloc: Global,
     arguments: io::Result<Vec<String>>,
@@ -109,16 +197,16 @@ pub fn drive<R: Files + Threads + Sync, I: Read, O: Write, E: Write>(
     ensures { IsDriven audit I.remaining O.contents arguments
         input.old input.new out.old out.new err.old err.new result }
 {
-    let body = move |asked: AuditArguments, reader: LogReader| -> Result<
-        Answer<LogFault>,
+    let body = move |asked: AuditArguments, intake: AuditIntake| -> Result<
+        Answer<LogsRefused, LogFault>,
         Fault<LogsRefused, LogFault>,
     >
         requires { IsSync R.row }
-        ensures { (arguments : List Text) (bytes : List ℕ) → IsAsked arguments asked
-            → HasRead asked reader bytes → MatchResult result
-            (λ answer. Prints asked bytes answer.text.items answer.found)
-            (Stops audit arguments bytes) }
     {
+        let reader = match intake {
+            AuditIntake::Whole(reader) => reader,
+            AuditIntake::Followed(follower) => return ended(follower),
+        };
         let named = match reader.finish() {
             Ok(named) => named,
             Err(error) => return Err(refusal(error)),
@@ -127,6 +215,7 @@ pub fn drive<R: Files + Threads + Sync, I: Read, O: Write, E: Write>(
             Ok(Judgement { fault, text }) => Ok(Answer {
                 text: text.into_bytes(),
                 found: told(fault),
+                refused: None,
             }),
             Err(_) => Err(Fault::Memory),
         }

@@ -1,0 +1,78 @@
+//! How much of a log has been followed.
+
+use fdb_lines::{Call, Line};
+use std::alloc::AllocError;
+use std::fmt::Write;
+
+/// How many lines were read, and how they came.
+#[derive(Clone, Copy, Debug, PartialEq, Eq)]
+pub(crate) struct Counts {
+    /// Lines that were taken.
+    pub lines: u64,
+    pub reads: u64,
+    pub commits: u64,
+    pub asks: u64,
+    pub reports: u64,
+    /// Lines that were refused.
+    pub refused: u64,
+    /// Lines that began before what had been settled.
+    pub early: u64,
+}
+
+impl Counts {
+    /// Of no line.
+    pub(crate) fn new() -> Self {
+        Counts {
+            lines: 0,
+            reads: 0,
+            commits: 0,
+            asks: 0,
+            reports: 0,
+            refused: 0,
+            early: 0,
+        }
+    }
+
+    /// Counts a line that was taken, where all was settled up to a moment.
+    pub(crate) fn add(&mut self, line: &Line, settled_to: u64) {
+        add_one(&mut self.lines);
+        if line.began() < settled_to {
+            add_one(&mut self.early);
+        }
+        match line.call {
+            Call::Read(_) => add_one(&mut self.reads),
+            Call::Commit(_) => add_one(&mut self.commits),
+            Call::Ask(_) => add_one(&mut self.asks),
+            Call::Report(_) => add_one(&mut self.reports),
+            Call::Learn(_) => {}
+        }
+    }
+
+    /// Writes them in words.
+    pub(crate) fn push_words(&self, out: &mut String) -> Result<(), AllocError> {
+        let (lines, reads, commits) = (self.lines, self.reads, self.commits);
+        let (asks, reports) = (self.asks, self.reports);
+        let (refused, early) = (self.refused, self.early);
+        write!(out, " lines {lines} reads {reads} commits {commits}")?;
+        write!(out, " asks {asks} reports {reports}")?;
+        write!(out, " refused {refused} early {early}")
+    }
+
+    /// Writes them as a JSON object.
+    pub(crate) fn push_object(&self, out: &mut String) -> Result<(), AllocError> {
+        let (lines, reads, commits) = (self.lines, self.reads, self.commits);
+        let (asks, reports) = (self.asks, self.reports);
+        let (refused, early) = (self.refused, self.early);
+        write!(
+            out,
+            "{{\"lines\":{lines},\"reads\":{reads},\"commits\":{commits}"
+        )?;
+        write!(out, ",\"asks\":{asks},\"reports\":{reports}")?;
+        write!(out, ",\"refused\":{refused},\"early\":{early}}}")
+    }
+}
+
+/// Adds one to a count that may be full.
+fn add_one(count: &mut u64) {
+    *count = count.saturating_add(1);
+}
