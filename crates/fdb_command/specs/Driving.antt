@@ -1,6 +1,6 @@
 -- What a program does with its input, and what it has done when it ends. (this product's own)
-use Rattle.std.specs.Prelude.{◌≡◌, ◌≢◌, ◌⊎◌, ◌+◌, ◌≤◌, ⊤, Bool, true, ℕ, List, [], Option, None, Some}
-use Rattle.std.specs.Prelude.{Result, String, Vec, IfErr, IfOk, IsOkAnd, MatchResult, OnErr, length, map, string_bytes}
+use Rattle.std.specs.Prelude.{◌≡◌, ◌≢◌, ◌⊎◌, ◌+◌, ◌++◌, ◌≤◌, ◌<◌, ⊤, Bool, true, ℕ, List, [], Option, None, Some}
+use Rattle.std.specs.Prelude.{Result, String, Vec, IfErr, IfOk, IfSome, IsOkAnd, MatchResult, OnErr, length, map, string_bytes}
 use Rattle.std.specs.IoError.{error_kind}
 use Rattle.std.specs.declared.io.Error.{Error}
 use Rattle.std.specs.declared.io.ErrorKind.TheVariants.{OutOfMemory}
@@ -8,27 +8,30 @@ use Rattle.std.specs.declared.alloc.Global.{Global}
 use Rattle.std.specs.Io.KnownBytes.{Appends}
 use Rattle.clap.specs.Words.{App, Text, fault_of}
 use Rattle.fdb_command.specs.Arguments.{AreTaken, AreWrong, AsksHelp, ReadsInput, file_named}
-use Rattle.fdb_command.specs.Input.{MayBeRead, TakesAtMost}
-use Rattle.fdb_command.specs.Output.{TakesSome}
+use Rattle.fdb_command.specs.Input.{MayBeRead, MayBegin, TakesAtMost}
+use Rattle.fdb_command.specs.Output.{TakesAny, TakesSome}
 use Rattle.fdb_command.specs.declared.fault.Fault.{Fault}
 use Rattle.fdb_command.specs.declared.program.Answer.{Answer}
 use Rattle.fdb_command.specs.declared.fault.Fault.TheVariants.{Refused, Arguments, Memory, Found, Reading, Writing}
 
 -- A program's own: its command, the most bytes that its input may have, what its flags may stand
--- for, where progress is told, which bytes an intake has taken by what the flags stand for, which
--- texts it may print at some arguments of some bytes, with a fault that it finds or none, which
--- bytes it refuses there and why, and which faults it finds in bytes of which it prints nothing.
+-- for, where progress is told, and where it is said what is left out; which bytes an intake has
+-- taken by what the flags stand for, and which text has been told of them; which texts, told parts
+-- and rest together, it may print at some arguments of some bytes, with a fault that it finds or
+-- none and a part that it refuses or none; which bytes it refuses there, whole or in part, and why;
+-- and which faults it finds in bytes of which it prints nothing more.
 pub record Promise (O I E F : Type 0) : Type 1 where
   pub app : App
   pub most : ℕ
   pub asks : List Text → O → Type 0
   pub tells : List Text → Bool
-  pub taken : O → I → List ℕ → Type 0
-  pub prints : List Text → List ℕ → List ℕ → Option F → Type 0
+  pub warns : List Text → Bool
+  pub taken : O → I → (bytes : List ℕ) → (told : List ℕ) → Type 0
+  pub prints : List Text → List ℕ → List ℕ → Option F → Option E → Type 0
   pub refuses : List Text → List ℕ → E → Type 0
   pub finds : List Text → List ℕ → F → Type 0
 
--- why a program prints nothing of these bytes, at these arguments
+-- why a program prints nothing more of these bytes, at these arguments
 abbrev pub Stops : {O I E F : Type 0} → Promise O I E F → List Text → List ℕ → Fault E F → Type 0
 Stops program arguments bytes (Refused error) = program.refuses arguments bytes error
 Stops program arguments bytes Arguments = ⊥
@@ -37,65 +40,117 @@ Stops program arguments bytes (Found found) = program.finds arguments bytes foun
 Stops program arguments bytes Reading = ⊥
 Stops program arguments bytes Writing = ⊥
 
+-- what a program may answer of these bytes, of which this text has been told
+abbrev pub MayAnswer : {O I E F : Type 0} → Promise O I E F → List Text → List ℕ → List ℕ
+    → Answer E F → Type 0
+MayAnswer program arguments bytes told answer =
+    program.prints arguments bytes (told ++ answer.text.items) answer.found answer.refused
+    × IfSome answer.refused (program.refuses arguments bytes)
+
 -- The body of a program may be called on what its flags stand for and on an intake that has taken
--- some bytes by these, by what it says of the calls that may be made of it.
+-- some bytes by these, of which some text has been told, by what it says of the calls that may be
+-- made of it.
 abbrev pub IsCallable : {O I E F : Type 0} → Promise O I E F → (O → I → Type 0) → Type 0
 IsCallable {O} {I} program may_call =
-    (arguments : List Text) (options : O) (intake : I) (bytes : List ℕ)
-    → program.asks arguments options → program.taken options intake bytes
+    (arguments : List Text) (options : O) (intake : I) (bytes told : List ℕ)
+    → program.asks arguments options → program.taken options intake bytes told
     → may_call options intake
 
--- It prints of these what the program promises, or stops as the program does, by what it says that
--- such a call may answer.
+-- It prints of these what the program promises, behind what has been told, or stops as the program
+-- does, by what it says that such a call may answer.
 abbrev pub KeepsPromise : {O I E F : Type 0} → Promise O I E F
-    → (O → I → Result (Answer F) (Fault E F) → Type 0) → Type 0
+    → (O → I → Result (Answer E F) (Fault E F) → Type 0) → Type 0
 KeepsPromise {O} {I} {E} {F} program may_answer =
-    (arguments : List Text) (options : O) (intake : I) (bytes : List ℕ)
-    (made : Result (Answer F) (Fault E F))
-    → program.asks arguments options → program.taken options intake bytes
-    → may_answer options intake made → MatchResult made
-    (λ answer. program.prints arguments bytes answer.text.items answer.found)
-    (Stops program arguments bytes)
+    (arguments : List Text) (options : O) (intake : I) (bytes told : List ℕ)
+    (made : Result (Answer E F) (Fault E F))
+    → program.asks arguments options → program.taken options intake bytes told
+    → may_answer options intake made
+    → MatchResult made (MayAnswer program arguments bytes told) (Stops program arguments bytes)
 
 -- an input is asked for, and this text may be printed of what may have been read
 pub record IsPrinted {O I E F : Type 0} (program : Promise O I E F) (arguments : List Text)
-    (remaining : Option (List ℕ)) (found : Option F) (text : List ℕ) : Type 0 where
+    (remaining : Option (List ℕ)) (found : Option F) (refused : Option E) (text : List ℕ)
+    : Type 0 where
   pub taken : fault_of program.app arguments ≡ []
   pub bytes : List ℕ
   pub few : length bytes ≤ program.most
   pub read : MayBeRead (file_named program.app arguments) remaining bytes
-  pub printed : program.prints arguments bytes text found
+  pub printed : program.prints arguments bytes text found refused
+  pub refuses : IfSome refused (program.refuses arguments bytes)
 
 -- a text that may be printed of what may have been read was written, whole
 pub record IsWritten {O I E F : Type 0} (program : Promise O I E F) (arguments : List Text)
-    (remaining : Option (List ℕ)) (found : Option F) (before after : Option (List ℕ)) : Type 0 where
+    (remaining : Option (List ℕ)) (found : Option F) (refused : Option E)
+    (before after : Option (List ℕ)) : Type 0 where
   pub text : List ℕ
-  pub printed : IsPrinted program arguments remaining found text
+  pub printed : IsPrinted program arguments remaining found refused text
   pub appended : Appends before after text
 
 -- such a text was written in part, from its start on, and not whole
 pub record IsCutShort {O I E F : Type 0} (program : Promise O I E F) (arguments : List Text)
-    (remaining : Option (List ℕ)) (found : Option F) (before after : Option (List ℕ)) : Type 0 where
+    (remaining : Option (List ℕ)) (found : Option F) (refused : Option E)
+    (before after : Option (List ℕ)) : Type 0 where
   pub text : List ℕ
-  pub printed : IsPrinted program arguments remaining found text
+  pub printed : IsPrinted program arguments remaining found refused text
   pub cut : TakesSome text before after
 
--- what the arguments ask for is done, and no fault was found
+-- The first of what may have been read of a file or of the input were taken, by what the flags stand
+-- for, and a text was told of them, which is not empty. It was written, whole or in part.
+pub record TellsOf {O I E F : Type 0} (program : Promise O I E F) (options : O)
+    (file : Option Text) (remaining : Option (List ℕ)) (before after : Option (List ℕ))
+    : Type 0 where
+  pub bytes : List ℕ
+  pub few : length bytes ≤ program.most
+  pub read : MayBegin file remaining bytes
+  pub text : List ℕ
+  pub some : 0 < length text
+  pub intake : I
+  pub taken : program.taken options intake bytes text
+  pub written : TakesAny text before after
+
+-- an input is asked for, and a text that was told of the first of it was written so
+pub record HasTold {O I E F : Type 0} (program : Promise O I E F) (arguments : List Text)
+    (remaining : Option (List ℕ)) (before after : Option (List ℕ)) : Type 0 where
+  pub taken : fault_of program.app arguments ≡ []
+  pub options : O
+  pub asks : program.asks arguments options
+  pub told : TellsOf program options (file_named program.app arguments) remaining before after
+
+-- nothing was written, or what was told
+abbrev pub HasAtMostTold : {O I E F W : Type 0} → Promise O I E F → List Text → Option (List ℕ)
+    → (W → Option (List ℕ)) → W → W → Type 0
+HasAtMostTold program arguments remaining contents before after =
+    (after ≡ before) ⊎ HasTold program arguments remaining (contents before) (contents after)
+
+-- what the arguments ask for is done, no fault was found, and nothing was refused
 abbrev pub IsDone : {O I E F : Type 0} → Promise O I E F → List Text → Option (List ℕ) → Option (List ℕ)
     → Option (List ℕ) → Type 0
 IsDone program arguments remaining before after =
-    AsksHelp program.app arguments ⊎ IsWritten program arguments remaining None before after
+    AsksHelp program.app arguments ⊎ IsWritten program arguments remaining None None before after
+
+-- a text was written, whole, and tells of a fault
+abbrev pub IsFaulty : {O I E F : Type 0} → Promise O I E F → List Text → Option (List ℕ) → Option (List ℕ)
+    → Option (List ℕ) → Type 0
+IsFaulty {O} {I} {E} {F} program arguments remaining before after =
+    (found : F) × (refused : Option E)
+    × IsWritten program arguments remaining (Some found) refused before after
+
+-- a text was written, whole, and tells of no fault, and a part of the input is refused besides
+abbrev pub IsPartial : {O I E F : Type 0} → Promise O I E F → List Text → Option (List ℕ) → Option (List ℕ)
+    → Option (List ℕ) → Type 0
+IsPartial {O} {I} {E} {F} program arguments remaining before after =
+    (error : E) × IsWritten program arguments remaining None (Some error) before after
 
 -- help was asked for, or a text was written, whole or in part: what a writer that fails may leave,
 -- a flush that fails included
 abbrev pub IsBegun : {O I E F : Type 0} → Promise O I E F → List Text → Option (List ℕ) → Option (List ℕ)
     → Option (List ℕ) → Type 0
 IsBegun {O} {I} {E} {F} program arguments remaining before after =
-    AsksHelp program.app arguments
-    ⊎ ((found : Option F) × (IsWritten program arguments remaining found before after
-    ⊎ IsCutShort program arguments remaining found before after))
+    AsksHelp program.app arguments ⊎ ((found : Option F) × (refused : Option E)
+    × (IsWritten program arguments remaining found refused before after
+    ⊎ IsCutShort program arguments remaining found refused before after))
 
--- An input is asked for, and what may have been read is refused. Where no file is named and the
+-- An input is asked for, and what may have been read is refused, whole or in part. Where no file is named and the
 -- input's bytes are known, these are refused; of the bytes of a file this says nothing.
 abbrev pub MayRefuse : {O I E F : Type 0} → Promise O I E F → List Text → Option (List ℕ) → Type 0
 MayRefuse {O} {I} {E} {F} program arguments remaining =
@@ -115,6 +170,11 @@ abbrev pub TellsProgress : {O I E F : Type 0} → Promise O I E F → List Text 
 TellsProgress program arguments =
     (fault_of program.app arguments ≡ []) × (program.tells arguments ≡ true)
 
+-- an input is asked for, and that it is said what is left out
+abbrev pub Warns : {O I E F : Type 0} → Promise O I E F → List Text → Type 0
+Warns program arguments =
+    (fault_of program.app arguments ≡ []) × (program.warns arguments ≡ true)
+
 -- What a program has done that has ended with this status. It was given these arguments, or why
 -- they could not be had; `remaining` says what a reader has left, and `contents` what a writer
 -- holds, where that is known.
@@ -131,10 +191,11 @@ pub record IsDriven {O I E F R W L : Type 0} (program : Promise O I E F)
   pub refused : status ≡ 1 → IsOkAnd arguments (λ list.
       MayRefuse program (map string_bytes list.items) (remaining input_before))
   pub faulty : status ≡ 4 → IsOkAnd arguments (λ list.
-      ((out_after ≡ out_before)
+      (HasAtMostTold program (map string_bytes list.items) (remaining input_before)
+      contents out_before out_after
       × MayFind program (map string_bytes list.items) (remaining input_before))
-      ⊎ ((found : F) × IsWritten program (map string_bytes list.items) (remaining input_before)
-      (Some found) (contents out_before) (contents out_after)))
+      ⊎ IsFaulty program (map string_bytes list.items) (remaining input_before)
+      (contents out_before) (contents out_after))
   pub wrong : status ≡ 2 → MatchResult arguments
       (λ list. AreWrong program.app (map string_bytes list.items))
       (λ error. error_kind error ≢ OutOfMemory)
@@ -143,9 +204,31 @@ pub record IsDriven {O I E F R W L : Type 0} (program : Promise O I E F)
   pub left : IfOk arguments (λ list. (ReadsInput program.app (map string_bytes list.items) → ⊥)
       → input_after ≡ input_before)
   pub quiet : status ≡ 0 → IfOk arguments (λ list.
-      (TellsProgress program (map string_bytes list.items) → ⊥) → err_after ≡ err_before)
-  pub unwritten : (status ≡ 1) ⊎ ((status ≡ 2) ⊎ (status ≡ 3)) → out_after ≡ out_before
+      (TellsProgress program (map string_bytes list.items) → ⊥)
+      → (Warns program (map string_bytes list.items) → ⊥) → err_after ≡ err_before)
+  pub unwritten : status ≡ 2 → out_after ≡ out_before
+  pub besides : status ≡ 1 → IsOkAnd arguments (λ list.
+      HasAtMostTold program (map string_bytes list.items) (remaining input_before)
+      contents out_before out_after
+      ⊎ IsPartial program (map string_bytes list.items) (remaining input_before)
+      (contents out_before) (contents out_after))
+  pub short : status ≡ 3 → (out_after ≡ out_before) ⊎ IsOkAnd arguments (λ list.
+      HasTold program (map string_bytes list.items) (remaining input_before)
+      (contents out_before) (contents out_after))
   pub begun : status ≡ 5 → (out_after ≡ out_before) ⊎ IsOkAnd arguments (λ list.
-      IsBegun program (map string_bytes list.items) (remaining input_before)
+      HasTold program (map string_bytes list.items) (remaining input_before)
+      (contents out_before) (contents out_after)
+      ⊎ IsBegun program (map string_bytes list.items) (remaining input_before)
       (contents out_before) (contents out_after))
   pub few : TakesAtMost (program.most + 1) (remaining input_before) (remaining input_after)
+
+-- a program that tells nothing while it reads
+abbrev pub TellsNothing : {O I E F : Type 0} → Promise O I E F → Type 0
+TellsNothing {O} {I} program = (options : O) (intake : I) (bytes told : List ℕ)
+    → program.taken options intake bytes told → told ≡ []
+
+-- a program that refuses all of its input or nothing
+abbrev pub RefusesWhole : {O I E F : Type 0} → Promise O I E F → Type 0
+RefusesWhole {O} {I} {E} {F} program =
+    (arguments : List Text) (bytes text : List ℕ) (found : Option F) (error : E)
+    → program.prints arguments bytes text found (Some error) → ⊥

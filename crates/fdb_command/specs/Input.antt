@@ -1,6 +1,6 @@
 -- What may have been read of a file or of the input, and why it was not.
 -- (this product's own)
-use Rattle.std.specs.Prelude.{◌≡◌, ◌≢◌, ◌≤◌, ⊤, ℕ, List, Option, Some, None, IfSome, length}
+use Rattle.std.specs.Prelude.{◌≡◌, ◌≢◌, ◌≤◌, ◌++◌, ⊤, ℕ, List, Option, Some, None, IfSome, length}
 use Rattle.std.specs.Io.KnownBytes.{Consumes}
 use Rattle.std.specs.IoError.{error_kind}
 use Rattle.std.specs.declared.io.Error.{Error}
@@ -14,6 +14,12 @@ use Rattle.fdb_command.specs.declared.input.InputFault.TheVariants.{Reading, Mem
 abbrev pub MayBeRead : Option Text → Option (List ℕ) → List ℕ → Type 0
 MayBeRead (Some path) remaining bytes = ⊤
 MayBeRead None remaining bytes = IfSome remaining (λ all. all ≡ bytes)
+
+-- these may be the first of the bytes that were read
+abbrev pub MayBegin : Option Text → Option (List ℕ) → List ℕ → Type 0
+MayBegin (Some path) remaining bytes = ⊤
+MayBegin None remaining bytes =
+    IfSome remaining (λ all. (rest : List ℕ) × (all ≡ bytes ++ rest))
 
 -- at most so many of the input's bytes are gone, where they are known
 abbrev pub TakesAtMost : ℕ → Option (List ℕ) → Option (List ℕ) → Type 0

@@ -4,7 +4,7 @@ ghost use Rattle.std.specs.Prelude.{◌≡◌, ◌≢◌, ◌<◌, ◌^◌, ℕ,
 ghost use Rattle.std.specs.Prelude.{IfErr, map, option_map, pos, string_bytes, true};
 ghost use Rattle.clap.specs.Faults.{is_simple_and_free};
 ghost use Rattle.clap.specs.Words.{Text, app_of, kind_of, matches_of, one_of, rule_of, App};
-ghost use Rattle.fdb_command.specs.Arguments.{AreMatches, AreWrong, AsksHelp, HasArgument};
+ghost use Rattle.fdb_command.specs.Arguments.{AreMatches, AreWrong, HasArgument};
 ghost use Rattle.fdb_command.specs.Arguments.{IsNumber, command_of, file_named, file_rule};
 ghost use Rattle.fdb_command.specs.Arguments.{flag_rule, is_set, number_rule};
 ghost use Rattle.fdb_command.specs.private.Asked.{Ask};

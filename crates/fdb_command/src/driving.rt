@@ -1,22 +1,21 @@
 //! A program, over a reader and two writers.
 
-ghost use Rattle.std.specs.Prelude.{◌≡◌, ◌≢◌, ◌⊎◌, ◌+◌, List, IfOk, IfErr, OnOk, OnErr, false};
+ghost use Rattle.std.specs.Prelude.{◌≡◌, ◌≢◌, ◌⊎◌, ◌+◌, ◌++◌, ℕ, List, IfOk, IfErr, OnOk, OnErr};
 ghost use Rattle.std.specs.Prelude.{IsOkAnd, MatchResult, None, Some, map, string_bytes};
 ghost use Rattle.std.specs.IoError.{error_kind};
-ghost use Rattle.clap.specs.Words.{Text, app_of};
+ghost use Rattle.clap.specs.Words.{Text};
 ghost use Rattle.fdb_command.specs.Arguments.{AreMatches, AreTaken, AreWrong, ReadsInput};
 ghost use Rattle.fdb_command.specs.Input.{TakesAtMost};
 ghost use Rattle.fdb_command.specs.private.Asked.{Ask};
-ghost use Rattle.fdb_command.specs.Driving.{IsBegun, IsCallable, IsDone, IsDriven, IsPrinted};
-ghost use Rattle.fdb_command.specs.Driving.{IsWritten, KeepsPromise, MayFind, MayRefuse};
-ghost use Rattle.fdb_command.specs.Driving.{TellsProgress};
-ghost use Rattle.fdb_command.specs.Output.{TakesSome};
-ghost use Rattle.std.specs.Io.KnownBytes.{Appends};
+ghost use Rattle.fdb_command.specs.Driving.{HasAtMostTold, HasTold, IsBegun, IsCallable, IsDone};
+ghost use Rattle.fdb_command.specs.Driving.{IsDriven, IsFaulty, IsPartial, IsPrinted, IsWritten};
+ghost use Rattle.fdb_command.specs.Driving.{KeepsPromise, MayFind, MayRefuse, TellsProgress, Warns};
+ghost use Rattle.fdb_command.specs.private.Taking.{IsPut};
 
 use crate::arguments::{ArgumentsFault, Invocation, file_of, parse};
+use crate::ending::put;
 use crate::fault::Fault;
 use crate::intake::Taker;
-use crate::output::write_whole;
 use crate::program::{Answer, Program};
 use clap::{ArgMatches, Error};
 use std::alloc::Global;
@@ -24,23 +23,26 @@ use std::fmt::{Debug, Display};
 use std::fs::Files;
 use std::io;
 use std::io::{ErrorKind, Read, Write};
+use std::time::Clock;
 
 /// What the body of a program makes: an answer, or the fault at which it stops.
 type Made<P> = Result<
-    Answer<<P as Program>::Finding>,
+    Answer<<P as Program>::Refusal, <P as Program>::Finding>,
     Fault<<P as Program>::Refusal, <P as Program>::Finding>,
 >;
 
 /// Does what the arguments of the command line ask for, which are given without the program's own
 /// name, or with why they could not be had. Has the program take the bytes of the file that the
-/// arguments name or else of the input, has `body` make a text of what the program's flags say and
-/// of what it took, and writes that to `out`; or writes the help there.
+/// arguments name or else of the input, writes what it tells of each piece to `out` and flushes that
+/// before it reads more, has `body` make the rest of the text of what the program's flags say and of
+/// what it took, and writes that to `out`; or writes the help there.
 ///
 /// Answers the status of the program: 0 where all of it is done and no fault was found, 1 where the
-/// input is refused, 2 where the arguments are, 3 where memory ran out, 4 where a fault was found,
-/// and 5 where reading or writing failed, a file that cannot be opened and an input of more bytes
-/// than it may have included. They are looked for in the order arguments, reading, what stops the
-/// program before it has a text, writing, and the fault that the text tells of. Whatever is not 0
+/// input is refused, or a part of it was and the text is written, 2 where the arguments are, 3 where
+/// memory ran out, 4 where a fault was found, and 5 where reading or writing failed, a file that
+/// cannot be opened and an input of more bytes than it may have included. They are looked for in the
+/// order arguments, reading and what is told, what stops the program before it has its whole text,
+/// writing, the fault that the text tells of, and the part that is refused. Whatever is not 0
 /// is reported by a line to `err`; where that line cannot be written, the status is the same. What
 /// the program refuses whatever comes after it leaves the rest of the input unread. At most one byte
 /// more is taken from the input than it may have, and nothing is written after a write that failed.
@@ -58,7 +60,7 @@ pub fn drive<R, P, I, O, E, B>(
     body: B,
 ) -> u8
 where
-    R: Files,
+    R: Files + Clock,
     P: Program,
     I: Read,
     O: Write,
@@ -96,7 +98,7 @@ struct Run<'a, P, R, B> {
 impl<P, R, B> Run<'_, P, R, B>
 where
     P: Program,
-    R: Files,
+    R: Files + Clock,
     B: FnOnce(P::Options, P::Intake) -> Made<P> + Drop,
 {
     /// Does what the arguments ask for, and flushes what was written.
@@ -120,10 +122,12 @@ where
             → fault ≡ Fault.Refused error → IsOkAnd arguments (λ list.
             MayRefuse P.promise (map string_bytes list.items) (I.remaining input.old))) }
         ensures faulty { IfErr result (λ fault. (found : P.Finding) → fault ≡ Fault.Found found
-            → IsOkAnd arguments (λ list. ((out.new ≡ out.old)
+            → IsOkAnd arguments (λ list.
+            (HasAtMostTold P.promise (map string_bytes list.items)
+            (I.remaining input.old) O.contents out.old out.new
             × MayFind P.promise (map string_bytes list.items) (I.remaining input.old))
-            ⊎ ((found : P.Finding) × IsWritten P.promise (map string_bytes list.items)
-            (I.remaining input.old) (Some found) (O.contents out.old) (O.contents out.new)))) }
+            ⊎ IsFaulty P.promise (map string_bytes list.items)
+            (I.remaining input.old) (O.contents out.old) (O.contents out.new))) }
         ensures wrong { IfErr result (λ fault. fault ≡ Fault.Arguments
             → MatchResult arguments (λ list. AreWrong P.promise.app (map string_bytes list.items))
             (λ error. error_kind error ≢ ErrorKind.OutOfMemory)) }
@@ -133,13 +137,25 @@ where
         ensures left { IfOk arguments (λ list.
             (ReadsInput P.promise.app (map string_bytes list.items) → ⊥) → input.new ≡ input.old) }
         ensures quiet { IfOk arguments (λ list.
-            (TellsProgress P.promise (map string_bytes list.items) → ⊥) → err.new ≡ err.old) }
-        ensures unwritten { IfErr result (λ fault.
-            ((error : P.Refusal) × (fault ≡ Fault.Refused error))
-            ⊎ ((fault ≡ Fault.Arguments) ⊎ (fault ≡ Fault.Memory)) → out.new ≡ out.old) }
+            (TellsProgress P.promise (map string_bytes list.items) → ⊥)
+            → (Warns P.promise (map string_bytes list.items) → ⊥) → err.new ≡ err.old) }
+        ensures unwritten { IfErr result (λ fault. fault ≡ Fault.Arguments
+            → out.new ≡ out.old) }
+        ensures besides { IfErr result (λ fault. (error : P.Refusal)
+            → fault ≡ Fault.Refused error → IsOkAnd arguments (λ list.
+            HasAtMostTold P.promise (map string_bytes list.items)
+            (I.remaining input.old) O.contents out.old out.new
+            ⊎ IsPartial P.promise (map string_bytes list.items)
+            (I.remaining input.old) (O.contents out.old) (O.contents out.new))) }
+        ensures short { IfErr result (λ fault. fault ≡ Fault.Memory
+            → (out.new ≡ out.old) ⊎ IsOkAnd arguments (λ list.
+            HasTold P.promise (map string_bytes list.items)
+            (I.remaining input.old) (O.contents out.old) (O.contents out.new))) }
         ensures begun { IfErr result (λ fault. (fault ≡ Fault.Reading) ⊎ (fault ≡ Fault.Writing)
             → (out.new ≡ out.old) ⊎ IsOkAnd arguments (λ list.
-            IsBegun P.promise (map string_bytes list.items)
+            HasTold P.promise (map string_bytes list.items)
+            (I.remaining input.old) (O.contents out.old) (O.contents out.new)
+            ⊎ IsBegun P.promise (map string_bytes list.items)
             (I.remaining input.old) (O.contents out.old) (O.contents out.new))) }
         ensures few { TakesAtMost (P.promise.most + 1)
             (I.remaining input.old) (I.remaining input.new) }
@@ -169,22 +185,33 @@ where
         ensures refused { IfErr result (λ fault. (error : P.Refusal) → fault ≡ Fault.Refused error
             → MayRefuse P.promise (map string_bytes arguments.now) (I.remaining input.old)) }
         ensures faulty { IfErr result (λ fault. (found : P.Finding) → fault ≡ Fault.Found found
-            → ((out.new ≡ out.old)
+            → (HasAtMostTold P.promise (map string_bytes arguments.now)
+            (I.remaining input.old) O.contents out.old out.new
             × MayFind P.promise (map string_bytes arguments.now) (I.remaining input.old))
-            ⊎ ((found : P.Finding) × IsWritten P.promise (map string_bytes arguments.now)
-            (I.remaining input.old) (Some found) (O.contents out.old) (O.contents out.new))) }
+            ⊎ IsFaulty P.promise (map string_bytes arguments.now)
+            (I.remaining input.old) (O.contents out.old) (O.contents out.new)) }
         ensures wrong { IfErr result (λ fault. fault ≡ Fault.Arguments
             → AreWrong P.promise.app (map string_bytes arguments.now)) }
         ensures left { (ReadsInput P.promise.app (map string_bytes arguments.now) → ⊥)
             → input.new ≡ input.old }
         ensures quiet { (TellsProgress P.promise (map string_bytes arguments.now) → ⊥)
-            → err.new ≡ err.old }
-        ensures unwritten { IfErr result (λ fault.
-            ((error : P.Refusal) × (fault ≡ Fault.Refused error))
-            ⊎ ((fault ≡ Fault.Arguments) ⊎ (fault ≡ Fault.Memory)) → out.new ≡ out.old) }
-        ensures begun { IfErr result (λ fault. (fault ≡ Fault.Reading) ⊎ (fault ≡ Fault.Writing)
-            → (out.new ≡ out.old) ⊎ IsBegun P.promise (map string_bytes arguments.now)
+            → (Warns P.promise (map string_bytes arguments.now) → ⊥) → err.new ≡ err.old }
+        ensures unwritten { IfErr result (λ fault. fault ≡ Fault.Arguments
+            → out.new ≡ out.old) }
+        ensures besides { IfErr result (λ fault. (error : P.Refusal)
+            → fault ≡ Fault.Refused error
+            → HasAtMostTold P.promise (map string_bytes arguments.now)
+            (I.remaining input.old) O.contents out.old out.new
+            ⊎ IsPartial P.promise (map string_bytes arguments.now)
             (I.remaining input.old) (O.contents out.old) (O.contents out.new)) }
+        ensures short { IfErr result (λ fault. fault ≡ Fault.Memory
+            → HasAtMostTold P.promise (map string_bytes arguments.now)
+            (I.remaining input.old) O.contents out.old out.new) }
+        ensures begun { IfErr result (λ fault. (fault ≡ Fault.Reading) ⊎ (fault ≡ Fault.Writing)
+            → (out.new ≡ out.old) ⊎ (HasTold P.promise (map string_bytes arguments.now)
+            (I.remaining input.old) (O.contents out.old) (O.contents out.new)
+            ⊎ IsBegun P.promise (map string_bytes arguments.now)
+            (I.remaining input.old) (O.contents out.old) (O.contents out.new))) }
         ensures few { TakesAtMost (P.promise.most + 1)
             (I.remaining input.old) (I.remaining input.new) }
     {
@@ -207,41 +234,54 @@ where
         requires matches { (arguments : List Text)
             × AreMatches P.promise.app arguments matches.now }
         ensures done { (arguments : List Text) → AreMatches P.promise.app arguments matches.now
-            → OnOk result (IsWritten P.promise arguments (I.remaining input.old) None
+            → OnOk result (IsWritten P.promise arguments (I.remaining input.old) None None
             (O.contents out.old) (O.contents out.new)) }
         ensures refused { (arguments : List Text) → AreMatches P.promise.app arguments matches.now
             → IfErr result (λ fault. (error : P.Refusal) → fault ≡ Fault.Refused error
             → MayRefuse P.promise arguments (I.remaining input.old)) }
         ensures faulty { (arguments : List Text) → AreMatches P.promise.app arguments matches.now
             → IfErr result (λ fault. (found : P.Finding) → fault ≡ Fault.Found found
-            → ((out.new ≡ out.old) × MayFind P.promise arguments (I.remaining input.old))
-            ⊎ ((found : P.Finding) × IsWritten P.promise arguments
-            (I.remaining input.old) (Some found) (O.contents out.old) (O.contents out.new))) }
-        ensures own { IfErr result (λ fault. fault ≢ Fault.Arguments) }
-        ensures unwritten { IfErr result (λ fault.
-            ((error : P.Refusal) × (fault ≡ Fault.Refused error))
-            ⊎ (fault ≡ Fault.Memory) → out.new ≡ out.old) }
-        ensures begun { (arguments : List Text) → AreMatches P.promise.app arguments matches.now
-            → OnErr result ((out.new ≡ out.old) ⊎ IsBegun P.promise arguments
+            → (HasAtMostTold P.promise arguments
+            (I.remaining input.old) O.contents out.old out.new
+            × MayFind P.promise arguments (I.remaining input.old))
+            ⊎ IsFaulty P.promise arguments
             (I.remaining input.old) (O.contents out.old) (O.contents out.new)) }
+        ensures own { IfErr result (λ fault. fault ≢ Fault.Arguments) }
+        ensures besides { (arguments : List Text) → AreMatches P.promise.app arguments matches.now
+            → IfErr result (λ fault. (error : P.Refusal) → fault ≡ Fault.Refused error
+            → HasAtMostTold P.promise arguments
+            (I.remaining input.old) O.contents out.old out.new
+            ⊎ IsPartial P.promise arguments
+            (I.remaining input.old) (O.contents out.old) (O.contents out.new)) }
+        ensures short { (arguments : List Text) → AreMatches P.promise.app arguments matches.now
+            → IfErr result (λ fault. fault ≡ Fault.Memory → HasAtMostTold P.promise arguments
+            (I.remaining input.old) O.contents out.old out.new) }
+        ensures begun { (arguments : List Text) → AreMatches P.promise.app arguments matches.now
+            → OnErr result ((out.new ≡ out.old) ⊎ (HasTold P.promise arguments
+            (I.remaining input.old) (O.contents out.old) (O.contents out.new)
+            ⊎ IsBegun P.promise arguments
+            (I.remaining input.old) (O.contents out.old) (O.contents out.new))) }
         ensures left { (arguments : List Text) → AreMatches P.promise.app arguments matches.now
             → (ReadsInput P.promise.app arguments → ⊥) → input.new ≡ input.old }
         ensures quiet { (arguments : List Text) → AreMatches P.promise.app arguments matches.now
-            → (TellsProgress P.promise arguments → ⊥) → err.new ≡ err.old }
+            → (TellsProgress P.promise arguments → ⊥) → (Warns P.promise arguments → ⊥)
+            → err.new ≡ err.old }
         ensures few { TakesAtMost (P.promise.most + 1)
             (I.remaining input.old) (I.remaining input.new) }
     {
-        match self.answer_of(matches, input, err) {
+        match self.answer_of(matches, input, out, err) {
             Ok(answer) => put(answer, out),
             Err(fault) => Err(fault),
         }
     }
 
-    /// What the program makes of the file that the arguments name, or else of the input.
-    fn answer_of<I: Read, E: Write>(
+    /// What the program makes of the file that the arguments name, or else of the input, behind
+    /// what it told of that, which is written.
+    fn answer_of<I: Read, O: Write, E: Write>(
         self,
         matches: &ArgMatches<'_>,
         input: &mut I,
+        out: &mut O,
         err: &mut E,
     ) -> Made<P>
         requires callable { IsCallable P.promise (B.pre self.body) }
@@ -249,19 +289,24 @@ where
         requires matches { (arguments : List Text)
             × AreMatches P.promise.app arguments matches.now }
         ensures printed { (arguments : List Text) → AreMatches P.promise.app arguments matches.now
-            → IfOk result (λ answer. IsPrinted P.promise arguments (I.remaining input.old)
-            answer.found answer.text.items) }
+            → IfOk result (λ answer. (told : List ℕ) × IsPut O.contents told out.old out.new
+            × IsPrinted P.promise arguments (I.remaining input.old)
+            answer.found answer.refused (told ++ answer.text.items)) }
         ensures refused { (arguments : List Text) → AreMatches P.promise.app arguments matches.now
             → IfErr result (λ fault. (error : P.Refusal) → fault ≡ Fault.Refused error
             → MayRefuse P.promise arguments (I.remaining input.old)) }
         ensures faulty { (arguments : List Text) → AreMatches P.promise.app arguments matches.now
             → IfErr result (λ fault. (found : P.Finding) → fault ≡ Fault.Found found
             → MayFind P.promise arguments (I.remaining input.old)) }
-        ensures own { IfErr result (λ fault. (fault ≢ Fault.Arguments) × (fault ≢ Fault.Writing)) }
+        ensures own { IfErr result (λ fault. fault ≢ Fault.Arguments) }
+        ensures begun { (arguments : List Text) → AreMatches P.promise.app arguments matches.now
+            → OnErr result (HasAtMostTold P.promise arguments
+            (I.remaining input.old) O.contents out.old out.new) }
         ensures left { (arguments : List Text) → AreMatches P.promise.app arguments matches.now
             → (ReadsInput P.promise.app arguments → ⊥) → input.new ≡ input.old }
         ensures quiet { (arguments : List Text) → AreMatches P.promise.app arguments matches.now
-            → (TellsProgress P.promise arguments → ⊥) → err.new ≡ err.old }
+            → (TellsProgress P.promise arguments → ⊥) → (Warns P.promise arguments → ⊥)
+            → err.new ≡ err.old }
         ensures few { TakesAtMost (P.promise.most + 1)
             (I.remaining input.old) (I.remaining input.new) }
     {
@@ -276,10 +321,11 @@ where
         };
         let taker = Taker {
             program,
+            rt,
             alloc,
             options: &options,
         };
-        let intake = taker.take_input(rt, file_of(matches), input, err)?;
+        let intake = taker.take_input(file_of(matches), input, out, err)?;
         body(options, intake)
     }
 }
@@ -311,31 +357,4 @@ fn show<E: Debug + Display + Drop, F: Debug + Display + Drop, W: Write>(
         return Err(Fault::Writing);
     }
     Ok(())
-}
-
-/// Writes an answer, and flushes it. Fails with the fault that it tells of, where it tells of one.
-fn put<E: Debug + Display + Drop, F: Debug + Display + Drop, W: Write>(
-    answer: Answer<F>,
-    out: &mut W,
-) -> Result<(), Fault<E, F>>
-    ensures done { OnOk result ((answer.found ≡ None)
-        × Appends (W.contents out.old) (W.contents out.new) answer.text.items) }
-    ensures found { IfErr result (λ fault. (found : F) → fault ≡ Fault.Found found
-        → (answer.found ≡ Some found)
-        × Appends (W.contents out.old) (W.contents out.new) answer.text.items) }
-    ensures begun { OnErr result
-        (Appends (W.contents out.old) (W.contents out.new) answer.text.items
-        ⊎ TakesSome answer.text.items (W.contents out.old) (W.contents out.new)) }
-    ensures kinds { IfErr result (λ fault. (fault ≡ Fault.Writing)
-        ⊎ ((found : F) × (fault ≡ Fault.Found found))) }
-{
-    let Answer { text, found } = answer;
-    write_whole(out, &text)?;
-    if out.flush().is_err() {
-        return Err(Fault::Writing);
-    }
-    match found {
-        None => Ok(()),
-        Some(found) => Err(Fault::Found(found)),
-    }
 }

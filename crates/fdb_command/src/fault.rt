@@ -13,11 +13,11 @@ use std::fmt::{Debug, Display};
 /// is the line that the program writes, behind its name.
 #[derive(Debug, Drop)]
 pub enum Fault<E: Debug + Display + Drop, F: Debug + Display + Drop> {
-    /// The input is refused, and why, with what the input is called.
+    /// The input is refused, whole or in part, and why, with what the input is called.
     Refused(E),
     /// The arguments of the command line are refused, or could not be had.
     Arguments,
-    /// Memory was refused, before anything was written to the output.
+    /// Memory was refused, before anything was written to the output but what was told.
     Memory,
     /// A fault was found in what the input stands for.
     Found(F),
@@ -57,7 +57,7 @@ impl<E: Debug + Display + Drop, F: Debug + Display + Drop> Display for Fault<E, 
     fn fmt<W: fmt::Write>(&self, f: &mut fmt::Formatter<W>) -> fmt::Result {
         f.write_str(match self {
             Fault::Refused(error) => return write!(f, "{error}"),
-            Fault::Arguments => "words refused: see --help",
+            Fault::Arguments => "words refused",
             Fault::Memory => "want of memory",
             Fault::Found(found) => return write!(f, "audit fault: {found}"),
             Fault::Reading => "reading failed",

@@ -1,19 +1,25 @@
 //! All bytes of a file or of the input, as a program takes them.
 
-ghost use Rattle.std.specs.Prelude.{◌≡◌, ◌⊎◌, ◌+◌, ◌<◌, ◌≤◌, List, IfOk, IfErr, IsErrAnd};
-ghost use Rattle.std.specs.Prelude.{false, is_some, length, option_map, true};
+ghost use Rattle.std.specs.Prelude.{◌≡◌, ◌⊎◌, ◌+◌, ◌<◌, ◌≤◌, List, [], IfOk, IfErr, IsErrAnd};
+ghost use Rattle.std.specs.Prelude.{None, OnErr, OnOk, false, is_some, length, option_map, true};
 ghost use Rattle.std.specs.Io.KnownBytes.{IsAtEnd};
 ghost use Rattle.clap.specs.Words.{Text};
 ghost use Rattle.fdb_command.specs.Input.{IsCauseOf, TakesAtMost};
-ghost use Rattle.fdb_command.specs.private.Taking.{IsTaken, MayStop, StopsAt, TakesOn};
+ghost use Rattle.fdb_command.specs.Driving.{TellsOf};
+ghost use Rattle.fdb_command.specs.Output.{TakesAny};
+ghost use Rattle.fdb_command.specs.private.Taking.{IsFailure, IsPut, IsTaken, MayStop, StopsAt};
+ghost use Rattle.fdb_command.specs.private.Taking.{TakesOn, TellsLast, TellsOn};
 
 use crate::fault::Fault;
 use crate::input::{InputFault, read_piece};
-use crate::program::Program;
+use crate::output::write_flushed;
+use crate::program::{Program, Told};
 use std::alloc::Global;
+use std::fmt::{Debug, Display};
 use std::fs::{File, Files};
 use std::io;
 use std::io::{Read, Write};
+use std::time::Clock;
 
 /// The most bytes that one read asks for.
 const PIECE: usize = 65_536;
@@ -32,81 +38,98 @@ struct Piece<T: Drop> {
     is_last: bool,
 }
 
-/// What a program takes its input by: what its flags say, and memory.
+/// What a program takes its input by: what it runs on, what its flags say, and memory.
 #[derive(Drop)]
-pub(crate) struct Taker<'a, P: Program> {
+pub(crate) struct Taker<'a, P: Program, R> {
     pub(crate) program: &'a P,
+    pub(crate) rt: &'a R,
     pub(crate) alloc: Global,
     pub(crate) options: &'a P::Options,
 }
 
-impl<P: Program> Taker<'_, P> {
+impl<P: Program, R: Files + Clock> Taker<'_, P, R> {
     /// Has the program take the bytes of the file that is named, or else of the input, if there are
-    /// no more than it may have, and tells of progress where that is asked for. What stops the
-    /// program leaves the rest unread. One byte more than it may have is taken from the input at the
-    /// most, and none where a file is named.
-    pub(crate) fn take_input<R: Files, I: Read, E: Write>(
+    /// no more than it may have, writes what it tells of them, and tells of progress where that is
+    /// asked for. What stops the program leaves the rest unread. One byte more than it may have is
+    /// taken from the input at the most, and none where a file is named.
+    pub(crate) fn take_input<I: Read, O: Write, E: Write>(
         &self,
-        rt: &R,
         file: Option<&str>,
         input: &mut I,
+        out: &mut O,
         err: &mut E,
     ) -> Result<P::Intake, Fault<P::Refusal, P::Finding>>
         ensures all { IfOk result (IsTaken P.promise self.now.options.now
-            (option_map (λ path. path.now) file.entry) (I.remaining input.old)) }
-        ensures stops { IfErr result (λ fault. (fault ≡ Fault.Reading)
+            (option_map (λ path. path.now) file.entry) (I.remaining input.old)
+            O.contents out.old out.new) }
+        ensures stops { IfErr result (λ fault. IsFailure fault
             ⊎ MayStop P.promise self.now.options.now
             (option_map (λ path. path.now) file.entry) (I.remaining input.old) fault) }
+        ensures begun { OnErr result ((out.new ≡ out.old) ⊎ TellsOf P.promise
+            self.now.options.now (option_map (λ path. path.now) file.entry)
+            (I.remaining input.old) (O.contents out.old) (O.contents out.new)) }
         ensures left { is_some file.entry ≡ true → input.new ≡ input.old }
         ensures few { TakesAtMost (P.promise.most + 1)
             (I.remaining input.old) (I.remaining input.new) }
         ensures quiet { (arguments : List Text) → P.promise.asks arguments self.now.options.now
-            → P.promise.tells arguments ≡ false → err.new ≡ err.old }
+            → P.promise.tells arguments ≡ false → P.promise.warns arguments ≡ false
+            → err.new ≡ err.old }
     {
         match file {
-            Some(path) => self.take_file(File::open(rt, path), err),
-            None => self.take_all(input, err),
+            Some(path) => self.take_file(File::open(self.rt, path), out, err),
+            None => self.take_all(input, out, err),
         }
     }
 
     /// Has the program take all bytes of a file, if it could be opened and has no more than it may.
-    fn take_file<F: Read + Drop, E: Write>(
+    fn take_file<F: Read + Drop, O: Write, E: Write>(
         &self,
         opened: io::Result<F>,
+        out: &mut O,
         err: &mut E,
     ) -> Result<P::Intake, Fault<P::Refusal, P::Finding>>
-        ensures all { IfOk opened (λ file. IfOk result
-            (IsTaken P.promise self.now.options.now None (F.remaining file))) }
-        ensures stops { IfOk opened (λ file. IfErr result (λ fault. (fault ≡ Fault.Reading)
+        ensures all { IfOk opened (λ file. IfOk result (IsTaken P.promise
+            self.now.options.now None (F.remaining file) O.contents out.old out.new)) }
+        ensures stops { IfOk opened (λ file. IfErr result (λ fault. IsFailure fault
             ⊎ MayStop P.promise self.now.options.now None (F.remaining file) fault)) }
+        ensures begun { IfOk opened (λ file. OnErr result ((out.new ≡ out.old)
+            ⊎ TellsOf P.promise self.now.options.now None (F.remaining file)
+            (O.contents out.old) (O.contents out.new))) }
+        ensures untouched { OnErr opened (out.new ≡ out.old) }
         ensures unopened { IfErr opened (λ error. IsErrAnd result (λ fault.
             (cause : _) × IsCauseOf error cause
             × (cause ≡ InputFault.Reading → fault ≡ Fault.Reading)
             × (cause ≡ InputFault.Memory → fault ≡ Fault.Memory))) }
         ensures quiet { (arguments : List Text) → P.promise.asks arguments self.now.options.now
-            → P.promise.tells arguments ≡ false → err.new ≡ err.old }
+            → P.promise.tells arguments ≡ false → P.promise.warns arguments ≡ false
+            → err.new ≡ err.old }
     {
         match opened {
-            Ok(mut file) => self.take_all(&mut file, err),
+            Ok(mut file) => self.take_all(&mut file, out, err),
             Err(error) => Err(Fault::from(InputFault::from(error))),
         }
     }
 
-    /// Has the program take all bytes that the input has, if they are no more than it may have. One
-    /// byte more is taken at most.
-    fn take_all<I: Read, E: Write>(
+    /// Has the program take all bytes that the input has, if they are no more than it may have, and
+    /// writes what it tells of them. One byte more is taken at most.
+    fn take_all<I: Read, O: Write, E: Write>(
         &self,
         input: &mut I,
+        out: &mut O,
         err: &mut E,
     ) -> Result<P::Intake, Fault<P::Refusal, P::Finding>>
-        ensures all { IfOk result
-            (IsTaken P.promise self.now.options.now None (I.remaining input.old)) }
-        ensures stops { IfErr result (λ fault. (fault ≡ Fault.Reading)
+        ensures all { IfOk result (IsTaken P.promise self.now.options.now None
+            (I.remaining input.old) O.contents out.old out.new) }
+        ensures stops { IfErr result (λ fault. IsFailure fault
             ⊎ MayStop P.promise self.now.options.now None (I.remaining input.old) fault) }
+        ensures begun { OnErr result ((out.new ≡ out.old)
+            ⊎ TellsOf P.promise self.now.options.now None (I.remaining input.old)
+            (O.contents out.old) (O.contents out.new)) }
         ensures few { TakesAtMost (P.promise.most + 1)
             (I.remaining input.old) (I.remaining input.new) }
         ensures quiet { (arguments : List Text) → P.promise.asks arguments self.now.options.now
-            → P.promise.tells arguments ≡ false → err.new ≡ err.old }
+            → P.promise.tells arguments ≡ false → P.promise.warns arguments ≡ false
+            → err.new ≡ err.old }
     {
         let mut room = Vec::new(self.alloc);
         if room.resize(PIECE, 0).is_err() {
@@ -120,18 +143,19 @@ impl<P: Program> Taker<'_, P> {
         let mut read = 0;
         // A reader may be interrupted as often as it likes, but a loop has an end.
         for _ in 0..u64::MAX {
-            let piece = self.take_piece(intake, input, &mut room[..room_at(read, most)])?;
+            let asked = room_at(read, most);
+            let piece = self.take_piece(intake, input, &mut room[..asked])?;
             let count = piece.count as u64;
             if count > most - read {
                 return Err(Fault::Reading);
             }
             read += count;
-            intake = piece.intake;
             if piece.is_last {
-                self.tell_end(&intake, read, err);
-                return Ok(intake);
+                self.tell_end(&piece.intake, read, err);
+                return Ok(piece.intake);
             }
-            self.tell_stride(&intake, read, count, err);
+            self.tell_stride(&piece.intake, read, count, err);
+            intake = self.tell_piece(piece, asked, out, err)?;
         }
         Err(Fault::Reading)
     }
@@ -175,13 +199,63 @@ impl<P: Program> Taker<'_, P> {
         })
     }
 
+    /// Has the program tell of the bytes that came, if some did, of those that were asked for.
+    fn tell_piece<O: Write, E: Write>(
+        &self,
+        piece: Piece<P::Intake>,
+        asked: usize,
+        out: &mut O,
+        err: &mut E,
+    ) -> Result<P::Intake, Fault<P::Refusal, P::Finding>>
+        ensures told { IfOk result (TellsOn P.promise self.now.options.now piece.intake
+            O.contents out.old out.new) }
+        ensures begun { OnErr result ((out.new ≡ out.old)
+            ⊎ TellsLast P.promise self.now.options.now piece.intake
+            (O.contents out.old) (O.contents out.new)) }
+        ensures stops { IfErr result
+            (λ fault. (fault ≡ Fault.Memory) ⊎ (fault ≡ Fault.Writing)) }
+        ensures quiet { (arguments : List Text) → P.promise.asks arguments self.now.options.now
+            → P.promise.warns arguments ≡ false → err.new ≡ err.old }
+    {
+        if piece.count == 0 {
+            return Ok(piece.intake);
+        }
+        self.write_told(piece.intake, piece.count < asked, out, err)
+    }
+
+    /// Has the program tell of what it has taken, and writes that: what it leaves out to `err`, and
+    /// the text to `out`, whole, which is then flushed.
+    fn write_told<O: Write, E: Write>(
+        &self,
+        intake: P::Intake,
+        is_idle: bool,
+        out: &mut O,
+        err: &mut E,
+    ) -> Result<P::Intake, Fault<P::Refusal, P::Finding>>
+        ensures told { IfOk result (TellsOn P.promise self.now.options.now intake
+            O.contents out.old out.new) }
+        ensures begun { OnErr result ((out.new ≡ out.old)
+            ⊎ TellsLast P.promise self.now.options.now intake
+            (O.contents out.old) (O.contents out.new)) }
+        ensures stops { IfErr result
+            (λ fault. (fault ≡ Fault.Memory) ⊎ (fault ≡ Fault.Writing)) }
+        ensures quiet { (arguments : List Text) → P.promise.asks arguments self.now.options.now
+            → P.promise.warns arguments ≡ false → err.new ≡ err.old }
+    {
+        let told = self
+            .program
+            .tell(self.rt, self.alloc, self.options, intake, is_idle)?;
+        warn(&told.warnings, err);
+        put_told(told, out)
+    }
+
     /// Tells how far the input has been read, where the last of these bytes end a stride.
     fn tell_stride<E: Write>(&self, intake: &P::Intake, read: u64, count: u64, err: &mut E)
         ensures { (arguments : List Text) → P.promise.asks arguments self.now.options.now
             → P.promise.tells arguments ≡ false → err.new ≡ err.old }
     {
         if count > 0 && read % STRIDE == 0 {
-            self.tell(intake, read, "", err);
+            self.tell_progress(intake, read, "", err);
         }
     }
 
@@ -192,13 +266,13 @@ impl<P: Program> Taker<'_, P> {
             → P.promise.tells arguments ≡ false → err.new ≡ err.old }
     {
         if read >= STRIDE {
-            self.tell(intake, read, "; judging", err);
+            self.tell_progress(intake, read, "; judging", err);
         }
     }
 
     /// Tells how far the input has been read, where the arguments ask for that. A line that cannot
     /// be written changes nothing.
-    fn tell<E: Write>(&self, intake: &P::Intake, read: u64, next: &str, err: &mut E)
+    fn tell_progress<E: Write>(&self, intake: &P::Intake, read: u64, next: &str, err: &mut E)
         ensures { (arguments : List Text) → P.promise.asks arguments self.now.options.now
             → P.promise.tells arguments ≡ false → err.new ≡ err.old }
     {
@@ -206,6 +280,32 @@ impl<P: Program> Taker<'_, P> {
             let _ = writeln!(err, "{}: {read} bytes, {calls} calls read{next}", P::NAME);
         }
     }
+}
+
+/// Writes lines, if there are some. Where they cannot be written, nothing changes.
+fn warn<W: Write>(lines: &[u8], err: &mut W)
+    ensures { lines.now ≡ [] → err.new ≡ err.old }
+{
+    if !lines.is_empty() {
+        let _ = write_flushed(err, lines);
+    }
+}
+
+/// Writes what was told and flushes it, if there is a text, and gives the intake back.
+fn put_told<T: Drop, E: Debug + Display + Drop, F: Debug + Display + Drop, W: Write>(
+    told: Told<T>,
+    out: &mut W,
+) -> Result<T, Fault<E, F>>
+    ensures ok { IfOk result (λ intake. (intake ≡ told.intake)
+        × IsPut W.contents told.text.items out.old out.new) }
+    ensures begun { OnErr result ((0 < length told.text.items)
+        × TakesAny told.text.items (W.contents out.old) (W.contents out.new)) }
+    ensures kind { IfErr result (λ fault. fault ≡ Fault.Writing) }
+{
+    if !told.text.is_empty() {
+        write_flushed(out, &told.text)?;
+    }
+    Ok(told.intake)
 }
 
 /// How many bytes are to be read next: no more than one above the most, and none past a place

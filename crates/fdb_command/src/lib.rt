@@ -5,6 +5,7 @@
 
 mod arguments;
 mod driving;
+mod ending;
 mod fault;
 mod input;
 mod intake;
@@ -17,4 +18,4 @@ pub use arguments::{
 pub use driving::drive;
 pub use fault::Fault;
 pub use output::{OutputFault, write_whole};
-pub use program::{Answer, Program};
+pub use program::{Answer, Program, Told};

@@ -4,7 +4,7 @@ ghost use Rattle.std.specs.Prelude.{◌≡◌, ◌≢◌, ◌<◌, ◌≤◌, On
 ghost use Rattle.std.specs.Prelude.{length, take};
 ghost use Rattle.std.specs.Io.KnownBytes.{Appends, Keeps};
 ghost use Rattle.std.specs.IoError.{error_kind};
-ghost use Rattle.fdb_command.specs.Output.{TakesSome};
+ghost use Rattle.fdb_command.specs.Output.{TakesAny, TakesSome};
 
 use std::io;
 use std::io::{ErrorKind, Write};
@@ -35,6 +35,19 @@ pub fn write_whole<W: Write>(writer: &mut W, lines: &[u8]) -> Result<(), OutputF
         rest = &rest[count..];
     }
     Err(OutputFault::Writing)
+}
+
+/// Writes all of these bytes, and flushes them.
+pub(crate) fn write_flushed<W: Write>(writer: &mut W, lines: &[u8]) -> Result<(), OutputFault>
+    ensures ok { OnOk result (Appends (W.contents writer.old) (W.contents writer.new) lines.now) }
+    ensures begun { OnErr result
+        (TakesAny lines.now (W.contents writer.old) (W.contents writer.new)) }
+{
+    write_whole(writer, lines)?;
+    match writer.flush() {
+        Ok(()) => Ok(()),
+        Err(_) => Err(OutputFault::Writing),
+    }
 }
 
 /// Writes once, and answers how many of the bytes the writer

@@ -1,6 +1,6 @@
 //! What each program gives of its own, over which the driver runs.
 
-ghost use Rattle.std.specs.Prelude.{◌≡◌, ◌++◌, ℕ, List, [], IfOk, IfErr, is_some, true};
+ghost use Rattle.std.specs.Prelude.{◌≡◌, ◌⊎◌, ◌++◌, ℕ, List, [], IfOk, IfErr, false, is_some, true};
 ghost use Rattle.clap.specs.Faults.{is_simple_and_free};
 ghost use Rattle.clap.specs.Words.{Text, app_of};
 ghost use Rattle.fdb_command.specs.Arguments.{AreMatches};
@@ -10,18 +10,34 @@ use crate::fault::Fault;
 use clap::{ArgMatches, Command};
 use std::alloc::{AllocError, Global};
 use std::fmt::{Debug, Display};
+use std::fs::Files;
+use std::time::Clock;
 
 /// What a program makes of its input.
 #[derive(Debug, Drop)]
-pub struct Answer<F: Debug + Display + Drop> {
-    /// What is written to the output, whole, also where a fault was found.
+pub struct Answer<E: Debug + Display + Drop, F: Debug + Display + Drop> {
+    /// What is written to the output, whole, behind what was told, also where a fault was found.
     pub text: Vec<u8>,
     /// The fault that was found, if one was.
     pub found: Option<F>,
+    /// Why a part of the input was refused, where the rest was read on.
+    pub refused: Option<E>,
 }
 
-/// A program that reads a file or its input, and prints a text. What it makes of the input is no
-/// method, but a closure that [`drive`](crate::drive) is given, since a closure may start threads.
+/// What a program tells while it reads.
+#[derive(Drop)]
+pub struct Told<T: Drop> {
+    /// The intake, of which the text has been told.
+    pub intake: T,
+    /// What is written to the output and flushed, if it is not empty.
+    pub text: Vec<u8>,
+    /// Whole lines for standard error. Where they cannot be written, nothing changes.
+    pub warnings: Vec<u8>,
+}
+
+/// A program that reads a file or its input, and prints a text, of which it may tell a part while it
+/// reads. What it makes of all of the input is no method, but a closure that
+/// [`drive`](crate::drive) is given, since a closure may start threads.
 pub trait Program {
     /// What its flags say, which its body is given.
     type Options: Drop;
@@ -58,7 +74,7 @@ pub trait Program {
 
     /// An intake that has taken no bytes yet, and that is to take them by what the flags say.
     fn begin(&self, alloc: Global, options: &Self::Options) -> Result<Self::Intake, AllocError>
-        ensures { IfOk result (λ intake. promise.taken options.now intake []) };
+        ensures { IfOk result (λ intake. promise.taken options.now intake [] []) };
 
     /// Takes the next bytes, by what the flags say that the intake was begun with. An error is a
     /// refusal or a fault that holds whatever bytes come after these, or that memory was refused.
@@ -67,13 +83,41 @@ pub trait Program {
         intake: Self::Intake,
         bytes: &[u8],
     ) -> Result<Self::Intake, Fault<Self::Refusal, Self::Finding>>
-        ensures taken { IfOk result (λ next. (options : Self.Options) (before : List ℕ)
-            → promise.taken options intake before
-            → promise.taken options next (before ++ bytes.now)) }
+        ensures taken { IfOk result (λ next. (options : Self.Options) (before told : List ℕ)
+            → promise.taken options intake before told
+            → promise.taken options next (before ++ bytes.now) told) }
         ensures stops { IfErr result
-            (λ fault. (arguments : List Text) (options : Self.Options) (before after : List ℕ)
-            → promise.asks arguments options → promise.taken options intake before
+            (λ fault. (arguments : List Text) (options : Self.Options)
+            (before told after : List ℕ)
+            → promise.asks arguments options → promise.taken options intake before told
             → Stops promise arguments (before ++ (bytes.now ++ after)) fault) };
+
+    /// What is to be told of what the intake has taken, before more is read, and what is to be said
+    /// on standard error of what is left out. `is_idle`: the last read gave fewer bytes than it was
+    /// asked for, so that no more may come for a while. A program that leaves this out tells nothing.
+    fn tell<R: Files + Clock>(
+        &self,
+        rt: &R,
+        alloc: Global,
+        options: &Self::Options,
+        intake: Self::Intake,
+        is_idle: bool,
+    ) -> Result<Told<Self::Intake>, Fault<Self::Refusal, Self::Finding>>
+        ensures told { IfOk result (λ it. (before told : List ℕ)
+            → promise.taken options.now intake before told
+            → promise.taken options.now it.intake before (told ++ it.text.items)) }
+        ensures quiet { IfOk result (λ it. (arguments : List Text)
+            → promise.asks arguments options.now → promise.warns arguments ≡ false
+            → it.warnings.items ≡ []) }
+        ensures stops { IfErr result
+            (λ fault. (fault ≡ Fault.Memory) ⊎ (fault ≡ Fault.Writing)) }
+    {
+        Ok(Told {
+            intake,
+            text: Vec::new(alloc),
+            warnings: Vec::new(alloc),
+        })
+    }
 
     /// How many calls the intake has, where the arguments ask that progress is told.
     fn progress(&self, options: &Self::Options, intake: &Self::Intake) -> Option<u64>

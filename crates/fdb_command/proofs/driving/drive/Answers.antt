@@ -1,4 +1,4 @@
-use Rattle.std.proofs.Common.{inl, inr, arith}
+use Rattle.std.proofs.Common.{arith}
 use Rattle.fdb_command.proofs.driving.drive.Goals as goal
 
 pub returns-in-Err : goal.returns-in-Err
@@ -13,13 +13,9 @@ returns-in-Err g c = record {
   unread = c.in-Err.ensures.unread;
   left = c.in-Err.ensures.left;
   quiet = λ is. absurd (omega (arith, is, c.status.ensures.range.0));
-  unwritten = λ is. c.in-Err.ensures.unwritten (elim is [
-    | inl one ↦ inl (c.status.ensures.only_refused one)
-    | inr two_or_three ↦ inr (elim two_or_three [
-      | inl two ↦ inl (c.status.ensures.only_arguments two)
-      | inr three ↦ inr (c.status.ensures.only_memory three)
-    ])
-  ]);
+  unwritten = λ is. c.in-Err.ensures.unwritten (c.status.ensures.only_arguments is);
+  besides = λ is. let (error, why) = c.status.ensures.only_refused is in c.in-Err.ensures.besides error why;
+  short = λ is. c.in-Err.ensures.short (c.status.ensures.only_memory is);
   begun = λ is. c.in-Err.ensures.begun (c.status.ensures.only_failed is);
   few = c.in-Err.ensures.few;
 }

@@ -2,10 +2,11 @@ use Rattle.std.proofs.Common.{◌≡◌, ◌≢◌, ◌⊎◌, Option, subst}
 use Rattle.clap.specs.Words.{Text}
 use Rattle.fdb_command.specs.Driving.{MayFind, MayRefuse}
 use Rattle.fdb_command.specs.Input.{MayBeRead}
-use Rattle.fdb_command.specs.private.Taking.{MayStop}
-use Rattle.fdb_command.specs.declared.fault.Fault.TheVariants.{Arguments, Refused, Found, Reading, Writing}
-use Rattle.fdb_command.proofs.Answered.{found_early, found_of, named_file, own_early, own_of, printed_of, refused_early, refused_of, untold}
-use Rattle.fdb_command.proofs.Pieces.{passed_on}
+use Rattle.fdb_command.specs.private.Taking.{IsFailure, MayStop}
+use Rattle.fdb_command.specs.Driving.{MayAnswer, TellsOf}
+use Rattle.fdb_command.specs.declared.fault.Fault.TheVariants.{Arguments, Refused, Found}
+use Rattle.fdb_command.proofs.Answered.{found_early, found_of, named_file, own_early, own_of, printed_of, refused_early, refused_of, told_after, told_early, untold, unwarned}
+use Rattle.fdb_command.proofs.Pieces.{on_error, passed_on}
 use Rattle.fdb_command.proofs.driving.Run.answer_of.Goals as goal
 
 pub returns-in_err-intake-clause-refused : goal.returns-in_err-intake-clause-refused
@@ -13,7 +14,7 @@ returns-in_err-intake-clause-refused g c = λ arguments matches.
     let promise = g.P.Program.promise in
     let remaining = g.I.Read.remaining c.args.input.now in
     let fault = c.in_err-intake.field-0.0 in
-    let stops = subst (λ (file : Option Text). (fault ≡ Reading) ⊎ MayStop promise c.in-Ok.options file remaining fault) (c.file_of.ensures promise.app arguments matches) c.in_err-intake.ensures.stops in
+    let stops = subst (λ (file : Option Text). IsFailure fault ⊎ MayStop promise c.in-Ok.options file remaining fault) (c.file_of.ensures promise.app arguments matches) c.in_err-intake.ensures.stops in
     passed_on c.from_residual.result fault (λ fault. (error : _) → fault ≡ Refused error → MayRefuse promise arguments remaining) c.from_residual.ensures.1
     (refused_early promise arguments c.in-Ok.options (c.in-Ok.ensures arguments matches) remaining matches.taken fault stops)
 
@@ -22,7 +23,7 @@ returns-in_err-intake-clause-faulty g c = λ arguments matches.
     let promise = g.P.Program.promise in
     let remaining = g.I.Read.remaining c.args.input.now in
     let fault = c.in_err-intake.field-0.0 in
-    let stops = subst (λ (file : Option Text). (fault ≡ Reading) ⊎ MayStop promise c.in-Ok.options file remaining fault) (c.file_of.ensures promise.app arguments matches) c.in_err-intake.ensures.stops in
+    let stops = subst (λ (file : Option Text). IsFailure fault ⊎ MayStop promise c.in-Ok.options file remaining fault) (c.file_of.ensures promise.app arguments matches) c.in_err-intake.ensures.stops in
     passed_on c.from_residual.result fault (λ fault. (found : _) → fault ≡ Found found → MayFind promise arguments remaining) c.from_residual.ensures.1
     (found_early promise arguments c.in-Ok.options (c.in-Ok.ensures arguments matches) remaining matches.taken fault stops)
 
@@ -30,7 +31,7 @@ pub returns-in_err-intake-clause-own : goal.returns-in_err-intake-clause-own
 returns-in_err-intake-clause-own g c =
     let (arguments, matches) = c.requires.matches in
     let fault = c.in_err-intake.field-0.0 in
-    passed_on c.from_residual.result fault (λ fault. (fault ≢ Arguments) × (fault ≢ Writing)) c.from_residual.ensures.1
+    passed_on c.from_residual.result fault (λ fault. fault ≢ Arguments) c.from_residual.ensures.1
     (own_early g.P.Program.promise arguments c.in-Ok.options _ (g.I.Read.remaining c.args.input.now) fault (c.in-Ok.ensures arguments matches) c.in_err-intake.ensures.stops)
 
 pub returns-in_err-intake-clause-left : goal.returns-in_err-intake-clause-left
@@ -39,8 +40,8 @@ returns-in_err-intake-clause-left g c = λ arguments matches unread.
     c.take_input.ensures.left (named_file app arguments c.args.matches.now matches c.file_of.result (c.file_of.ensures app arguments matches) unread)
 
 pub returns-in_err-intake-clause-quiet : goal.returns-in_err-intake-clause-quiet
-returns-in_err-intake-clause-quiet g c = λ arguments matches silent.
-    c.take_input.ensures.quiet arguments (c.in-Ok.ensures arguments matches) (untold g.P.Program.promise arguments matches.taken silent)
+returns-in_err-intake-clause-quiet g c = λ arguments matches silent unsaid.
+    c.take_input.ensures.quiet arguments (c.in-Ok.ensures arguments matches) (untold g.P.Program.promise arguments matches.taken silent) (unwarned g.P.Program.promise arguments matches.taken unsaid)
 
 pub returns-clause-printed : goal.returns-clause-printed
 returns-clause-printed g c = λ arguments matches.
@@ -48,8 +49,8 @@ returns-clause-printed g c = λ arguments matches.
     let remaining = g.I.Read.remaining c.args.input.now in
     let all = c.in_ok-intake.ensures.all in
     let read = subst (λ (file : Option Text). MayBeRead file remaining all.bytes) (c.file_of.ensures promise.app arguments matches) all.read in
-    printed_of promise arguments c.in-Ok.options (c.in-Ok.ensures arguments matches) remaining matches.taken all.bytes all.few read c.body.result
-    (c.requires.promised arguments c.in-Ok.options c.in_ok-intake.intake all.bytes c.body.result (c.in-Ok.ensures arguments matches) all.taken c.body.ensures)
+    printed_of promise arguments c.in-Ok.options (c.in-Ok.ensures arguments matches) remaining matches.taken all.bytes all.told all.few read g.O.Write.contents c.args.out.now c.take_input.new.out all.put c.body.result
+    (c.requires.promised arguments c.in-Ok.options c.in_ok-intake.intake all.bytes all.told c.body.result (c.in-Ok.ensures arguments matches) all.taken c.body.ensures)
 
 pub returns-clause-refused : goal.returns-clause-refused
 returns-clause-refused g c = λ arguments matches.
@@ -57,8 +58,8 @@ returns-clause-refused g c = λ arguments matches.
     let remaining = g.I.Read.remaining c.args.input.now in
     let all = c.in_ok-intake.ensures.all in
     let read = subst (λ (file : Option Text). MayBeRead file remaining all.bytes) (c.file_of.ensures promise.app arguments matches) all.read in
-    refused_of promise arguments c.in-Ok.options (c.in-Ok.ensures arguments matches) remaining matches.taken all.bytes all.few read c.body.result
-    (c.requires.promised arguments c.in-Ok.options c.in_ok-intake.intake all.bytes c.body.result (c.in-Ok.ensures arguments matches) all.taken c.body.ensures)
+    refused_of promise arguments c.in-Ok.options (c.in-Ok.ensures arguments matches) remaining matches.taken all.bytes all.told all.few read c.body.result
+    (c.requires.promised arguments c.in-Ok.options c.in_ok-intake.intake all.bytes all.told c.body.result (c.in-Ok.ensures arguments matches) all.taken c.body.ensures)
 
 pub returns-clause-faulty : goal.returns-clause-faulty
 returns-clause-faulty g c = λ arguments matches.
@@ -66,15 +67,15 @@ returns-clause-faulty g c = λ arguments matches.
     let remaining = g.I.Read.remaining c.args.input.now in
     let all = c.in_ok-intake.ensures.all in
     let read = subst (λ (file : Option Text). MayBeRead file remaining all.bytes) (c.file_of.ensures promise.app arguments matches) all.read in
-    found_of promise arguments c.in-Ok.options (c.in-Ok.ensures arguments matches) remaining matches.taken all.bytes all.few read c.body.result
-    (c.requires.promised arguments c.in-Ok.options c.in_ok-intake.intake all.bytes c.body.result (c.in-Ok.ensures arguments matches) all.taken c.body.ensures)
+    found_of promise arguments c.in-Ok.options (c.in-Ok.ensures arguments matches) remaining matches.taken all.bytes all.told all.few read c.body.result
+    (c.requires.promised arguments c.in-Ok.options c.in_ok-intake.intake all.bytes all.told c.body.result (c.in-Ok.ensures arguments matches) all.taken c.body.ensures)
 
 pub returns-clause-own : goal.returns-clause-own
 returns-clause-own g c =
     let (arguments, matches) = c.requires.matches in
     let all = c.in_ok-intake.ensures.all in
-    own_of g.P.Program.promise arguments all.bytes (λ answer. g.P.Program.promise.prints arguments all.bytes answer.text.items answer.found) c.body.result
-    (c.requires.promised arguments c.in-Ok.options c.in_ok-intake.intake all.bytes c.body.result (c.in-Ok.ensures arguments matches) all.taken c.body.ensures)
+    own_of g.P.Program.promise arguments all.bytes (MayAnswer g.P.Program.promise arguments all.bytes all.told) c.body.result
+    (c.requires.promised arguments c.in-Ok.options c.in_ok-intake.intake all.bytes all.told c.body.result (c.in-Ok.ensures arguments matches) all.taken c.body.ensures)
 
 pub returns-clause-left : goal.returns-clause-left
 returns-clause-left g c = λ arguments matches unread.
@@ -82,11 +83,30 @@ returns-clause-left g c = λ arguments matches unread.
     c.take_input.ensures.left (named_file app arguments c.args.matches.now matches c.file_of.result (c.file_of.ensures app arguments matches) unread)
 
 pub returns-clause-quiet : goal.returns-clause-quiet
-returns-clause-quiet g c = λ arguments matches silent.
-    c.take_input.ensures.quiet arguments (c.in-Ok.ensures arguments matches) (untold g.P.Program.promise arguments matches.taken silent)
+returns-clause-quiet g c = λ arguments matches silent unsaid.
+    c.take_input.ensures.quiet arguments (c.in-Ok.ensures arguments matches) (untold g.P.Program.promise arguments matches.taken silent) (unwarned g.P.Program.promise arguments matches.taken unsaid)
 
 pub body-requires : goal.body-requires
 body-requires g c =
     let (arguments, matches) = c.requires.matches in
     let all = c.in_ok-intake.ensures.all in
-    c.requires.callable arguments c.in-Ok.options c.in_ok-intake.intake all.bytes (c.in-Ok.ensures arguments matches) all.taken
+    c.requires.callable arguments c.in-Ok.options c.in_ok-intake.intake all.bytes all.told (c.in-Ok.ensures arguments matches) all.taken
+
+pub returns-in_err-intake-clause-begun : goal.returns-in_err-intake-clause-begun
+returns-in_err-intake-clause-begun g c = λ arguments matches.
+    let promise = g.P.Program.promise in
+    let remaining = g.I.Read.remaining c.args.input.now in
+    let contents = g.O.Write.contents in
+    let before = c.args.out.now in
+    let after = c.take_input.new.out in
+    let told = subst (λ (file : Option Text). (after ≡ before) ⊎ TellsOf promise c.in-Ok.options file remaining (contents before) (contents after)) (c.file_of.ensures promise.app arguments matches) c.in_err-intake.ensures.begun in
+    on_error c.from_residual.result (told_early promise arguments c.in-Ok.options (c.in-Ok.ensures arguments matches) remaining matches.taken contents before after told)
+
+pub returns-clause-begun : goal.returns-clause-begun
+returns-clause-begun g c = λ arguments matches.
+    let promise = g.P.Program.promise in
+    let remaining = g.I.Read.remaining c.args.input.now in
+    let all = c.in_ok-intake.ensures.all in
+    let read = subst (λ (file : Option Text). MayBeRead file remaining all.bytes) (c.file_of.ensures promise.app arguments matches) all.read in
+    on_error c.body.result
+    (told_after promise arguments c.in-Ok.options (c.in-Ok.ensures arguments matches) remaining matches.taken all.bytes all.told all.few read c.in_ok-intake.intake all.taken g.O.Write.contents c.args.out.now c.take_input.new.out all.put)

@@ -30,6 +30,12 @@ returns-in-Ok-clause-begun g c = rw c.in-Ok.is (rw c.deref.ensures.value at c.do
 pub returns-in-Ok-clause-unwritten : goal.returns-in-Ok-clause-unwritten
 returns-in-Ok-clause-unwritten g c = c.do_asked.ensures.unwritten
 
+pub returns-in-Ok-clause-besides : goal.returns-in-Ok-clause-besides
+returns-in-Ok-clause-besides g c = rw c.in-Ok.is (rw c.deref.ensures.value at c.do_asked.ensures.besides)
+
+pub returns-in-Ok-clause-short : goal.returns-in-Ok-clause-short
+returns-in-Ok-clause-short g c = rw c.in-Ok.is (rw c.deref.ensures.value at c.do_asked.ensures.short)
+
 pub returns-in-Ok-clause-few : goal.returns-in-Ok-clause-few
 returns-in-Ok-clause-few g c = c.do_asked.ensures.few
 
@@ -62,6 +68,14 @@ returns-in-Err-clause-quiet g c = rw c.in-Err.is tt
 
 pub returns-in-Err-clause-unwritten : goal.returns-in-Err-clause-unwritten
 returns-in-Err-clause-unwritten g c = λ stop. refl
+
+pub returns-in-Err-clause-besides : goal.returns-in-Err-clause-besides
+returns-in-Err-clause-besides g c =
+    let kind = told_as c.from.result c.from-in-Err.result c.from-in-Err.ensures in
+    λ error same. absurd (no_refusal c.from-in-Err.result kind error same)
+
+pub returns-in-Err-clause-short : goal.returns-in-Err-clause-short
+returns-in-Err-clause-short g c = λ memory. inl refl
 
 pub returns-in-Err-clause-begun : goal.returns-in-Err-clause-begun
 returns-in-Err-clause-begun g c = λ kind. inl refl

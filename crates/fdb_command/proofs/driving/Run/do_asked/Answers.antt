@@ -1,11 +1,9 @@
-use Rattle.std.proofs.Common.{◌≡◌, ◌≢◌, ◌⊎◌, [], arith, refl, map, string_bytes, Result, Ok, Err, inl, inr}
+use Rattle.std.proofs.Common.{[], arith, refl, map, string_bytes, Result, Ok, Err, inl, inr}
 use Rattle.std.specs.Prelude.{IfErr, MatchResult, OnErr, OnOk}
 use Rattle.std.proofs.lemmas.Result.{IfErr-weaker, on_ok_weaker}
 use Rattle.fdb_command.specs.Arguments.{AreMatches}
-use Rattle.fdb_command.specs.declared.fault.Fault.{Fault}
-use Rattle.fdb_command.specs.declared.fault.Fault.TheVariants.{Refused, Arguments, Memory}
 use Rattle.std.proofs.KnownBytes.{Consumes-nil}
-use Rattle.fdb_command.proofs.Answered.{failed, is_words, no_finding, no_refusal, not_unwritten, told_as}
+use Rattle.fdb_command.proofs.Answered.{failed, is_words, no_finding, no_refusal, told_as}
 use Rattle.fdb_command.proofs.driving.Run.do_asked.Goals as goal
 
 -- what holds where there is an error holds of each
@@ -17,18 +15,6 @@ of_each (Err e) P Q is = λ q. is
 in_both : {T E : Type 0} (r : Result T E) (P : Type 0) (Q S : E → Type 0) → P → MatchResult r (λ _. P) (λ e. Q e → S e → P)
 in_both (Ok value) P Q S is = is
 in_both (Err e) P Q S is = λ q s. is
-
--- what is not for the arguments left nothing written
-unwritten_of : {T E F : Type 0} (r : Result T (Fault E F)) (P : Type 0) → IfErr r (λ fault. fault ≢ Arguments) → IfErr r (λ fault. ((error : E) × (fault ≡ Refused error)) ⊎ (fault ≡ Memory) → P)
-    → IfErr r (λ fault. ((error : E) × (fault ≡ Refused error)) ⊎ ((fault ≡ Arguments) ⊎ (fault ≡ Memory)) → P)
-unwritten_of (Ok value) P own is = tt
-unwritten_of (Err fault) P own is = λ kind. elim kind [
-  | inl refused ↦ is (inl refused)
-  | inr other ↦ elim other [
-    | inl words ↦ absurd (own words)
-    | inr memory ↦ is (inr memory)
-  ]
-]
 
 -- what holds in any case holds where a result is no fault
 on_any : {T E : Type 0} (r : Result T E) (P : Type 0) → P → OnOk r P
@@ -78,7 +64,19 @@ returns-in-Input-clause-quiet g c =
     c.run_on.ensures.quiet arguments matches
 
 pub returns-in-Input-clause-unwritten : goal.returns-in-Input-clause-unwritten
-returns-in-Input-clause-unwritten g c = unwritten_of c.run_on.result _ c.run_on.ensures.own c.run_on.ensures.unwritten
+returns-in-Input-clause-unwritten g c = IfErr-weaker c.run_on.result _ _ (λ fault own is. absurd (own is)) c.run_on.ensures.own
+
+pub returns-in-Input-clause-besides : goal.returns-in-Input-clause-besides
+returns-in-Input-clause-besides g c =
+    let arguments = map string_bytes c.args.arguments.now in
+    let matches : AreMatches g.P.Program.promise.app arguments c.in-Input.matches = rw c.in-Input.is at c.in_ok-help.ensures.ok in
+    c.run_on.ensures.besides arguments matches
+
+pub returns-in-Input-clause-short : goal.returns-in-Input-clause-short
+returns-in-Input-clause-short g c =
+    let arguments = map string_bytes c.args.arguments.now in
+    let matches : AreMatches g.P.Program.promise.app arguments c.in-Input.matches = rw c.in-Input.is at c.in_ok-help.ensures.ok in
+    c.run_on.ensures.short arguments matches
 
 pub returns-in-Input-clause-wrong : goal.returns-in-Input-clause-wrong
 returns-in-Input-clause-wrong g c = IfErr-weaker c.run_on.result _ _ (λ fault own is. absurd (own is)) c.run_on.ensures.own
@@ -119,6 +117,17 @@ returns-in_err-help-clause-unwritten g c =
     let (made, is, told) = failed c.from_residual.result _ c.from_residual.ensures.1 in
     rw is (λ stop. refl)
 
+pub returns-in_err-help-clause-besides : goal.returns-in_err-help-clause-besides
+returns-in_err-help-clause-besides g c =
+    let (made, is, told) = failed c.from_residual.result _ c.from_residual.ensures.1 in
+    let kind = told_as c.in_err-help.field-0.0 made told in
+    rw is (λ error same. absurd (no_refusal made kind error same))
+
+pub returns-in_err-help-clause-short : goal.returns-in_err-help-clause-short
+returns-in_err-help-clause-short g c =
+    let (made, is, told) = failed c.from_residual.result _ c.from_residual.ensures.1 in
+    rw is (λ memory. inl refl)
+
 pub returns-in_err-help-clause-begun : goal.returns-in_err-help-clause-begun
 returns-in_err-help-clause-begun g c =
     let (made, is, told) = failed c.from_residual.result _ c.from_residual.ensures.1 in
@@ -128,7 +137,7 @@ pub returns-in_err-help-clause-left : goal.returns-in_err-help-clause-left
 returns-in_err-help-clause-left g c = λ none. refl
 
 pub returns-in_err-help-clause-quiet : goal.returns-in_err-help-clause-quiet
-returns-in_err-help-clause-quiet g c = λ none. refl
+returns-in_err-help-clause-quiet g c = λ none unsaid. refl
 
 pub returns-in_err-help-clause-few : goal.returns-in_err-help-clause-few
 returns-in_err-help-clause-few g c = ([], omega arith, Consumes-nil _)
@@ -153,18 +162,24 @@ pub returns-in-Help-clause-wrong : goal.returns-in-Help-clause-wrong
 returns-in-Help-clause-wrong g c = IfErr-weaker c.show.result _ _ (λ fault writing words. absurd (cc)) c.show.ensures
 
 pub returns-in-Help-clause-unwritten : goal.returns-in-Help-clause-unwritten
-returns-in-Help-clause-unwritten g c = IfErr-weaker c.show.result _ _ (λ fault writing stop. absurd (not_unwritten fault writing stop)) c.show.ensures
+returns-in-Help-clause-unwritten g c = IfErr-weaker c.show.result _ _ (λ fault writing words. absurd (cc)) c.show.ensures
+
+pub returns-in-Help-clause-besides : goal.returns-in-Help-clause-besides
+returns-in-Help-clause-besides g c = IfErr-weaker c.show.result _ _ (λ fault writing error same. absurd (cc)) c.show.ensures
+
+pub returns-in-Help-clause-short : goal.returns-in-Help-clause-short
+returns-in-Help-clause-short g c = IfErr-weaker c.show.result _ _ (λ fault writing memory. absurd (cc)) c.show.ensures
 
 pub returns-in-Help-clause-begun : goal.returns-in-Help-clause-begun
 returns-in-Help-clause-begun g c =
     let help = rw c.in-Help.is at c.in_ok-help.ensures.ok in
-    IfErr-weaker c.show.result _ _ (λ fault writing kind. inr (inl help)) c.show.ensures
+    IfErr-weaker c.show.result _ _ (λ fault writing kind. inr (inr (inl help))) c.show.ensures
 
 pub returns-in-Help-clause-left : goal.returns-in-Help-clause-left
 returns-in-Help-clause-left g c = λ none. refl
 
 pub returns-in-Help-clause-quiet : goal.returns-in-Help-clause-quiet
-returns-in-Help-clause-quiet g c = λ none. refl
+returns-in-Help-clause-quiet g c = λ none unsaid. refl
 
 pub returns-in-Help-clause-few : goal.returns-in-Help-clause-few
 returns-in-Help-clause-few g c = ([], omega arith, Consumes-nil _)

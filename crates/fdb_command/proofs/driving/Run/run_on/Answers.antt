@@ -1,40 +1,53 @@
 use Rattle.std.proofs.Common.{inl, inr, None, Some, refl}
 use Rattle.std.proofs.lemmas.Result.{IfErr-weaker, on_err_weaker, on_ok_weaker}
-use Rattle.fdb_command.proofs.Answered.{begun, no_stop, not_words, two_kinds, written}
+use Rattle.fdb_command.proofs.Answered.{begun, refused_besides, written}
 use Rattle.fdb_command.proofs.driving.Run.run_on.Goals as goal
 
 pub returns-in-Ok-clause-done : goal.returns-in-Ok-clause-done
 returns-in-Ok-clause-done g c = λ arguments matches.
     on_ok_weaker c.put.result
-    (written g.P.Program.promise arguments (g.I.Read.remaining c.args.input.now) c.in-Ok.answer.found None c.in-Ok.answer.text.items (g.O.Write.contents c.args.out.now) (g.O.Write.contents c.put.new.out)
-    (c.in-Ok.ensures.printed arguments matches))
+    (λ all. written g.P.Program.promise arguments (g.I.Read.remaining c.args.input.now) c.in-Ok.answer None None g.O.Write.contents c.args.out.now c.answer_of.new.out c.put.new.out (c.in-Ok.ensures.printed arguments matches) all.0 all.1 all.2)
     c.put.ensures.done
 
 pub returns-in-Ok-clause-faulty : goal.returns-in-Ok-clause-faulty
 returns-in-Ok-clause-faulty g c = λ arguments matches.
     IfErr-weaker c.put.result _ _
-    (λ fault gives found is. inr (
+    (λ fault gives found is. let all = gives found is in inr (
       found,
-      written g.P.Program.promise arguments (g.I.Read.remaining c.args.input.now) c.in-Ok.answer.found (Some found) c.in-Ok.answer.text.items (g.O.Write.contents c.args.out.now) (g.O.Write.contents c.put.new.out)
-          (c.in-Ok.ensures.printed arguments matches) (gives found is),
+      c.in-Ok.answer.refused,
+      written g.P.Program.promise arguments (g.I.Read.remaining c.args.input.now) c.in-Ok.answer (Some found) c.in-Ok.answer.refused g.O.Write.contents c.args.out.now c.answer_of.new.out c.put.new.out
+          (c.in-Ok.ensures.printed arguments matches) all.0 refl all.1,
     ))
     c.put.ensures.found
 
-pub returns-in-Ok-clause-unwritten : goal.returns-in-Ok-clause-unwritten
-returns-in-Ok-clause-unwritten g c = no_stop c.put.result _ c.put.ensures.kinds
+pub returns-in-Ok-clause-besides : goal.returns-in-Ok-clause-besides
+returns-in-Ok-clause-besides g c = λ arguments matches.
+    IfErr-weaker c.put.result _ _
+    (λ fault gives error is. let all = gives error is in inr (
+      error,
+      written g.P.Program.promise arguments (g.I.Read.remaining c.args.input.now) c.in-Ok.answer None (Some error) g.O.Write.contents c.args.out.now c.answer_of.new.out c.put.new.out
+          (c.in-Ok.ensures.printed arguments matches) all.0 all.1 all.2,
+    ))
+    c.put.ensures.refused
+
+pub returns-in-Ok-clause-refused : goal.returns-in-Ok-clause-refused
+returns-in-Ok-clause-refused g c = λ arguments matches.
+    let (told, put, printed) = c.in-Ok.ensures.printed arguments matches in
+    IfErr-weaker c.put.result _ _
+    (λ fault gives error is. refused_besides g.P.Program.promise arguments (g.I.Read.remaining c.args.input.now) _ _ _ printed error (gives error is).1)
+    c.put.ensures.refused
+
+pub returns-in-Ok-clause-short : goal.returns-in-Ok-clause-short
+returns-in-Ok-clause-short g c = λ arguments matches. IfErr-weaker c.put.result _ _ (λ fault kind is. absurd (kind.1 is)) c.put.ensures.kinds
 
 pub returns-in-Ok-clause-begun : goal.returns-in-Ok-clause-begun
 returns-in-Ok-clause-begun g c = λ arguments matches.
     on_err_weaker c.put.result
-    (λ how. inr (begun g.P.Program.promise arguments (g.I.Read.remaining c.args.input.now) c.in-Ok.answer.found c.in-Ok.answer.text.items (g.O.Write.contents c.args.out.now) (g.O.Write.contents c.put.new.out)
-    (c.in-Ok.ensures.printed arguments matches) how))
+    (λ how. inr (inr (begun g.P.Program.promise arguments (g.I.Read.remaining c.args.input.now) c.in-Ok.answer g.O.Write.contents c.args.out.now c.answer_of.new.out c.put.new.out (c.in-Ok.ensures.printed arguments matches) how)))
     c.put.ensures.begun
 
-pub returns-in-Ok-clause-refused : goal.returns-in-Ok-clause-refused
-returns-in-Ok-clause-refused g c = λ arguments matches. IfErr-weaker c.put.result _ _ (λ fault kind error is. absurd (two_kinds fault kind (inl (error, is)))) c.put.ensures.kinds
-
-pub returns-in-Err-clause-faulty : goal.returns-in-Err-clause-faulty
-returns-in-Err-clause-faulty g c = λ arguments matches found is. inl (refl, c.in-Err.ensures.faulty arguments matches found is)
+pub returns-in-Ok-clause-own : goal.returns-in-Ok-clause-own
+returns-in-Ok-clause-own g c = IfErr-weaker c.put.result _ _ (λ fault kind. kind.0) c.put.ensures.kinds
 
 pub returns-in-Ok-clause-left : goal.returns-in-Ok-clause-left
 returns-in-Ok-clause-left g c = c.answer_of.ensures.left
@@ -45,8 +58,26 @@ returns-in-Ok-clause-quiet g c = c.answer_of.ensures.quiet
 pub returns-in-Ok-clause-few : goal.returns-in-Ok-clause-few
 returns-in-Ok-clause-few g c = c.answer_of.ensures.few
 
-pub returns-in-Ok-clause-own : goal.returns-in-Ok-clause-own
-returns-in-Ok-clause-own g c = IfErr-weaker c.put.result _ _ not_words c.put.ensures.kinds
+pub returns-in-Err-clause-done : goal.returns-in-Err-clause-done
+returns-in-Err-clause-done g c = λ arguments matches. tt
+
+pub returns-in-Err-clause-refused : goal.returns-in-Err-clause-refused
+returns-in-Err-clause-refused g c = c.in-Err.ensures.refused
+
+pub returns-in-Err-clause-faulty : goal.returns-in-Err-clause-faulty
+returns-in-Err-clause-faulty g c = λ arguments matches found is. inl (c.in-Err.ensures.begun arguments matches, c.in-Err.ensures.faulty arguments matches found is)
+
+pub returns-in-Err-clause-own : goal.returns-in-Err-clause-own
+returns-in-Err-clause-own g c = c.in-Err.ensures.own
+
+pub returns-in-Err-clause-besides : goal.returns-in-Err-clause-besides
+returns-in-Err-clause-besides g c = λ arguments matches error is. inl (c.in-Err.ensures.begun arguments matches)
+
+pub returns-in-Err-clause-short : goal.returns-in-Err-clause-short
+returns-in-Err-clause-short g c = λ arguments matches is. c.in-Err.ensures.begun arguments matches
+
+pub returns-in-Err-clause-begun : goal.returns-in-Err-clause-begun
+returns-in-Err-clause-begun g c = λ arguments matches. elim (c.in-Err.ensures.begun arguments matches) [ inl same ↦ inl same | inr told ↦ inr (inl told) ]
 
 pub returns-in-Err-clause-left : goal.returns-in-Err-clause-left
 returns-in-Err-clause-left g c = c.answer_of.ensures.left
@@ -56,18 +87,3 @@ returns-in-Err-clause-quiet g c = c.answer_of.ensures.quiet
 
 pub returns-in-Err-clause-few : goal.returns-in-Err-clause-few
 returns-in-Err-clause-few g c = c.answer_of.ensures.few
-
-pub returns-in-Err-clause-done : goal.returns-in-Err-clause-done
-returns-in-Err-clause-done g c = λ arguments matches. tt
-
-pub returns-in-Err-clause-refused : goal.returns-in-Err-clause-refused
-returns-in-Err-clause-refused g c = c.in-Err.ensures.refused
-
-pub returns-in-Err-clause-own : goal.returns-in-Err-clause-own
-returns-in-Err-clause-own g c = c.in-Err.ensures.own.0
-
-pub returns-in-Err-clause-unwritten : goal.returns-in-Err-clause-unwritten
-returns-in-Err-clause-unwritten g c = λ stop. refl
-
-pub returns-in-Err-clause-begun : goal.returns-in-Err-clause-begun
-returns-in-Err-clause-begun g c = λ arguments matches. inl refl

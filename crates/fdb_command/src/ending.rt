@@ -1,0 +1,60 @@
+//! The text of an answer, and the fault that it tells of.
+
+ghost use Rattle.std.specs.Prelude.{◌≡◌, ◌≢◌, IfErr, None, OnErr, OnOk, Some};
+ghost use Rattle.std.specs.Io.KnownBytes.{Appends};
+ghost use Rattle.fdb_command.specs.Output.{TakesAny};
+
+use crate::fault::Fault;
+use crate::output::write_flushed;
+use crate::program::Answer;
+use std::fmt::{Debug, Display};
+use std::io::Write;
+
+/// Writes an answer, and flushes it. Fails with the fault that it tells of, where it tells of one,
+/// and else as a part of the input was refused, if one was.
+pub(crate) fn put<E: Debug + Display + Drop, F: Debug + Display + Drop, W: Write>(
+    answer: Answer<E, F>,
+    out: &mut W,
+) -> Result<(), Fault<E, F>>
+    ensures done { OnOk result ((answer.found ≡ None) × (answer.refused ≡ None)
+        × Appends (W.contents out.old) (W.contents out.new) answer.text.items) }
+    ensures found { IfErr result (λ fault. (found : F) → fault ≡ Fault.Found found
+        → (answer.found ≡ Some found)
+        × Appends (W.contents out.old) (W.contents out.new) answer.text.items) }
+    ensures refused { IfErr result (λ fault. (error : E) → fault ≡ Fault.Refused error
+        → (answer.found ≡ None) × (answer.refused ≡ Some error)
+        × Appends (W.contents out.old) (W.contents out.new) answer.text.items) }
+    ensures begun { OnErr result
+        (TakesAny answer.text.items (W.contents out.old) (W.contents out.new)) }
+    ensures kinds { IfErr result (λ fault. (fault ≢ Fault.Arguments) × (fault ≢ Fault.Memory)) }
+{
+    let Answer {
+        text,
+        found,
+        refused,
+    } = answer;
+    match write_flushed(out, &text) {
+        Ok(()) => ended(found, refused),
+        Err(_) => Err(Fault::Writing),
+    }
+}
+
+/// How a program ends whose text is written: with the fault that was found, or else as a part of the
+/// input was refused.
+fn ended<E: Debug + Display + Drop, F: Debug + Display + Drop>(
+    found: Option<F>,
+    refused: Option<E>,
+) -> Result<(), Fault<E, F>>
+    ensures done { OnOk result ((found ≡ None) × (refused ≡ None)) }
+    ensures found { IfErr result (λ fault. (finding : F) → fault ≡ Fault.Found finding
+        → found ≡ Some finding) }
+    ensures refused { IfErr result (λ fault. (error : E) → fault ≡ Fault.Refused error
+        → (found ≡ None) × (refused ≡ Some error)) }
+    ensures kinds { IfErr result (λ fault. (fault ≢ Fault.Arguments) × (fault ≢ Fault.Memory)) }
+{
+    match (found, refused) {
+        (Some(found), _) => Err(Fault::Found(found)),
+        (None, Some(error)) => Err(Fault::Refused(error)),
+        (None, None) => Ok(()),
+    }
+}
