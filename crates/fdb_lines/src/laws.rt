@@ -1,7 +1,7 @@
 //! Laws of the definitions. The functions do nothing: each stands for its contract.
 
 ghost use Rattle.std.specs.Prelude.{ℕ, ◌<◌, ◌≤◌, ◌≡◌, ◌≢◌, ◌↔◌, ◌++◌, ◌∷◌, [], List, Option};
-ghost use Rattle.std.specs.Prelude.{length, map, slice_index, true, IsTrue, Some};
+ghost use Rattle.std.specs.Prelude.{length, map, not, slice_index, true, IfSome, IsTrue, Some};
 ghost use Rattle.std.specs.List.{filter};
 ghost use Rattle.fdb_lines.specs.declared.act.Act.{Act};
 ghost use Rattle.fdb_lines.specs.declared.fault.Fault.{Fault};
@@ -21,7 +21,7 @@ ghost use Rattle.fdb_lines.specs.Explained.{Explains, IsLegal, precedes};
 ghost use Rattle.fdb_lines.specs.Steps.{runs, fresh};
 ghost use Rattle.fdb_lines.specs.Faults.{stands, IsFaultless};
 ghost use Rattle.fdb_lines.specs.Order.{IsRanked, history};
-ghost use Rattle.fdb_lines.specs.Watching.{is_due, told_of};
+ghost use Rattle.fdb_lines.specs.Watching.{begins_before, is_due, told_of};
 
 /// No fault is invented: where some history explains the lines, none stands.
 pub fn nothing_is_invented()
@@ -121,6 +121,22 @@ pub fn what_was_told_stays()
         → ((j : ℕ) → j < length more → to ≤ began (line_at more j))
         → let due = is_due from early since (Some to) in
         told_of margin due (lines ++ more) ≡ told_of margin due lines }
+{}
+
+/// Windows add up: a watch that settles up to a moment and then further, or for good, tells of lines
+/// that had all come what it would tell at once: first of those that began before the moment, and
+/// then of the others.
+pub fn windows_add_up()
+    ensures before { (margin from early since to : ℕ) (later : Option ℕ) (lines : List Line)
+        → IfSome later (λ last. to ≤ last)
+        → told_of margin (is_due from early since (Some to)) lines
+        ≡ filter (λ (found : Found). begins_before (Some to) (line_at lines found.line))
+        (told_of margin (is_due from early since later) lines) }
+    ensures after { (margin from early since to early_on : ℕ) (later : Option ℕ) (lines : List Line)
+        → from ≤ to
+        → told_of margin (is_due to early_on (length lines) later) lines
+        ≡ filter (λ (found : Found). not (begins_before (Some to) (line_at lines found.line)))
+        (told_of margin (is_due from early since later) lines) }
 {}
 
 /// The faults of a log with keys that stand at lines of one key are all those of its lines, each
