@@ -42,3 +42,4 @@ pub mod SeenByKey
 pub mod SettledByKey
 pub mod KeptByKey
 pub mod Windows
+pub mod StillReasoned
