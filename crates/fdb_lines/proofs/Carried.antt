@@ -338,7 +338,7 @@ module _ (margin at : ℕ) (lines more : List Line) (from : (j : ℕ) → j < le
   abbrev both : List Line
   both = lines ++ more
 
-  first_line : (j : ℕ) → j < length lines → line_at both j ≡ line_at lines j
+  pub first_line : (j : ℕ) → j < length lines → line_at both j ≡ line_at lines j
   first_line j lj = get_or_append_left lines more nobody j lj
 
   not_before : (above : Bool) (one other : Line) → above ≡ false → at ≤ began one → began other ≤ at → (end : Option ℕ) → ended one ≡ end → ended_before margin above one end other ≡ false
@@ -354,7 +354,7 @@ module _ (margin at : ℕ) (lines more : List Line) (from : (j : ℕ) → j < le
   lets_first : (j k : ℕ) → j < length lines → k < length lines → lets margin lets_know both k j ≡ lets margin lets_know lines k j
   lets_first j k lj lk = rw (first_line j lj, first_line k lk) refl
 
-  lets_none : (j k : ℕ) → length lines ≤ j → j < length both → k < length lines → began (line_at lines k) ≤ at → lets margin lets_know both k j ≡ false
+  pub lets_none : (j k : ℕ) → length lines ≤ j → j < length both → k < length lines → began (line_at lines k) ≤ at → lets margin lets_know both k j ≡ false
   lets_none j k ge lj lk to =
       let none = not_before (nat_lt j k) (line_at both j) (line_at both k) (grind (arith, nat_tests)) (new_line j ge lj) (rw (first_line k lk) to) _ refl in
       rw none refl

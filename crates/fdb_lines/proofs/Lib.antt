@@ -41,3 +41,5 @@ pub mod PutOn
 pub mod SeenByKey
 pub mod SettledByKey
 pub mod KeptByKey
+pub mod Windows
+pub mod StillReasoned

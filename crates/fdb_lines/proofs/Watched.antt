@@ -24,7 +24,7 @@ use Rattle.fdb_lines.proofs.Carried.{at_part, new_line, settled, stand_for_all}
 abbrev passes : (ℕ → Bool) → Found → Bool
 passes test found = is_watched found.fault && test found.line
 
-one_by : (p : Found → Bool) (b q : Bool) (x : Found) → p x ≡ q → filter p (cond b (x ∷ []) []) ≡ cond q (cond b (x ∷ []) []) []
+pub one_by : (p : Found → Bool) (b q : Bool) (x : Found) → p x ≡ q → filter p (cond b (x ∷ []) []) ≡ cond q (cond b (x ∷ []) []) []
 one_by p true true x e = rw e refl
 one_by p true false x e = rw e refl
 one_by p false true x e = refl

@@ -1,7 +1,7 @@
 //! Laws of the definitions. The functions do nothing: each stands for its contract.
 
 ghost use Rattle.std.specs.Prelude.{ℕ, ◌<◌, ◌≤◌, ◌≡◌, ◌≢◌, ◌↔◌, ◌++◌, ◌∷◌, [], List, Option};
-ghost use Rattle.std.specs.Prelude.{length, map, slice_index, true, IsTrue, Some};
+ghost use Rattle.std.specs.Prelude.{length, map, not, slice_index, true, IfSome, IsTrue, Some};
 ghost use Rattle.std.specs.List.{filter};
 ghost use Rattle.fdb_lines.specs.declared.act.Act.{Act};
 ghost use Rattle.fdb_lines.specs.declared.fault.Fault.{Fault};
@@ -9,6 +9,7 @@ ghost use Rattle.fdb_lines.specs.declared.fault.Fault.TheVariants.{Order, NotAbo
 ghost use Rattle.fdb_lines.specs.declared.fault.Found.{Found};
 ghost use Rattle.fdb_lines.specs.declared.line.Line.{Line};
 ghost use Rattle.fdb_lines.specs.declared.opts.AuditOpts.{AuditOpts};
+ghost use Rattle.fdb_lines.specs.declared.reason.Finding.{Finding};
 ghost use Rattle.fdb_lines.specs.Audit.{AreExplained, case_of};
 ghost use Rattle.fdb_lines.specs.Before.{began};
 ghost use Rattle.fdb_lines.specs.Carried.{with_times, AreLeftBelow, StandFor};
@@ -21,7 +22,9 @@ ghost use Rattle.fdb_lines.specs.Explained.{Explains, IsLegal, precedes};
 ghost use Rattle.fdb_lines.specs.Steps.{runs, fresh};
 ghost use Rattle.fdb_lines.specs.Faults.{stands, IsFaultless};
 ghost use Rattle.fdb_lines.specs.Order.{IsRanked, history};
-ghost use Rattle.fdb_lines.specs.Watching.{is_due, told_of};
+ghost use Rattle.fdb_lines.specs.Reasons.{HasReason};
+ghost use Rattle.fdb_lines.specs.Watching.{begins_before, is_due, is_watched, opts_of};
+ghost use Rattle.fdb_lines.specs.Watching.{told_of};
 
 /// No fault is invented: where some history explains the lines, none stands.
 pub fn nothing_is_invented()
@@ -115,12 +118,35 @@ pub fn they_go_on_to_stand_for_all()
         → StandFor margin at lines (map (slice_index places) kept) }
 {}
 
-/// What is told of the lines that began before a moment stays, whatever begins then or later.
+/// What is told of the lines that began before a moment stays, whatever begins then or later, and so
+/// does why it stands.
 pub fn what_was_told_stays()
-    ensures { (margin from early since to : ℕ) (lines more : List Line)
+    ensures told { (margin from early since to : ℕ) (lines more : List Line)
         → ((j : ℕ) → j < length more → to ≤ began (line_at more j))
         → let due = is_due from early since (Some to) in
         told_of margin due (lines ++ more) ≡ told_of margin due lines }
+    ensures reasons { (margin to : ℕ) (lines more : List Line) (finding : Finding)
+        → ((j : ℕ) → j < length more → to ≤ began (line_at more j))
+        → let found = finding.found in found.line < length lines
+        → began (line_at lines found.line) < to → is_watched found.fault ≡ true
+        → HasReason (with_times lines) (opts_of margin) finding
+        → HasReason (with_times (lines ++ more)) (opts_of margin) finding }
+{}
+
+/// Windows add up: a watch that settles up to a moment and then further, or for good, tells of lines
+/// that had all come what it would tell at once: first of those that began before the moment, and
+/// then of the others.
+pub fn windows_add_up()
+    ensures before { (margin from early since to : ℕ) (later : Option ℕ) (lines : List Line)
+        → IfSome later (λ last. to ≤ last)
+        → told_of margin (is_due from early since (Some to)) lines
+        ≡ filter (λ (found : Found). begins_before (Some to) (line_at lines found.line))
+        (told_of margin (is_due from early since later) lines) }
+    ensures after { (margin from early since to early_on : ℕ) (later : Option ℕ) (lines : List Line)
+        → from ≤ to
+        → told_of margin (is_due to early_on (length lines) later) lines
+        ≡ filter (λ (found : Found). not (begins_before (Some to) (line_at lines found.line)))
+        (told_of margin (is_due from early since later) lines) }
 {}
 
 /// The faults of a log with keys that stand at lines of one key are all those of its lines, each
