@@ -8,3 +8,4 @@ pub mod ReadsBack
 pub mod Scanned
 pub mod UsualForm
 pub mod ShownTexts
+pub mod SingleLines

@@ -21,8 +21,8 @@ use Rattle.serde_json.specs.Written.{compact_text, has_float}
 use Rattle.fdb_log_reader.specs.Columns.{ArePrinted, IsText, ShownColumn, all_shown, nothing_shown, shown_of, text_at, value_in, with_shown}
 use Rattle.fdb_log_reader.specs.Printed.{shown_text, IsWritten}
 use Rattle.fdb_log_reader.specs.declared.shown.Shown.{Shown}
-use Rattle.fdb_log_reader.specs.Numbers.{number_in, with_name, AreWithin}
-use Rattle.fdb_log_reader.specs.private.{HaveCells, IsFlat, IsMore}
+use Rattle.fdb_log_reader.specs.Numbers.{number_in, with_name, AreWithin, IsMore}
+use Rattle.fdb_log_reader.specs.private.{HaveCells, IsFlat}
 use Rattle.fdb_log_reader.proofs.Room.{few_names}
 use Rattle.fdb_log_reader.specs.private.Texts.{AreJson}
 
@@ -66,7 +66,7 @@ values_more names more numbers cell said is within says =
     map-append (value_in more) numbers (cell ∷ [])
     ∙ (ap (λ values. values ++ value_in more cell ∷ []) (values_kept names more numbers is within) ∙ ap (λ value. map (value_in names) numbers ++ value ∷ []) says)
 
-within_some : (names more : List (List ℕ)) (cell : Option ℕ) → IsMore names more → IfSome cell (λ n. n < length names) → IfSome cell (λ n. n < length more)
+pub within_some : (names more : List (List ℕ)) (cell : Option ℕ) → IsMore names more → IfSome cell (λ n. n < length names) → IfSome cell (λ n. n < length more)
 within_some names more None is within = tt
 within_some names more (Some n) is within = let count = ap length is.1 ∙ length-append names is.0 in omega arith
 

@@ -29,9 +29,10 @@ use Rattle.fdb_log_reader.specs.declared.usual.Usual.{Usual}
 use Rattle.fdb_lines.specs.declared.log.TheConstants.{MAX_LINES}
 use Rattle.fdb_log_reader.specs.declared.reader.TheConstants.{MAX_LINE_BYTES}
 use Rattle.fdb_log_reader.specs.Members.{and_then, call_of, client_of, name_of, times_of}
-use Rattle.fdb_log_reader.specs.Columns.{KeyColumn, ShownColumn, all_shown, key_in, keyed, shown_of, with_key}
+use Rattle.fdb_log_reader.specs.Columns.{ShownColumn, all_shown, key_in, shown_of, with_key}
 use Rattle.fdb_log_reader.specs.declared.shown.Shown.{Shown}
 use Rattle.fdb_log_reader.specs.Numbers.{client_in, with_client}
+use Rattle.fdb_log_reader.specs.Parts.{SaidParts, key_said, parts_said}
 use Rattle.fdb_log_reader.specs.Reading.{Reading, or_not_json, pushed, reading_of, value_of, with_line, with_said, with_value}
 use Rattle.fdb_log_reader.specs.declared.named_log.NamedLog.{NamedLog}
 use Rattle.fdb_log_reader.specs.private.{shows}
@@ -247,25 +248,33 @@ ended bytes rest after name further told line next reads is small says comes =
 -- ---- the whole line
 
 -- of what members say beside those with a name of their own, just that is read which has the key
-keyed_same : (keys : Option KeyColumn) (call : Call) (beside said : List ℕ → Option Data) → IfSome (option_map (λ column. column.member) keys) (λ name. beside name ≡ said name)
-    → keyed keys call beside ≡ keyed keys call said
-keyed_same None call beside said same = refl
-keyed_same (Some column) call beside said same =
-    ap (λ (key : Option Data). if is_learn (kind_of call) then Err (BadMember Learn) else and_then (key_in key) (λ key. Ok (Some (with_key column key)))) same
+key_same : (member : Option (List ℕ)) (call : Call) (beside said : List ℕ → Option Data) → IfSome member (λ name. beside name ≡ said name)
+    → key_said member call beside ≡ key_said member call said
+key_same None call beside said same = refl
+key_same (Some member) call beside said same =
+    ap (λ (key : Option Data). if is_learn (kind_of call) then Err (BadMember Learn) else key_in key) same
+
+pub parts_same : (names : List (List ℕ)) (member : Option (List ℕ)) (says : Member → Option Data) (beside said : List ℕ → Option Data) → IfSome member (λ name. beside name ≡ said name)
+    → parts_said names member says beside ≡ parts_said names member says said
+parts_same names member says beside said same =
+    ap (λ (key_with : Call → Result (Option (List ℕ)) Why).
+    and_then (client_of says) (λ client.
+    and_then (call_of names says) (λ call.
+    and_then (times_of says) (λ times.
+    and_then (key_with call) (λ key.
+    Ok (record { client = client; call = call; times = times; key = key }))))))
+    (λ i call. key_same member call beside said same i)
 
 beside_same : (reading : Reading) (says : Member → Option Data) (beside said : List ℕ → Option Data) → IfSome (option_map (λ column. column.member) reading.keys) (λ name. beside name ≡ said name)
     → reading.shown ≡ [] → with_said reading says beside ≡ with_said reading says said
 beside_same reading says beside said same hidden =
-    ap₂ (λ (keys_with : Call → Result (Option KeyColumn) Why) (shown : List ShownColumn).
-    and_then (client_of says) (λ client.
-    and_then (call_of reading.names says) (λ call.
-    and_then (times_of says) (λ times.
-    and_then (keys_with call) (λ keys.
-    let names = with_client reading.names client in
-    and_then (pushed reading.log (record { client = client_in names client; call = call; times = times })) (λ log.
-    Ok (record { log = log; names = names; keys = keys; shown = shown })))))))
-    (λ i call. keyed_same reading.keys call beside said same i)
-    (ap (all_shown beside) hidden ∙ sym (ap (all_shown said) hidden))
+    let shown : all_shown beside reading.shown ≡ all_shown said reading.shown = ap (all_shown beside) hidden ∙ sym (ap (all_shown said) hidden) in
+    ap₂ (λ (parts : Result SaidParts Why) (shown : List ShownColumn).
+    and_then parts (λ parts.
+    let names = with_client reading.names parts.client in
+    and_then (pushed reading.log (record { client = client_in names parts.client; call = parts.call; times = parts.times })) (λ log.
+    Ok (record { log = log; names = names; keys = option_map (λ column. with_key column parts.key) reading.keys; shown = shown }))))
+    (parts_same reading.names (option_map (λ column. column.member) reading.keys) says beside said same) shown
 
 pub stands : (bytes : List ℕ) (further : Option (List ℕ)) (line : Usual) → IsUtf8 bytes → IsReadAs bytes further line → StandsFor bytes further line
 stands bytes further line text is = (

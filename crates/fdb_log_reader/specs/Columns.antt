@@ -4,14 +4,12 @@ use Rattle.std.specs.Option.{ok_or, option_flatten}
 use Rattle.json.specs.Strict.{AreDistinct}
 use Rattle.serde_json.specs.Data.{Data}
 use Rattle.serde_json.specs.Read.{read}
-use Rattle.fdb_lines.specs.declared.line.Call.{Call}
-use Rattle.fdb_lines.specs.Lines.{Lines, is_learn, kind_of}
+use Rattle.fdb_lines.specs.Lines.{Lines}
 use Rattle.fdb_log_reader.specs.declared.error.Why.{Why}
-use Rattle.fdb_log_reader.specs.declared.error.Why.TheVariants.{BadKey, BadMember}
+use Rattle.fdb_log_reader.specs.declared.error.Why.TheVariants.{BadKey}
 use Rattle.fdb_log_reader.specs.declared.keys.Keys.{Keys}
 use Rattle.fdb_log_reader.specs.declared.shown.Shown.{Shown}
-use Rattle.fdb_log_reader.specs.declared.member.Member.TheVariants.{Learn}
-use Rattle.fdb_log_reader.specs.Members.{and_then, as_name}
+use Rattle.fdb_log_reader.specs.Members.{as_name}
 use Rattle.fdb_log_reader.specs.Names.{names_of}
 use Rattle.fdb_log_reader.specs.Numbers.{client_in, with_client, AreWithin}
 use Rattle.fdb_log_reader.specs.Printed.{shown_text, IsWritten}
@@ -41,13 +39,6 @@ with_key column key =
 abbrev pub key_in : Option Data → Result (Option (List ℕ)) Why
 key_in None = Ok None
 key_in (Some said) = ok_or (option_map Some (as_name said)) BadKey
-
--- The keys, if they are kept, with that of a line more, by what its members say. Beside keys no line has learnt.
-abbrev pub keyed : Option KeyColumn → Call → (List ℕ → Option Data) → Result (Option KeyColumn) Why
-keyed None call says = Ok None
-keyed (Some column) call says =
-    if is_learn (kind_of call) then Err (BadMember Learn)
-    else and_then (key_in (says column.member)) (λ key. Ok (Some (with_key column key)))
 
 -- ---- what is shown of lines
 

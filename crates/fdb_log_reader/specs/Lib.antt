@@ -3,7 +3,10 @@ pub mod Names
 pub mod Printed
 pub mod Members
 pub mod Columns
+pub mod Parts
 pub mod Reading
 pub mod Text
 pub mod Reader
+pub mod ReadLine
+pub mod LineReader
 pub mod private

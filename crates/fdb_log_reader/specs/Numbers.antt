@@ -1,5 +1,5 @@
 -- The numbers of clients, by their names in the order in which they came. (this product's own)
-use Rattle.std.specs.Prelude.{ℕ, ◌<◌, List, [], ◌∷◌, ◌++◌, All, Option, None, Some, IfSome, option_and_then, is_some, length, if◌then◌else◌, position}
+use Rattle.std.specs.Prelude.{◌≡◌, ℕ, ◌<◌, List, [], ◌∷◌, ◌++◌, All, Option, None, Some, IfSome, option_and_then, is_some, length, if◌then◌else◌, position}
 use Rattle.std.specs.Str.{bytes_eq}
 
 -- the number of a client: the place of its name
@@ -21,3 +21,7 @@ client_in names client = option_and_then (number_in names) client
 -- each line that has a number has a text
 abbrev pub AreWithin : List (List ℕ) → List (Option ℕ) → Type 0
 AreWithin texts numbers = All (λ number. IfSome number (λ n. n < length texts)) numbers
+
+-- names of which the first are these
+abbrev pub IsMore : List (List ℕ) → List (List ℕ) → Type 0
+IsMore names more = (new : List (List ℕ)) × (more ≡ names ++ new)

@@ -18,10 +18,11 @@ use Rattle.fdb_log_reader.specs.declared.member.Member.{Member}
 use Rattle.fdb_log_reader.specs.declared.member.Member.TheVariants.{Client, Learn}
 use Rattle.fdb_log_reader.specs.declared.named_log.NamedLog.{NamedLog}
 use Rattle.fdb_log_reader.specs.declared.reader.TheConstants.{MAX_LINE_BYTES}
-use Rattle.fdb_log_reader.specs.Columns.{KeyColumn, ShownColumn, all_shown, column_of, keyed, no_keys, nothing_shown, shown_of}
-use Rattle.fdb_log_reader.specs.Members.{and_then, call_of, client_of, member_of, times_of}
+use Rattle.fdb_log_reader.specs.Columns.{KeyColumn, ShownColumn, all_shown, column_of, no_keys, nothing_shown, shown_of, with_key}
+use Rattle.fdb_log_reader.specs.Members.{and_then, member_of}
 use Rattle.fdb_log_reader.specs.Names.{names_of}
 use Rattle.fdb_log_reader.specs.Numbers.{client_in, with_client}
+use Rattle.fdb_log_reader.specs.Parts.{SaidParts, parts_said}
 
 -- ---- the lines of a text, which line feeds end
 
@@ -62,16 +63,17 @@ added_unless (Some error) log line = Err (why_of error)
 abbrev pub pushed : Lines → Line → Result Lines Why
 pushed log line = added_unless (refusal_of log line) log line
 
--- what has been read with a line more, by what its members say, and those beside them
+-- what has been read with a line more that says this
+abbrev pub with_parts : Reading → (List ℕ → Option Data) → SaidParts → Result Reading Why
+with_parts reading beside parts =
+    let names = with_client reading.names parts.client in
+    and_then (pushed reading.log (record { client = client_in names parts.client; call = parts.call; times = parts.times })) (λ log.
+    Ok (record { log = log; names = names; keys = option_map (λ column. with_key column parts.key) reading.keys; shown = all_shown beside reading.shown }))
+
+-- by what its members say, and those beside them
 abbrev pub with_said : Reading → (Member → Option Data) → (List ℕ → Option Data) → Result Reading Why
 with_said reading says beside =
-    and_then (client_of says) (λ client.
-    and_then (call_of reading.names says) (λ call.
-    and_then (times_of says) (λ times.
-    and_then (keyed reading.keys call beside) (λ keys.
-    let names = with_client reading.names client in
-    and_then (pushed reading.log (record { client = client_in names client; call = call; times = times })) (λ log.
-    Ok (record { log = log; names = names; keys = keys; shown = all_shown beside reading.shown }))))))
+    and_then (parts_said reading.names (option_map (λ column. column.member) reading.keys) says beside) (with_parts reading beside)
 
 -- and by its JSON value
 abbrev pub with_value : Reading → Data → Result Reading Why

@@ -1,9 +1,10 @@
 -- What a log and its names owe each other, and what a line has not. (this product's own)
 pub mod Codes
 pub mod Feeding
+pub mod Following
 pub mod Texts
 pub mod Usual
-use Rattle.std.specs.Prelude.{◌≡◌, ℕ, ◌≤◌, false, List, ◌++◌, All, length, map, Option, IfSome, option_map}
+use Rattle.std.specs.Prelude.{◌≡◌, ℕ, ◌≤◌, false, List, All, length, map, Option, IfSome, option_map}
 use Rattle.serde_json.specs.Data.{Data, depth}
 use Rattle.serde_json.specs.Read.{max_depth}
 use Rattle.fdb_lines.specs.Lines.{Lines}
@@ -35,10 +36,6 @@ HasRoom named = HasPlaces named × HaveCells (length (lines_of named.log).lines)
 -- what has been read, with these columns shown
 abbrev pub shows : List ShownColumn → Reading → Reading
 shows columns reading = record { log = reading.log; names = reading.names; keys = reading.keys; shown = columns }
-
--- names of which the first are these
-abbrev pub IsMore : List (List ℕ) → List (List ℕ) → Type 0
-IsMore names more = (new : List (List ℕ)) × (more ≡ names ++ new)
 
 -- no member nests deeper than a JSON text may that is read
 abbrev pub IsFlat : (List ℕ → Option Data) → Type 0

@@ -7,12 +7,16 @@
 
 mod error;
 mod keys;
+mod known_names;
+mod line_reader;
 mod member;
 mod name_numbers;
 mod named_log;
 mod names;
 mod parsing;
+mod parts;
 mod printing;
+mod read_line;
 mod reader;
 mod said;
 mod scanning;
@@ -22,9 +26,11 @@ mod usual;
 
 pub use error::{ReadError, Why};
 pub use keys::Keys;
+pub use line_reader::LineReader;
 pub use member::Member;
 pub use named_log::NamedLog;
 pub use names::Names;
 pub use printing::printed_name;
+pub use read_line::ReadLine;
 pub use reader::{LogReader, MAX_LINE_BYTES, read_log};
 pub use shown::Shown;

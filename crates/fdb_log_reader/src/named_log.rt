@@ -1,26 +1,29 @@
 //! A log with the names of its clients, and how a line is added to it.
 
-ghost use Rattle.std.specs.Prelude.{◌≡◌, ◌⊎◌, ◌+◌, ◌≤◌, ◌<◌, Err, Ok, IfOk, IfSome, OnOk};
-ghost use Rattle.std.specs.Prelude.{MatchResult, length, option_map};
-ghost use Rattle.fdb_log_reader.specs.Columns.{all_shown, column_of, keyed};
+ghost use Rattle.std.specs.Prelude.{◌≡◌, ◌⊎◌, ◌+◌, ◌≤◌, ◌<◌, ℕ, List, Option, Err, Ok};
+ghost use Rattle.std.specs.Prelude.{IfOk, IfSome, OnOk, MatchResult, length, option_map};
+ghost use Rattle.serde_json.specs.Data.{Data};
+ghost use Rattle.fdb_log_reader.specs.Columns.{all_shown, column_of, with_key};
 ghost use Rattle.fdb_log_reader.specs.Names.{names_of};
 ghost use Rattle.fdb_log_reader.specs.Numbers.{client_in, with_client};
-ghost use Rattle.fdb_log_reader.specs.Reading.{reading_of, with_line, with_said, with_value};
+ghost use Rattle.fdb_log_reader.specs.Parts.{parts_of};
+ghost use Rattle.fdb_log_reader.specs.Reading.{reading_of, with_line, with_parts, with_said};
+ghost use Rattle.fdb_log_reader.specs.Reading.{with_value};
 ghost use Rattle.fdb_log_reader.specs.private.{HasPlaces, HasRoom, IsFlat, shows};
 ghost use Rattle.serde_json.specs.Find.{get};
 ghost use Rattle.serde_json.specs.View.{view};
 
 use crate::error::Why;
 use crate::keys::Keys;
-use crate::member::Member;
 use crate::names::Names;
-use crate::parsing::{call_of, client_of, key_in, times_of, value_of};
+use crate::parsing::value_of;
+use crate::parts::{Parts, parts_of};
 use crate::reader::MAX_LINE_BYTES;
 use crate::said::Said;
 use crate::showing::add_shown;
 use crate::shown::Shown;
 use crate::usual::usual_of;
-use fdb_lines::{Call, Line, Log, MAX_LINES};
+use fdb_lines::{Line, Log, MAX_LINES};
 use itoa::Buffer;
 use serde_json::Value;
 use std::alloc::{AllocError, Global};
@@ -104,43 +107,48 @@ fn add_said<S: Said>(named: &mut NamedLog, alloc: Global, line: &S) -> Result<()
         ≡ Err why)) }
 {
     let mut digits = Buffer::new();
-    let name = client_of(line, &mut digits)?;
-    let call = call_of(line, &named.names)?;
-    let times = times_of(line)?;
-    add_key(&mut named.keys, alloc, &call, line)?;
-    let client = add_client(&mut named.names, alloc, name)?;
+    let mut key_digits = Buffer::new();
+    let member = key_member(&named.keys);
+    let parts = parts_of(line, &named.names, member, &mut digits, &mut key_digits)?;
+    add_parts(named, alloc, parts)
+}
+
+/// Adds a line that says this, but not what is shown of it. After an error the log is not to be read
+/// on.
+fn add_parts(named: &mut NamedLog, alloc: Global, parts: Parts<'_>) -> Result<(), Why>
+    requires has_places { HasPlaces named.old }
+    requires few { length (reading_of named.old).log.lines < MAX_LINES }
+    ensures has_places { OnOk result (HasPlaces named.new) }
+    ensures one { OnOk result (length (reading_of named.new).log.lines
+        ≡ length (reading_of named.old).log.lines + 1) }
+    ensures shown { OnOk result (named.new.shown ≡ named.old.shown) }
+    ensures read { (beside : List ℕ → Option Data) → MatchResult result
+        (λ _. with_parts (reading_of named.old) beside (parts_of parts.entry)
+        ≡ Ok (shows (all_shown beside (reading_of named.old).shown) (reading_of named.new)))
+        (λ why. (why ≡ Why.Memory)
+        ⊎ (with_parts (reading_of named.old) beside (parts_of parts.entry) ≡ Err why)) }
+{
+    add_key(&mut named.keys, alloc, parts.key)?;
+    let client = add_client(&mut named.names, alloc, parts.client)?;
     named.log.push(Line {
         client,
-        call,
-        times,
+        call: parts.call,
+        times: parts.times,
     })?;
     Ok(())
 }
 
 /// Adds the key of a line, where keys are kept.
-fn add_key<S: Said>(
-    keys: &mut Option<Keys>,
-    alloc: Global,
-    call: &Call,
-    line: &S,
-) -> Result<(), Why>
+fn add_key(keys: &mut Option<Keys>, alloc: Global, key: Option<&str>) -> Result<(), AllocError>
     requires few { IfSome keys.old (λ keys. length (column_of keys).keys < MAX_LINES) }
-    ensures { MatchResult result
-        (λ _. keyed (option_map column_of keys.old) call.now (S.says_beside line.now)
-        ≡ Ok (option_map column_of keys.new))
-        (λ why. (why ≡ Why.Memory)
-        ⊎ (keyed (option_map column_of keys.old) call.now (S.says_beside line.now) ≡ Err why)) }
+    ensures { OnOk result (option_map column_of keys.new
+        ≡ option_map (λ column. with_key column (option_map (λ key. key.now) key.entry))
+        (option_map column_of keys.old)) }
 {
-    let Some(keys) = keys else {
-        return Ok(());
-    };
-    if matches!(call, Call::Learn(_)) {
-        return Err(Why::BadMember(Member::Learn));
+    match keys {
+        Some(keys) => keys.add(alloc, key),
+        None => Ok(()),
     }
-    let mut digits = Buffer::new();
-    let key = key_in(line, keys.member(), &mut digits)?;
-    keys.add(alloc, key)?;
-    Ok(())
 }
 
 /// Adds the name of the client of a line, if it has one. Answers the client's number.

@@ -221,7 +221,7 @@ impl LogReader {
 }
 
 /// The first line of some bytes, and what comes after its line feed, if there is one.
-fn split_line(bytes: &[u8]) -> Option<(&[u8], &[u8])>
+pub(crate) fn split_line(bytes: &[u8]) -> Option<(&[u8], &[u8])>
     ensures { MatchOption result (IsOneLine bytes.now)
         (λ parts. (bytes.now ≡ parts.0.now ++ 10 ∷ parts.1.now) × IsOneLine parts.0.now) }
 {

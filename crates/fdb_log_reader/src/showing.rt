@@ -8,7 +8,8 @@ ghost use Rattle.serde_json.specs.Read.{max_depth};
 ghost use Rattle.serde_json.specs.View.{view};
 ghost use Rattle.fdb_log_reader.specs.Columns.{all_shown, nothing_shown, shown_of, value_in};
 ghost use Rattle.fdb_log_reader.specs.Names.{names_of};
-ghost use Rattle.fdb_log_reader.specs.private.{HaveCells, IsFlat, IsMore};
+ghost use Rattle.fdb_log_reader.specs.Numbers.{IsMore};
+ghost use Rattle.fdb_log_reader.specs.private.{HaveCells, IsFlat};
 ghost use Rattle.fdb_log_reader.specs.private.Texts.{AreJson};
 
 use crate::names::Names;
