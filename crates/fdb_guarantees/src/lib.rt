@@ -8,3 +8,4 @@ pub mod lines;
 pub mod live;
 pub mod master;
 pub mod runs;
+pub mod watches;

@@ -1,11 +1,13 @@
-//! How late calls are, by all lines and by those of each client as a key's, and what a watch tells.
+//! How late calls are, by all lines and by those of each client as a key's, and what a watch tells,
+//! of all lines and by key.
 
 ghost use Rattle.std.specs.Prelude.{◌≡◌};
 
 use crate::logs::parts;
 use fdb_checks::same_text;
 use fdb_lines::{
-    AuditOpts, Finding, Found, Late, Line, Log, Settled, Watch, findings, findings_by_key,
+    AuditOpts, Finding, Found, KeptLine, KeyWatch, Late, Line, Log, Settled, SettledKey, Watch,
+    findings, findings_by_key,
 };
 use fdb_log_reader::read_log;
 use std::alloc::{AllocError, Global};
@@ -127,6 +129,58 @@ fn what_a_watch_tells(rt: HostRuntime) -> Result<(), Fail> {
     for case in WATCHED.lines() {
         let (text, wanted) = parts(alloc, case)?;
         let found = watched(alloc, log_of(alloc, &text).lines())?;
+        same_text(found.trim(), wanted, case)?;
+    }
+    Ok(())
+}
+
+/// What a watch by key tells of lines whose clients are their keys, and whose horizon is 5: before each
+/// line it settles up to where that begins, and after all for good. Behind a bar what it kept last.
+fn watched_by_key(alloc: Global, lines: &[Line]) -> Result<String, AllocError> {
+    let mut text = String::new(alloc);
+    let mut watch = KeyWatch::new(alloc, 0, 5);
+    for line in lines {
+        push_told_by_key(&mut text, &watch.settle(alloc, line.began())?)?;
+        if let Err(error) = watch.push(alloc, line.client, *line) {
+            write!(text, "{error}; ")?;
+        }
+    }
+    let kept = watch.kept(alloc)?;
+    push_told_by_key(&mut text, &watch.finish(alloc)?)?;
+    push_kept(&mut text, &kept)?;
+    Ok(text)
+}
+
+fn push_told_by_key(text: &mut String, told: &[SettledKey]) -> Result<(), AllocError> {
+    for entry in told {
+        push_told(text, &entry.settled)?;
+    }
+    Ok(())
+}
+
+fn push_kept(text: &mut String, kept: &[KeptLine]) -> Result<(), AllocError> {
+    text.push_str("|")?;
+    for KeptLine { number, key, line } in kept {
+        write!(text, " {number} {key:?} {:?};", line.call)?;
+    }
+    Ok(())
+}
+
+/// Each key is told by itself, by the numbers of all lines: a read is late from the end of the commit that
+/// was kept of its key, 31 - 15 and 33 - 13. Of a key that is quiet the newest line that shows a version is
+/// kept, and the newest that draws one; the line that came last may yet matter. Lines without a key are of
+/// one register, and of no other's.
+const WATCHED_BY_KEY: &str =
+    r#"{"client":"a","commit":190,"began":10,"ended":11}|{"client":"b","commit":300,"began":12,"ended":13}|{"client":"a","commit":200,"began":14,"ended":15}|{"client":"a","ask":210,"began":16,"ended":17}|{"client":"a","read":195,"began":31,"ended":32}|{"client":"b","read":250,"began":33,"ended":34}|{"client":"b","read":301,"began":99,"ended":100} => Order 4 16 after 2; Order 5 20 after 1; | 2 Some(0) Commit(200); 3 Some(0) Ask(210); 1 Some(1) Commit(300); 6 Some(1) Read(301);
+{"commit":9,"began":1,"ended":2}|{"client":"a","read":3,"began":4,"ended":5}|{"read":3,"began":6,"ended":7} => Order 2 4 after 0; | 0 None Commit(9); 2 None Read(3); 1 Some(0) Read(3);
+{"client":"a","commit":200}|{"client":"b","read":100} => no times; no times; |"#;
+
+#[test]
+fn what_a_watch_by_key_tells(rt: HostRuntime) -> Result<(), Fail> {
+    let alloc = rt.alloc();
+    for case in WATCHED_BY_KEY.lines() {
+        let (text, wanted) = parts(alloc, case)?;
+        let found = watched_by_key(alloc, log_of(alloc, &text).lines())?;
         same_text(found.trim(), wanted, case)?;
     }
     Ok(())
