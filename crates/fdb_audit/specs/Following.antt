@@ -1,6 +1,6 @@
 -- What is told of a log that is followed as it grows. (this product's own)
-use Rattle.std.specs.Prelude.{◌≡◌, ℕ, ◌+◌, ◌≤◌, ◌++◌, List, [], ◌∷◌, All, Option, None, Some, length, map, option_map, slice_index, string_bytes, take, Result, Ok, Err}
-use Rattle.std.specs.List.{flat_map}
+use Rattle.std.specs.Prelude.{◌≡◌, ℕ, ◌+◌, ◌≤◌, ◌++◌, ◌||◌, nat_le, not, Bool, List, [], ◌∷◌, All, Option, None, Some, count_by, length, map, option_map, slice_get, slice_index, take, Result, Ok, Err, if◌then◌else◌}
+use Rattle.std.specs.Option.{option_or}
 use Rattle.fdb_lines.specs.declared.line.Line.{Line}
 use Rattle.fdb_lines.specs.declared.reason.Finding.{Finding}
 use Rattle.fdb_lines.specs.Carried.{with_times}
@@ -11,10 +11,13 @@ use Rattle.fdb_lines.specs.Lines.{lines_in}
 use Rattle.fdb_lines.specs.Reasons.{found_of, HasReason}
 use Rattle.fdb_lines.specs.Watching.{is_due, opts_of, told_of}
 use Rattle.fdb_log_reader.specs.declared.error.Why.{Why}
+use Rattle.fdb_log_reader.specs.Numbers.{IsMore}
 use Rattle.fdb_log_reader.specs.Printed.{printed}
-use Rattle.fdb_log_reader.specs.ReadLine.{LineNames, SaidLine, line_read, lines_read, names_after, no_names}
+use Rattle.fdb_log_reader.specs.ReadLine.{SaidLine}
 use Rattle.fdb_audit.specs.Judged.{list_text}
-use Rattle.fdb_audit.specs.Text.{Beside, PrintedLog}
+use Rattle.fdb_audit.specs.Text.{Beside, PrintedLog, fault_of}
+use Rattle.fdb_audit.specs.declared.fault.LogFault.{LogFault}
+use Rattle.fdb_audit.specs.declared.judging.Wanted.{Wanted}
 
 -- ---- the lines that are taken, of those that were read
 
@@ -24,30 +27,30 @@ taken [] = []
 taken (Ok said ∷ read) = said ∷ taken read
 taken (Err why ∷ read) = taken read
 
--- the number of each among all lines, counted from one more than those before
-abbrev pub numbers_from : ℕ → List (Result SaidLine Why) → List ℕ
-numbers_from before [] = []
-numbers_from before (Ok said ∷ read) = before + 1 ∷ numbers_from (before + 1) read
-numbers_from before (Err why ∷ read) = numbers_from (before + 1) read
-
 abbrev pub lines_taken : List (Result SaidLine Why) → List Line
-lines_taken read = map (λ said. said.line) (taken read)
+lines_taken read = map (λ (said : SaidLine). said.line) (taken read)
 
 abbrev pub keys_taken : List (Result SaidLine Why) → List (Option ℕ)
-keys_taken read = map (λ said. said.key) (taken read)
+keys_taken read = map (λ (said : SaidLine). said.key) (taken read)
 
--- the names behind some lines
-abbrev pub names_behind : List (List ℕ) → LineNames → List (List ℕ) → LineNames
-names_behind shown names [] = names
-names_behind shown names (line ∷ lines) = names_behind shown (names_after names (line_read shown names line)) lines
+-- for each line that is refused, how many were taken above it
+abbrev pub taken_above : ℕ → List (Result SaidLine Why) → List ℕ
+taken_above above [] = []
+taken_above above (Ok said ∷ read) = taken_above (above + 1) read
+taken_above above (Err why ∷ read) = above ∷ taken_above above read
+
+-- The number of a line among all, counted from 1, by how many were taken above it: these, and those that were refused above.
+abbrev pub number_in : List (Result SaidLine Why) → ℕ → ℕ
+number_in read above = above + 1 + count_by (λ refused. nat_le refused above) (taken_above 0 read)
 
 -- ---- what is told of a key at a moment
 
--- How many lines had been read; of which key it is told; which of the key's lines had been kept; at which of its lines it was
--- time to tell: those that began from one moment on and before another, and those since a number that came late, from an
--- earlier moment on; and what was found, by places among the lines that were kept.
+-- How many lines had been read, and the names of clients among them; which key it is; which of the key's lines had been kept;
+-- at which of its lines it was time to tell: those that began from one moment on and before another, and those since a number
+-- that came late, from an earlier moment on; and what was found, by places among the lines that had been kept.
 pub record Window : Type 0 where
   pub read : ℕ
+  pub names : List (List ℕ)
   pub key : Option ℕ
   pub kept : List ℕ
   pub from : ℕ
@@ -63,3 +66,44 @@ pub record IsFoundIn (margin : ℕ) (lines : List Line) (window : Window) : Type
       ≡ told_of margin (is_due window.from window.early window.since window.to) lines
   pub reasons : All (λ finding. HasReason (with_times lines) (opts_of margin) (placed_finding window.kept finding)) window.found
   pub late : All (λ finding. HasLateSince window.early (with_times lines) (opts_of margin) (placed_finding window.kept finding)) window.found
+
+-- the places of those lines among all that were taken
+abbrev pub places_in : List (Result SaidLine Why) → Window → List ℕ
+places_in read window = map (slice_index (places_of (keys_taken read) window.key)) window.kept
+
+-- what is printed of them
+abbrev pub printed_in : List (Result SaidLine Why) → Window → List Beside → PrintedLog
+printed_in read window beside = record {
+  lines = lines_in (lines_taken read) (places_in read window);
+  names = map printed window.names;
+  numbers = map (number_in read) (places_in read window);
+  beside = beside;
+}
+
+-- whether faults are told, and not their totals alone
+abbrev pub lists : Wanted → Bool
+lists wanted = wanted.all || not wanted.totals
+
+abbrev pub told_text : Wanted → PrintedLog → List Finding → List ℕ
+told_text wanted it found = if lists wanted then list_text wanted.json it found else []
+
+-- what is told of a key at a moment, of the lines that had been read by then
+pub record IsWindow (margin : ℕ) (wanted : Wanted) (read : List (Result SaidLine Why)) (window : Window) (text : List ℕ) : Type 0 where
+  pub found : IsFoundIn margin (lines_of_one (lines_taken read) (keys_taken read) window.key) window
+  pub beside : List Beside
+  pub text : text ≡ told_text wanted (printed_in read window beside) window.found
+
+-- the first fault that is told, by the number of its line
+abbrev pub first_in : List (Result SaidLine Why) → Window → Option LogFault
+first_in read window = option_map (λ finding. fault_of (map (number_in read) (places_in read window)) (found_of finding)) (slice_get window.found 0)
+
+abbrev pub first_told : List (Result SaidLine Why) → List Window → Option LogFault
+first_told read [] = None
+first_told read (window ∷ windows) = option_or (first_in (take window.read read) window) (first_told read windows)
+
+-- What is told of all lines that were read, one moment after another: names of clients keep their numbers.
+abbrev pub AreWindows : ℕ → Wanted → List (Result SaidLine Why) → List (List ℕ) → List Window → List ℕ → Type 0
+AreWindows margin wanted read names [] text = text ≡ []
+AreWindows margin wanted read names (window ∷ windows) text =
+    (first rest : List ℕ) × (text ≡ first ++ rest) × (window.read ≤ length read) × IsMore window.names names
+    × IsWindow margin wanted (take window.read read) window first × AreWindows margin wanted read names windows rest

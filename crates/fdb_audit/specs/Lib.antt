@@ -4,5 +4,6 @@ pub mod Objects
 pub mod Totals
 pub mod Groups
 pub mod Judged
+pub mod Following
 pub mod Program
 pub mod private

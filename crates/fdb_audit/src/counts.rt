@@ -4,7 +4,7 @@ use fdb_lines::{Call, Line};
 use std::alloc::AllocError;
 use std::fmt::Write;
 
-/// How many lines were read, and how they came.
+/// How many lines were taken, of each kind, and how they came.
 #[derive(Clone, Copy, Debug, PartialEq, Eq)]
 pub(crate) struct Counts {
     /// Lines that were taken.
@@ -13,8 +13,6 @@ pub(crate) struct Counts {
     pub commits: u64,
     pub asks: u64,
     pub reports: u64,
-    /// Lines that were refused.
-    pub refused: u64,
     /// Lines that began before what had been settled.
     pub early: u64,
 }
@@ -28,7 +26,6 @@ impl Counts {
             commits: 0,
             asks: 0,
             reports: 0,
-            refused: 0,
             early: 0,
         }
     }
@@ -48,21 +45,21 @@ impl Counts {
         }
     }
 
-    /// Writes them in words.
-    pub(crate) fn push_words(&self, out: &mut String) -> Result<(), AllocError> {
+    /// Writes them in words, with how many lines were refused.
+    pub(crate) fn push_words(&self, out: &mut String, refused: u64) -> Result<(), AllocError> {
         let (lines, reads, commits) = (self.lines, self.reads, self.commits);
         let (asks, reports) = (self.asks, self.reports);
-        let (refused, early) = (self.refused, self.early);
+        let early = self.early;
         write!(out, " lines {lines} reads {reads} commits {commits}")?;
         write!(out, " asks {asks} reports {reports}")?;
         write!(out, " refused {refused} early {early}")
     }
 
-    /// Writes them as a JSON object.
-    pub(crate) fn push_object(&self, out: &mut String) -> Result<(), AllocError> {
+    /// Writes them as a JSON object, with how many lines were refused.
+    pub(crate) fn push_object(&self, out: &mut String, refused: u64) -> Result<(), AllocError> {
         let (lines, reads, commits) = (self.lines, self.reads, self.commits);
         let (asks, reports) = (self.asks, self.reports);
-        let (refused, early) = (self.refused, self.early);
+        let early = self.early;
         write!(
             out,
             "{{\"lines\":{lines},\"reads\":{reads},\"commits\":{commits}"

@@ -1,12 +1,13 @@
 //! An audit that follows a log as it grows.
 
 use crate::arguments::AuditArguments;
-use crate::counts::Counts;
 use crate::fault::LogFault;
-use crate::teller::{Said, Teller};
-use fdb_lines::{KeyWatch, Line, WatchError};
-use fdb_log_reader::{LineReader, ReadError, ReadLine, Why};
+use crate::taking::Taking;
+use crate::teller::Teller;
+use fdb_lines::KeyWatch;
+use fdb_log_reader::{LineReader, ReadError, Why};
 use std::alloc::{AllocError, Global};
+use std::mem::replace;
 
 /// After so many lines a watch settles, if more is there to be read.
 const STRIDE: u64 = 8_192;
@@ -18,17 +19,19 @@ const STRIDE: u64 = 8_192;
 pub struct Follower {
     alloc: Global,
     reader: LineReader,
-    watch: KeyWatch,
+    taking: Taking,
     teller: Teller,
     /// How far behind the newest end a line that comes may begin.
     behind: u64,
-    /// The newest moment at which a call has ended.
-    newest: u64,
-    /// How many lines came since it settled.
-    unsettled: u64,
-    counts: Counts,
-    /// The last line that was refused, if one was.
-    refused: Option<ReadError>,
+}
+
+/// What is to be said of a log that is followed.
+#[derive(Debug, Drop)]
+pub struct Said {
+    /// For the output: sentences or objects, a line for each.
+    pub text: String,
+    /// For standard error: a line for each line that was refused.
+    pub warnings: String,
 }
 
 /// What is left to be said at the end of a log that was followed.
@@ -37,132 +40,97 @@ pub struct Followed {
     pub said: Said,
     /// The first fault that was told, if one was.
     pub found: Option<LogFault>,
-    /// The last line that was refused, if one was, or that there was none.
+    /// The last line that was refused, if one was, or that there is no line.
     pub refused: Option<ReadError>,
 }
 
 impl Follower {
     /// An audit that has read no line, as the arguments ask for it. A line that comes may begin so far
     /// behind the newest end. It fails only where memory is refused.
-    pub fn new(
-        alloc: Global,
-        asked: &AuditArguments,
-        behind: u64,
-    ) -> Result<Self, AllocError> {
+    pub fn new(alloc: Global, asked: &AuditArguments, behind: u64) -> Result<Self, AllocError> {
+        let reader = LineReader::new(alloc, asked.key.as_deref(), &asked.shown)?;
+        let taking = Taking::new(alloc, asked.opts.margin, behind, &asked.shown)?;
+        let teller = Teller::new(alloc, asked, taking.rows.members())?;
         Ok(Follower {
             alloc,
-            reader: LineReader::new(alloc, asked.key.as_deref(), &asked.shown)?,
-            watch: KeyWatch::new(alloc, asked.opts.margin, behind),
-            teller: Teller::new(alloc, asked)?,
+            reader,
+            taking,
+            teller,
             behind,
-            newest: 0,
-            unsettled: 0,
-            counts: Counts::new(),
-            refused: None,
         })
     }
 
     /// How many lines have been taken.
     pub fn line_count(&self) -> u64 {
-        self.counts.lines
+        self.taking.counts.lines
     }
 
     /// Reads on. An error says that memory was refused.
     pub fn feed(&mut self, bytes: &[u8]) -> Result<(), AllocError> {
         let lines = self.reader.feed(self.alloc, bytes)?;
         for line in lines {
-            self.take(line)?;
+            self.taking.take(line)?;
         }
         Ok(())
-    }
-
-    /// Takes a line, or leaves it out where it is refused.
-    fn take(&mut self, read: Result<ReadLine, Why>) -> Result<(), AllocError> {
-        match read {
-            Ok(read) => self.add(read),
-            Err(why) => self.leave_out(why),
-        }
-    }
-
-    /// Adds a line.
-    fn add(&mut self, read: ReadLine) -> Result<(), AllocError> {
-        let ReadLine { line, key, shown } = read;
-        match self.watch.push(self.alloc, key, line) {
-            Ok(()) => {}
-            Err(WatchError::NoTimes) => return self.leave_out(Why::SomeTimes),
-            Err(WatchError::Line(_)) => return Err(AllocError),
-        }
-        self.teller.keep(self.counts.lines, shown)?;
-        self.note(&line);
-        Ok(())
-    }
-
-    /// Notes when a line that was added began and ended, and counts it.
-    fn note(&mut self, line: &Line) {
-        self.counts.add(line, self.watch.settled_to());
-        self.newest = self.newest.max(line.ended().unwrap_or(0));
-        self.unsettled = self.unsettled.saturating_add(1);
-    }
-
-    /// Leaves a line out, and says why.
-    fn leave_out(&mut self, why: Why) -> Result<(), AllocError> {
-        self.counts.refused = self.counts.refused.saturating_add(1);
-        let line = self.counts.lines.saturating_add(self.counts.refused);
-        let error = ReadError { line, why };
-        self.refused = Some(error);
-        self.teller.leave_out(error)
     }
 
     /// What is to be said before more is read: what has become certain, once some thousand lines have
     /// come since it was said, or where no more may come for a while.
     pub fn tell(&mut self, is_idle: bool) -> Result<Said, AllocError> {
-        if self.unsettled >= STRIDE || (is_idle && self.unsettled > 0) {
+        let unsettled = self.taking.unsettled;
+        if unsettled >= STRIDE || (is_idle && unsettled > 0) {
             self.settle()?;
         }
-        Ok(self.teller.say(self.alloc))
+        Ok(self.say())
     }
 
     /// Settles as far as lines that come may not begin any more.
     fn settle(&mut self) -> Result<(), AllocError> {
-        let at = self.newest.saturating_sub(self.behind);
-        let told = self.watch.settle(self.alloc, at)?;
-        self.unsettled = 0;
-        self.teller.tell_all(self.alloc, &self.reader, &told)
+        let at = self.taking.newest.saturating_sub(self.behind);
+        let told = self.taking.watch.settle(self.alloc, at)?;
+        self.taking.unsettled = 0;
+        self.teller
+            .tell_all(self.alloc, &self.reader, &self.taking, &told)?;
+        self.taking.rows.let_go_all(&told);
+        Ok(())
+    }
+
+    /// What is to be said next; nothing of it is left then.
+    fn say(&mut self) -> Said {
+        Said {
+            text: replace(&mut self.teller.text, String::new(self.alloc)),
+            warnings: replace(&mut self.taking.warnings, String::new(self.alloc)),
+        }
     }
 
     /// What is left to be said, where the log ends here: what is open, and the totals.
     pub fn finish(mut self) -> Result<Followed, AllocError> {
         if let Some(last) = self.reader.finish(self.alloc)? {
-            self.take(last)?;
+            self.taking.take(last)?;
         }
-        let Follower {
-            alloc,
-            reader,
-            watch,
-            mut teller,
-            behind,
-            counts,
-            refused,
-            ..
-        } = self;
-        let told = watch.finish(alloc)?;
-        teller.tell_all(alloc, &reader, &told)?;
-        teller.end(alloc, &reader, &counts, behind)?;
+        self.settle_for_good()?;
+        self.teller
+            .end(self.alloc, &self.reader, &self.taking, self.behind)?;
+        let said = self.say();
+        let refused = match self.taking.refused {
+            None if self.taking.counts.lines == 0 => Some(ReadError {
+                line: 0,
+                why: Why::Empty,
+            }),
+            refused => refused,
+        };
         Ok(Followed {
-            said: teller.say(alloc),
-            found: teller.found(),
-            refused: or_empty(refused, &counts),
+            said,
+            found: self.teller.first,
+            refused,
         })
     }
-}
 
-/// Why a log that was followed is refused in part, or that it has no line.
-fn or_empty(refused: Option<ReadError>, counts: &Counts) -> Option<ReadError> {
-    if refused.is_none() && counts.lines == 0 {
-        return Some(ReadError {
-            line: 0,
-            why: Why::Empty,
-        });
+    /// Settles all.
+    fn settle_for_good(&mut self) -> Result<(), AllocError> {
+        let watch = replace(&mut self.taking.watch, KeyWatch::new(self.alloc, 0, 0));
+        let told = watch.finish(self.alloc)?;
+        self.teller
+            .tell_all(self.alloc, &self.reader, &self.taking, &told)
     }
-    refused
 }

@@ -110,7 +110,12 @@ fn add_totals(
 
 impl View<'_> {
     /// Writes some faults, in their order: a sentence or an object for each.
-    pub(crate) fn push_list(self, out: &mut String, json: bool, found: &[Finding]) -> Result<(), AllocError>
+    pub(crate) fn push_list(
+        self,
+        out: &mut String,
+        json: bool,
+        found: &[Finding],
+    ) -> Result<(), AllocError>
         ensures { OnOk result (string_bytes out.new
             ≡ string_bytes out.old ++ list_text json (shown_in self.entry) found.now) }
     {

@@ -8,10 +8,9 @@ ghost use Rattle.fdb_command.specs.Driving.{IsDriven, Stops};
 
 use crate::arguments::{AuditArguments, command, members, owned, text, wanted_of};
 use crate::fault::{LogFault, told};
-use crate::follower::{Followed, Follower};
+use crate::follower::{Followed, Follower, Said};
 use crate::judging::{Judgement, judge_named_by};
 use crate::refused::LogsRefused;
-use crate::teller::Said;
 use clap::{ArgMatches, Command};
 use fdb_command::{Answer, Fault, Program, Told, is_given, number};
 use fdb_lines::AuditOpts;
@@ -80,8 +79,7 @@ impl Program for Audit {
                 Ok(AuditIntake::Followed(follower))
             }
             None => {
-                let reader =
-                    LogReader::with_columns(alloc, asked.key.as_deref(), &asked.shown)?;
+                let reader = LogReader::with_columns(alloc, asked.key.as_deref(), &asked.shown)?;
                 Ok(AuditIntake::Whole(reader))
             }
         }
@@ -170,11 +168,13 @@ fn ended(
     follower: Follower,
 ) -> Result<Answer<LogsRefused, LogFault>, Fault<LogsRefused, LogFault>> {
     match follower.finish() {
-        Ok(Followed {
-            said,
-            found,
-            refused,
-        }) => Ok(Answer {
+        Ok(
+            Followed {
+                said,
+                found,
+                refused,
+            },
+        ) => Ok(Answer {
             text: said.text.into_bytes(),
             found,
             refused: refused.map(|error| LogsRefused { error }),

@@ -1,7 +1,7 @@
 //! What is shown beside the lines that a watch keeps.
 
 use crate::beside::MemberBeside;
-use fdb_lines::Settled;
+use fdb_lines::{Settled, SettledKey};
 use fdb_log_reader::{printed_name, shown_text};
 use std::alloc::{AllocError, Global};
 use std::collections::BTreeMap;
@@ -35,11 +35,7 @@ impl Rows {
     }
 
     /// Keeps the texts of a line.
-    pub(crate) fn add(
-        &mut self,
-        line: u64,
-        texts: Vec<Option<String>>,
-    ) -> Result<(), AllocError> {
+    pub(crate) fn add(&mut self, line: u64, texts: Vec<Option<String>>) -> Result<(), AllocError> {
         if !self.members.is_empty() {
             self.texts.insert(line, texts)?;
         }
@@ -122,10 +118,17 @@ impl Rows {
     }
 
     /// Lets go the texts of the lines that are not kept on.
-    pub(crate) fn let_go(&mut self, settled: &Settled) {
+    pub(crate) fn let_go_all(&mut self, told: &[SettledKey]) {
         if self.members.is_empty() {
             return;
         }
+        for entry in told {
+            self.let_go(&entry.settled);
+        }
+    }
+
+    /// The same of the lines of a key.
+    fn let_go(&mut self, settled: &Settled) {
         let mut kept = 0;
         for (place, line) in settled.numbers.iter().enumerate() {
             if settled.kept.get(kept).copied() == Some(place as u32) {

@@ -1,92 +1,73 @@
-//! What a watch tells, as it is printed.
+//! What is told of a log that is followed, as it is printed.
+
+ghost use Rattle.std.specs.Prelude.{◌≡◌, ℕ, [], All, IfOk, List, None, OnOk, Option, Result};
+ghost use Rattle.std.specs.Prelude.{string_bytes};
+ghost use Rattle.fdb_lines.specs.declared.key_part.KeyPart.{KeyPart};
+ghost use Rattle.fdb_lines.specs.KeyWatch.{AreTold};
+ghost use Rattle.fdb_log_reader.specs.LineReader.{line_names};
+ghost use Rattle.fdb_log_reader.specs.ReadLine.{SaidLine};
+ghost use Rattle.fdb_log_reader.specs.declared.error.Why.{Why};
+ghost use Rattle.fdb_audit.specs.Following.{keys_taken, lines_taken};
+ghost use Rattle.fdb_audit.specs.private.Followed.{AreNumbered, TellsOn};
 
 use crate::arguments::AuditArguments;
 use crate::beside::MemberBeside;
 use crate::counts::Counts;
 use crate::fault::LogFault;
-use crate::numbering::Numbering;
+use crate::judging::Wanted;
 use crate::object::push_truth;
-use crate::refused::LogsRefused;
-use crate::rows::Rows;
+use crate::taking::Taking;
 use crate::told_faults::{Column, ToldFaults};
 use crate::view::View;
-use fdb_lines::{Finding, Settled, SettledKey};
-use fdb_log_reader::{LineReader, Names, ReadError, printed_name};
+use fdb_lines::{Finding, SettledKey};
+use fdb_log_reader::{LineReader, Names, printed_name};
 use std::alloc::{AllocError, Global};
 use std::fmt::Write;
 use std::mem::replace;
 
-/// What is to be said of a log that is followed.
-#[derive(Debug, Drop)]
-pub struct Said {
-    /// For the output: sentences or objects, a line for each.
-    pub text: String,
-    /// For standard error: a line for each line that was refused.
-    pub warnings: String,
-}
-
-/// What is to be said of a watch, and what it takes to say it.
+/// What is told of a log that is followed, and what it takes to print it.
 #[derive(Drop)]
 pub(crate) struct Teller {
-    /// Whether faults are told, and not the totals alone.
-    lists: bool,
-    json: bool,
-    margin: u64,
+    pub(crate) wanted: Wanted,
+    pub(crate) margin: u64,
     /// The member that has the keys, as its name is printed, if they are kept.
-    key: Option<String>,
-    numbering: Numbering,
-    rows: Rows,
+    pub(crate) key: Option<String>,
     /// The faults that were told, where totals are wanted.
-    told: Option<ToldFaults>,
+    pub(crate) told: Option<ToldFaults>,
     /// The first fault that was found, if one was.
-    first: Option<LogFault>,
+    pub(crate) first: Option<LogFault>,
     /// What is to be written to the output next.
-    text: String,
-    /// Whole lines that are to be written to standard error next.
-    warnings: String,
+    pub(crate) text: String,
 }
 
 impl Teller {
     /// Nothing has been told.
-    pub(crate) fn new(alloc: Global, asked: &AuditArguments) -> Result<Self, AllocError> {
+    pub(crate) fn new(
+        alloc: Global,
+        asked: &AuditArguments,
+        members: &[String],
+    ) -> Result<Self, AllocError>
+        ensures text { IfOk result (λ teller. string_bytes teller.text ≡ []) }
+        ensures first { IfOk result (λ teller. teller.first ≡ None) }
+        ensures wanted { IfOk result (λ teller. teller.wanted ≡ asked.now.wanted) }
+    {
         let key = match &asked.key {
             Some(key) => Some(printed_name(alloc, key)?),
             None => None,
         };
-        let rows = Rows::new(alloc, &asked.shown)?;
         let told = if asked.wanted.totals {
-            Some(ToldFaults::new(alloc, key.as_deref(), rows.members())?)
+            Some(ToldFaults::new(alloc, key.as_deref(), members)?)
         } else {
             None
         };
         Ok(Teller {
-            lists: asked.wanted.all || !asked.wanted.totals,
-            json: asked.wanted.json,
+            wanted: asked.wanted,
             margin: asked.opts.margin,
             key,
-            numbering: Numbering::new(alloc),
-            rows,
             told,
             first: None,
             text: String::new(alloc),
-            warnings: String::new(alloc),
         })
-    }
-
-    /// Keeps what is shown of a line, by how many were taken before.
-    pub(crate) fn keep(
-        &mut self,
-        taken: u64,
-        shown: Vec<Option<String>>,
-    ) -> Result<(), AllocError> {
-        self.rows.add(taken, shown)
-    }
-
-    /// Says that a line is left out, and why.
-    pub(crate) fn leave_out(&mut self, error: ReadError) -> Result<(), AllocError> {
-        self.numbering.refuse(error.line)?;
-        let refused = LogsRefused { error };
-        writeln!(self.warnings, "fdb_audit: {refused}")
     }
 
     /// Tells what was found of each key.
@@ -94,13 +75,19 @@ impl Teller {
         &mut self,
         alloc: Global,
         reader: &LineReader,
+        taking: &Taking,
         told: &[SettledKey],
-    ) -> Result<(), AllocError> {
+    ) -> Result<(), AllocError>
+        ensures { OnOk result ((read : List (Result SaidLine Why)) → (to : Option ℕ)
+            → (parts : List KeyPart) → (margin : ℕ)
+            → AreNumbered taking.now read → All (λ part. part.watch.margin ≡ margin) parts
+            → AreTold to (lines_taken read) (keys_taken read) parts told.now
+            → TellsOn self.old self.new margin read (line_names reader.now).clients) }
+    {
         for entry in told {
             if !entry.settled.found.is_empty() {
-                self.tell(alloc, reader, entry)?;
+                self.tell(alloc, reader, taking, entry)?;
             }
-            self.rows.let_go(&entry.settled);
         }
         Ok(())
     }
@@ -110,13 +97,14 @@ impl Teller {
         &mut self,
         alloc: Global,
         reader: &LineReader,
+        taking: &Taking,
         entry: &SettledKey,
     ) -> Result<(), AllocError> {
         let settled = &entry.settled;
         let names = reader.names().printed(alloc)?;
-        let numbers = self.numbering.numbers(alloc, settled)?;
+        let numbers = taking.numbering.numbers(alloc, settled)?;
         let keys = keys_of(alloc, entry)?;
-        let texts = self.rows.numbers(alloc, settled)?;
+        let texts = taking.rows.numbers(alloc, settled)?;
         let mut beside = Vec::new(alloc);
         if let Some(member) = &self.key {
             beside.push(MemberBeside {
@@ -125,30 +113,33 @@ impl Teller {
                 numbers: &keys,
             })?;
         }
-        self.rows.add_beside(alloc, settled, &texts, &mut beside)?;
+        taking.rows.add_beside(alloc, settled, &texts, &mut beside)?;
         let view = View {
             log: &settled.log,
             names: &names,
             numbers: &numbers,
             beside: &beside,
         };
-        if self.lists {
-            view.push_list(&mut self.text, self.json, &settled.found)?;
+        self.add(alloc, view, &settled.found)
+    }
+
+    /// Adds faults of a view.
+    fn add(&mut self, alloc: Global, view: View<'_>, found: &[Finding]) -> Result<(), AllocError> {
+        if self.wanted.all || !self.wanted.totals {
+            view.push_list(&mut self.text, self.wanted.json, found)?;
         }
-        count(alloc, &mut self.told, view, &settled.found)?;
-        self.note_first(&numbers, &settled.found);
-        Ok(())
+        self.note_first(view, found);
+        count(alloc, &mut self.told, view, found)
     }
 
     /// Notes the first fault that was found.
-    fn note_first(&mut self, numbers: &[u64], found: &[Finding]) {
+    fn note_first(&mut self, view: View<'_>, found: &[Finding]) {
         if self.first.is_none()
             && let Some(finding) = found.first()
         {
-            let place = finding.found.line as usize;
             self.first = Some(LogFault {
                 fault: finding.found.fault,
-                number: numbers.get(place).copied().unwrap_or(0),
+                number: view.number(finding.found.line),
             });
         }
     }
@@ -158,59 +149,49 @@ impl Teller {
         &mut self,
         alloc: Global,
         reader: &LineReader,
-        counts: &Counts,
+        taking: &Taking,
         behind: u64,
     ) -> Result<(), AllocError> {
-        if self.first.is_none() && !self.json {
-            return push_line(&mut self.text, "audit ok", counts);
+        if self.first.is_none() && !self.wanted.json {
+            return push_line(&mut self.text, "audit ok", taking);
         }
         let Some(told) = replace(&mut self.told, None) else {
             return Ok(());
         };
-        if self.json {
-            self.push_total_object(counts, behind, told.columns())?;
+        if self.wanted.json {
+            self.push_total_object(taking, behind, told.columns())?;
         } else {
-            push_line(&mut self.text, "audit total", counts)?;
+            push_line(&mut self.text, "audit total", taking)?;
         }
         let names = reader.names().printed(alloc)?;
-        told.push(alloc, &mut self.text, self.json, &names)
+        told.push(alloc, &mut self.text, self.wanted.json, &names)
     }
 
     /// Writes how much was read, and by which arguments, as a JSON object.
     fn push_total_object(
         &mut self,
-        counts: &Counts,
+        taking: &Taking,
         behind: u64,
         columns: &[Column],
     ) -> Result<(), AllocError> {
         let (out, margin) = (&mut self.text, self.margin);
         write!(out, "{{\"total\":")?;
-        counts.push_object(out)?;
-        write!(out, ",\"arguments\":{{\"follow\":{behind},\"margin\":{margin},\"by_key\":")?;
+        taking.counts.push_object(out, taking.numbering.count())?;
+        write!(
+            out,
+            ",\"arguments\":{{\"follow\":{behind},\"margin\":{margin},\"by_key\":"
+        )?;
         push_truth(out, self.key.is_some())?;
         write!(out, ",\"members\":[")?;
         push_members(out, columns)?;
         writeln!(out, "]}}}}")
     }
-
-    /// What is to be said next; after it nothing is left to be said.
-    pub(crate) fn say(&mut self, alloc: Global) -> Said {
-        Said {
-            text: replace(&mut self.text, String::new(alloc)),
-            warnings: replace(&mut self.warnings, String::new(alloc)),
-        }
-    }
-
-    /// The first fault that was found, if one was.
-    pub(crate) fn found(&self) -> Option<LogFault> {
-        self.first
-    }
 }
 
 /// Writes a line of words in front of how much was read.
-fn push_line(out: &mut String, words: &str, counts: &Counts) -> Result<(), AllocError> {
+fn push_line(out: &mut String, words: &str, taking: &Taking) -> Result<(), AllocError> {
     write!(out, "{words}")?;
-    counts.push_words(out)?;
+    taking.counts.push_words(out, taking.numbering.count())?;
     writeln!(out)
 }
 

@@ -30,7 +30,7 @@ pub use line_reader::LineReader;
 pub use member::Member;
 pub use named_log::NamedLog;
 pub use names::Names;
-pub use printing::printed_name;
+pub use printing::{printed_name, shown_text};
 pub use read_line::ReadLine;
 pub use reader::{LogReader, MAX_LINE_BYTES, read_log};
 pub use shown::Shown;

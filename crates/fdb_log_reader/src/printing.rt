@@ -22,7 +22,7 @@ pub fn printed_name(alloc: Global, name: &str) -> Result<String, AllocError>
 /// A text, in which what is no text of its line is escaped as in a JSON string.
 ///
 /// Linear in the text.
-pub(crate) fn shown_text(alloc: Global, text: &str) -> Result<String, AllocError>
+pub fn shown_text(alloc: Global, text: &str) -> Result<String, AllocError>
     ensures { IfOk result (λ out. string_bytes out ≡ shown_text text.now) }
 {
     let mut out = String::new(alloc);

@@ -1,0 +1,30 @@
+-- What the parts of a follower hold of the lines that were read. (this product's own)
+use Rattle.std.specs.Prelude.{◌≡◌, ℕ, ◌+◌, ◌<◌, ◌^◌, ◌++◌, List, All, length, string_bytes, Option, Result}
+use Rattle.std.specs.Option.{option_or}
+use Rattle.fdb_lines.specs.KeyWatch.{HasSeenByKey}
+use Rattle.fdb_log_reader.specs.declared.error.Why.{Why}
+use Rattle.fdb_log_reader.specs.ReadLine.{SaidLine}
+use Rattle.fdb_audit.specs.declared.taking.Taking.{Taking}
+use Rattle.fdb_audit.specs.declared.teller.Teller.{Teller}
+use Rattle.fdb_audit.specs.Following.{AreWindows, Window, first_told, keys_taken, lines_taken, taken, taken_above}
+
+-- how many lines were taken above each that was refused; and each line has a number
+pub record AreNumbered (taking : Taking) (read : List (Result SaidLine Why)) : Type 0 where
+  pub above : taking.numbering.above.items ≡ taken_above 0 read
+  pub few : length read < 2 ^ 64
+
+-- the lines that were taken, of those that were read
+pub record AreTaken (taking : Taking) (read : List (Result SaidLine Why)) : Type 0 where
+  pub seen : HasSeenByKey taking.watch (lines_taken read) (keys_taken read)
+  pub numbered : AreNumbered taking read
+  pub count : taking.counts.lines ≡ length (taken read)
+
+-- What is told more, once these lines have been read, whose clients have these names.
+pub record TellsOn (old new : Teller) (margin : ℕ) (read : List (Result SaidLine Why)) (names : List (List ℕ)) : Type 0 where
+  pub windows : List Window
+  pub at : All (λ (window : Window). window.read ≡ length read) windows
+  pub text : List ℕ
+  pub told : AreWindows margin new.wanted read names windows text
+  pub appended : string_bytes new.text ≡ string_bytes old.text ++ text
+  pub first : new.first ≡ option_or old.first (first_told read windows)
+  pub wanted : new.wanted ≡ old.wanted

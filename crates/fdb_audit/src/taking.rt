@@ -1,0 +1,111 @@
+//! The lines of a log that is followed, as they are taken.
+
+ghost use Rattle.std.specs.Prelude.{◌≡◌, ◌++◌, ◌∷◌, [], List, IfOk, OnOk, Result};
+ghost use Rattle.fdb_log_reader.specs.declared.error.Why.{Why};
+ghost use Rattle.fdb_log_reader.specs.ReadLine.{SaidLine, said_in};
+
+use crate::counts::Counts;
+use crate::numbering::Numbering;
+use crate::refused::LogsRefused;
+use crate::rows::Rows;
+use fdb_lines::{KeyWatch, Line, WatchError};
+use fdb_log_reader::{ReadError, ReadLine, Why};
+use std::alloc::{AllocError, Global};
+use std::fmt::Write;
+
+/// The lines that were taken, as far as they may yet come to matter, and how the others came.
+#[derive(Drop)]
+pub(crate) struct Taking {
+    pub(crate) alloc: Global,
+    pub(crate) watch: KeyWatch,
+    pub(crate) numbering: Numbering,
+    pub(crate) rows: Rows,
+    pub(crate) counts: Counts,
+    /// The newest moment at which a call has ended.
+    pub(crate) newest: u64,
+    /// How many lines came since it settled.
+    pub(crate) unsettled: u64,
+    /// The last line that was refused, if one was.
+    pub(crate) refused: Option<ReadError>,
+    /// A line for standard error for each line that was refused since these were last said.
+    pub(crate) warnings: String,
+}
+
+impl Taking {
+    ghost use Rattle.fdb_audit.specs.private.Followed.{AreTaken};
+
+    /// No line has been taken. It fails only where memory is refused.
+    pub(crate) fn new(
+        alloc: Global,
+        margin: u64,
+        behind: u64,
+        shown: &[String],
+    ) -> Result<Self, AllocError>
+        ensures taken { IfOk result (λ taking. AreTaken taking []) }
+        ensures margin { IfOk result (λ taking. taking.watch.margin ≡ margin) }
+    {
+        let rows = Rows::new(alloc, shown)?;
+        Ok(Taking {
+            alloc,
+            watch: KeyWatch::new(alloc, margin, behind),
+            numbering: Numbering::new(alloc),
+            rows,
+            counts: Counts::new(),
+            newest: 0,
+            unsettled: 0,
+            refused: None,
+            warnings: String::new(alloc),
+        })
+    }
+
+    /// Takes a line, or leaves it out where it is refused. An error says that memory was refused.
+    pub(crate) fn take(&mut self, read: Result<ReadLine, Why>) -> Result<(), AllocError>
+        ensures taken { OnOk result ((lines : List (Result SaidLine Why))
+            → AreTaken self.old lines → AreTaken self.new (lines ++ said_in read ∷ [])) }
+        ensures margin { self.new.watch.margin ≡ self.old.watch.margin }
+    {
+        // No more lines are read than have numbers.
+        if self.line_count() >= u64::MAX - 1 {
+            return Err(AllocError);
+        }
+        match read {
+            Ok(read) => self.add(read),
+            Err(why) => self.leave_out(why),
+        }
+    }
+
+    /// How many lines were read.
+    pub(crate) fn line_count(&self) -> u64 {
+        self.counts.lines.saturating_add(self.numbering.count())
+    }
+
+    /// Adds a line.
+    fn add(&mut self, read: ReadLine) -> Result<(), AllocError> {
+        let ReadLine { line, key, shown } = read;
+        match self.watch.push(self.alloc, key, line) {
+            Ok(()) => {}
+            Err(WatchError::NoTimes) => return self.leave_out(Why::SomeTimes),
+            Err(WatchError::Line(_)) => return Err(AllocError),
+        }
+        self.rows.add(self.counts.lines, shown)?;
+        self.note(&line);
+        Ok(())
+    }
+
+    /// Notes when a line that was added began and ended, and counts it.
+    fn note(&mut self, line: &Line) {
+        self.counts.add(line, self.watch.settled_to());
+        self.newest = self.newest.max(line.ended().unwrap_or(0));
+        self.unsettled = self.unsettled.saturating_add(1);
+    }
+
+    /// Leaves a line out, and says why.
+    fn leave_out(&mut self, why: Why) -> Result<(), AllocError> {
+        self.numbering.leave_out(self.counts.lines)?;
+        let line = self.line_count();
+        let error = ReadError { line, why };
+        self.refused = Some(error);
+        let refused = LogsRefused { error };
+        writeln!(self.warnings, "fdb_audit: {refused}")
+    }
+}
