@@ -1,5 +1,11 @@
 //! An audit that follows a log as it grows.
 
+ghost use Rattle.std.specs.Prelude.{◌≡◌, ◌⊎◌, ◌++◌, ℕ, [], IfOk, IfSome, List, OnOk, Result, string_bytes};
+ghost use Rattle.fdb_log_reader.specs.ReadLine.{SaidLine};
+ghost use Rattle.fdb_log_reader.specs.declared.error.Why.{Why};
+ghost use Rattle.fdb_audit.specs.Watched.{AreLeftOut, IsFollowed};
+ghost use Rattle.fdb_audit.specs.declared.arguments.AuditArguments.{AuditArguments};
+
 use crate::arguments::AuditArguments;
 use crate::fault::LogFault;
 use crate::taking::Taking;
@@ -45,6 +51,8 @@ pub struct Followed {
 }
 
 impl Follower {
+    ghost use Rattle.fdb_audit.specs.Watched.{HasFollowed};
+
     /// An audit that has read no line, as the arguments ask for it. A line that comes may begin so far
     /// behind the newest end. It fails only where memory is refused.
     pub fn new(alloc: Global, asked: &AuditArguments, behind: u64) -> Result<Self, AllocError> {
@@ -66,17 +74,22 @@ impl Follower {
     }
 
     /// Reads on. An error says that memory was refused.
-    pub fn feed(&mut self, bytes: &[u8]) -> Result<(), AllocError> {
+    pub fn feed(&mut self, bytes: &[u8]) -> Result<(), AllocError>
+        ensures { OnOk result ((asked : AuditArguments) → (before told : List ℕ)
+            → HasFollowed asked self.old before told
+            → HasFollowed asked self.new (before ++ bytes.now) told) }
+    {
         let lines = self.reader.feed(self.alloc, bytes)?;
-        for line in lines {
-            self.taking.take(line)?;
-        }
-        Ok(())
+        self.taking.take_all(lines)
     }
 
     /// What is to be said before more is read: what has become certain, once some thousand lines have
     /// come since it was said, or where no more may come for a while.
-    pub fn tell(&mut self, is_idle: bool) -> Result<Said, AllocError> {
+    pub fn tell(&mut self, is_idle: bool) -> Result<Said, AllocError>
+        ensures { IfOk result (λ said. (asked : AuditArguments) → (bytes told : List ℕ)
+            → HasFollowed asked self.old bytes told
+            → HasFollowed asked self.new bytes (told ++ string_bytes said.text)) }
+    {
         let unsettled = self.taking.unsettled;
         if unsettled >= STRIDE || (is_idle && unsettled > 0) {
             self.settle()?;
@@ -85,7 +98,10 @@ impl Follower {
     }
 
     /// Settles as far as lines that come may not begin any more.
-    fn settle(&mut self) -> Result<(), AllocError> {
+    fn settle(&mut self) -> Result<(), AllocError>
+        ensures { OnOk result ((asked : AuditArguments) → (bytes told : List ℕ)
+            → HasFollowed asked self.old bytes told → HasFollowed asked self.new bytes told) }
+    {
         let at = self.taking.newest.saturating_sub(self.behind);
         let told = self.taking.watch.settle(self.alloc, at)?;
         self.taking.unsettled = 0;
@@ -96,7 +112,11 @@ impl Follower {
     }
 
     /// What is to be said next; nothing of it is left then.
-    fn say(&mut self) -> Said {
+    fn say(&mut self) -> Said
+        ensures { (asked : AuditArguments) → (bytes told : List ℕ)
+            → HasFollowed asked self.old bytes told
+            → HasFollowed asked self.new bytes (told ++ string_bytes result.text) }
+    {
         Said {
             text: replace(&mut self.teller.text, String::new(self.alloc)),
             warnings: replace(&mut self.taking.warnings, String::new(self.alloc)),
@@ -104,7 +124,14 @@ impl Follower {
     }
 
     /// What is left to be said, where the log ends here: what is open, and the totals.
-    pub fn finish(mut self) -> Result<Followed, AllocError> {
+    pub fn finish(mut self) -> Result<Followed, AllocError>
+        ensures told { IfOk result (λ it. (asked : AuditArguments) → (bytes told : List ℕ)
+            → HasFollowed asked self bytes told
+            → IsFollowed asked bytes (told ++ string_bytes it.said.text) it.found) }
+        ensures refused { IfOk result (λ it. (asked : AuditArguments) → (bytes told : List ℕ)
+            → HasFollowed asked self bytes told
+            → IfSome it.refused (λ _. AreLeftOut asked bytes)) }
+    {
         if let Some(last) = self.reader.finish(self.alloc)? {
             self.taking.take(last)?;
         }

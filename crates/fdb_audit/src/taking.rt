@@ -1,6 +1,6 @@
 //! The lines of a log that is followed, as they are taken.
 
-ghost use Rattle.std.specs.Prelude.{◌≡◌, ◌++◌, ◌∷◌, [], List, IfOk, OnOk, Result};
+ghost use Rattle.std.specs.Prelude.{◌≡◌, ◌++◌, ◌∷◌, [], List, IfOk, OnOk, Result, map};
 ghost use Rattle.fdb_log_reader.specs.declared.error.Why.{Why};
 ghost use Rattle.fdb_log_reader.specs.ReadLine.{SaidLine, said_in};
 
@@ -56,6 +56,18 @@ impl Taking {
             refused: None,
             warnings: String::new(alloc),
         })
+    }
+
+    /// Takes some lines, or leaves those out that are refused. An error says that memory was refused.
+    pub(crate) fn take_all(&mut self, lines: Vec<Result<ReadLine, Why>>) -> Result<(), AllocError>
+        ensures taken { OnOk result ((read : List (Result SaidLine Why))
+            → AreTaken self.old read → AreTaken self.new (read ++ map said_in lines.entry.items)) }
+        ensures margin { self.new.watch.margin ≡ self.old.watch.margin }
+    {
+        for line in lines {
+            self.take(line)?;
+        }
+        Ok(())
     }
 
     /// Takes a line, or leaves it out where it is refused. An error says that memory was refused.
