@@ -1,5 +1,5 @@
 -- What the program promises of itself. (this product's own)
-use Rattle.std.specs.Prelude.{◌≡◌, ◌≢◌, ℕ, ◌++◌, ◌||◌, ◌&&◌, ◌==◌, not, Bool, List, [], ◌∷◌, Option, None, Some, Err, codes, map, option_map, pos, string_bytes, unwrap_or}
+use Rattle.std.specs.Prelude.{◌≡◌, ◌≢◌, ℕ, ◌++◌, ◌||◌, ◌&&◌, ◌==◌, not, Bool, false, List, [], ◌∷◌, Option, None, Some, Err, codes, map, option_map, pos, string_bytes, unwrap_or}
 use Rattle.std.specs.List.{slice_split}
 use Rattle.std.specs.Str.Parse.{digits_value, without_leading_plus}
 use Rattle.clap.specs.Words.{App, Rule, Text, first_of, matches_of, new_rule, one_of}
@@ -76,16 +76,17 @@ HasRead asked reader bytes = (text : List ℕ) → reads_on reader text ≡ read
 abbrev pub Prints : AuditArguments → List ℕ → List ℕ → Option Found → Type 0
 Prints asked bytes text found = IsJudgementBy (key_asked asked) (shown_asked asked) bytes asked.opts asked.wanted found text
 
--- It prints what an audit of the log finds that the bytes stand for, and refuses what stands for none; that memory was
--- refused says nothing of the bytes. Whatever it finds, it prints.
+-- It prints what an audit of the log finds that the bytes stand for, and refuses what stands for none, whole; that memory was
+-- refused says nothing of the bytes. Whatever it finds, it prints. It tells nothing while it reads, but progress.
 abbrev pub audit : Promise AuditArguments LogReader LogsRefused Found
 audit = record {
   app = command;
   most = MAX_LOG_BYTES;
   asks = IsAsked;
   tells = λ arguments. is_set (codes "progress") command arguments;
-  taken = HasRead;
-  prints = λ arguments bytes text found. (asked : AuditArguments) × IsAsked arguments asked
+  warns = λ arguments. false;
+  taken = λ asked reader bytes told. HasRead asked reader bytes × (told ≡ []);
+  prints = λ arguments bytes text found refused. (refused ≡ None) × (asked : AuditArguments) × IsAsked arguments asked
       × Prints asked bytes text found;
   refuses = λ arguments bytes refused. (asked : AuditArguments) × IsAsked arguments asked
       × (refused.error.why ≢ Memory) × (reading_with (key_asked asked) (shown_asked asked) bytes ≡ Err refused.error);

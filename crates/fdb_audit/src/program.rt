@@ -1,6 +1,6 @@
 //! The program: its command, and what it prints of a log.
 
-ghost use Rattle.std.specs.Prelude.{◌≡◌, ◌≢◌, ℕ, List, MatchResult};
+ghost use Rattle.std.specs.Prelude.{◌≡◌, ◌≢◌, ℕ, List, MatchResult, None};
 ghost use Rattle.std.specs.Thread.{IsSync};
 ghost use Rattle.clap.specs.Words.{Text};
 ghost use Rattle.fdb_audit.specs.Program.{audit, HasRead, IsAsked, Prints};
@@ -18,6 +18,7 @@ use std::fs::Files;
 use std::io;
 use std::io::{Read, Write};
 use std::thread::Threads;
+use std::time::Clock;
 
 /// The most bytes of a log: as many lines as it may have, each as long as it may be.
 pub const MAX_LOG_BYTES: u64 = 4_503_603_921_289_215;
@@ -97,7 +98,7 @@ impl Program for Audit {
 /// Audits the log of the file that the arguments name or else of the input, and writes what is
 /// found to `out`; or writes the help there. Answers the status of the program, as
 /// [`fdb_command::drive`] says.
-pub fn drive<R: Files + Threads + Sync, I: Read, O: Write, E: Write>(
+pub fn drive<R: Files + Clock + Threads + Sync, I: Read, O: Write, E: Write>(
     rt: &R,
     alloc: Global,
     arguments: io::Result<Vec<String>>,
@@ -109,13 +110,14 @@ pub fn drive<R: Files + Threads + Sync, I: Read, O: Write, E: Write>(
         input.old input.new out.old out.new err.old err.new result }
 {
     let body = move |asked: AuditArguments, reader: LogReader| -> Result<
-        Answer<Found>,
+        Answer<LogsRefused, Found>,
         Fault<LogsRefused, Found>,
     >
         requires { IsSync R.row }
         ensures { (arguments : List Text) (bytes : List ℕ) → IsAsked arguments asked
             → HasRead asked reader bytes → MatchResult result
-            (λ answer. Prints asked bytes answer.text.items answer.found)
+            (λ answer. (answer.refused ≡ None)
+            × Prints asked bytes answer.text.items answer.found)
             (Stops audit arguments bytes) }
     {
         let named = match reader.finish() {
@@ -126,6 +128,7 @@ pub fn drive<R: Files + Threads + Sync, I: Read, O: Write, E: Write>(
             Ok(Judgement { fault, text }) => Ok(Answer {
                 text: text.into_bytes(),
                 found: fault,
+                refused: None,
             }),
             Err(_) => Err(Fault::Memory),
         }
