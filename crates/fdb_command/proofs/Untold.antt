@@ -1,5 +1,5 @@
 -- What is known besides of a program that tells nothing while it reads, and that refuses all of its input or nothing.
-use Rattle.std.proofs.Common.{◌≡◌, ◌⊎◌, inl, inr, ℕ, List, [], Option, Result, Ok, Err, Vec, Global, ap, arith, length, map, string_bytes}
+use Rattle.std.proofs.Common.{◌≡◌, ◌⊎◌, inl, inr, ℕ, List, Option, Result, Ok, Err, Vec, Global, ap, arith, length, map, string_bytes}
 use Rattle.std.specs.Prelude.{IfOk, IsOkAnd, String}
 use Rattle.std.specs.declared.io.Error.{Error}
 use Rattle.clap.specs.Words.{Text}
