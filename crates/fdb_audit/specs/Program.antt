@@ -1,5 +1,5 @@
 -- What the program promises of itself. (this product's own)
-use Rattle.std.specs.Prelude.{◌≡◌, ◌≢◌, ℕ, ◌++◌, ◌||◌, ◌&&◌, ◌==◌, not, Bool, List, [], ◌∷◌, Option, None, Some, Err, codes, is_some, map, option_map, pos, string_bytes, unwrap_or}
+use Rattle.std.specs.Prelude.{◌≡◌, ◌≢◌, ℕ, ◌++◌, ◌||◌, ◌&&◌, ◌==◌, not, Bool, List, [], ◌∷◌, Option, None, Some, MatchOption, Err, codes, is_some, map, option_map, pos, string_bytes, unwrap_or}
 use Rattle.std.specs.List.{slice_split}
 use Rattle.std.specs.Str.Parse.{digits_value, without_leading_plus}
 use Rattle.clap.specs.Words.{App, Rule, Text, first_of, matches_of, new_rule, one_of}
@@ -19,7 +19,7 @@ use Rattle.fdb_audit.specs.declared.refused.LogsRefused.{LogsRefused}
 use Rattle.fdb_audit.specs.declared.program.AuditIntake.{AuditIntake}
 use Rattle.fdb_audit.specs.declared.program.AuditIntake.TheVariants.{Whole, Followed}
 use Rattle.fdb_audit.specs.declared.program.TheConstants.{MAX_LOG_BYTES}
-use Rattle.fdb_audit.specs.Watched.{AreLeftOut, HasFollowed, IsFollowed}
+use Rattle.fdb_audit.specs.Watched.{AreAllTaken, AreLeftOut, HasFollowed, IsFollowed}
 
 -- an argument that gives a text, as clap is given it
 abbrev pub text_rule : Text → Rule
@@ -90,10 +90,11 @@ abbrev pub HasTaken : AuditArguments → AuditIntake → List ℕ → List ℕ �
 HasTaken asked (Whole reader) bytes told = (asked.follow ≡ None) × HasRead asked reader bytes × (told ≡ [])
 HasTaken asked (Followed follower) bytes told = (behind : ℕ) × (asked.follow ≡ Some behind) × HasFollowed asked follower bytes told
 
--- what is printed of a log, or of one that is followed
-abbrev pub PrintsBy : Option ℕ → AuditArguments → List ℕ → List ℕ → Option LogFault → Type 0
-PrintsBy None asked bytes text found = Prints asked bytes text found
-PrintsBy (Some behind) asked bytes text found = IsFollowed asked bytes text found
+-- what is printed of a log, which is refused whole or not at all, or of one that is followed, of which lines may be left out
+abbrev pub PrintsBy : Option ℕ → AuditArguments → List ℕ → List ℕ → Option LogFault → Option LogsRefused → Type 0
+PrintsBy None asked bytes text found refused = Prints asked bytes text found × (refused ≡ None)
+PrintsBy (Some behind) asked bytes text found refused =
+    IsFollowed asked bytes text found × MatchOption refused (AreAllTaken asked bytes) (λ _. AreLeftOut asked bytes)
 
 -- why it is refused, or why a part of it is
 abbrev pub RefusesBy : Option ℕ → AuditArguments → List ℕ → LogsRefused → Type 0
@@ -111,8 +112,8 @@ audit = record {
   tells = λ arguments. is_set (codes "progress") command arguments;
   warns = λ arguments. is_some (number_named (codes "follow") arguments);
   taken = HasTaken;
-  prints = λ arguments bytes text found. (asked : AuditArguments) × IsAsked arguments asked
-      × PrintsBy asked.follow asked bytes text found;
+  prints = λ arguments bytes text found refused. (asked : AuditArguments) × IsAsked arguments asked
+      × PrintsBy asked.follow asked bytes text found refused;
   refuses = λ arguments bytes refused. (asked : AuditArguments) × IsAsked arguments asked
       × RefusesBy asked.follow asked bytes refused;
   finds = λ arguments bytes found. ⊥;

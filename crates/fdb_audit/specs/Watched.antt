@@ -38,3 +38,7 @@ pub record IsFollowed (asked : AuditArguments) (bytes text : List ℕ) (found : 
 -- lines of a text are refused, or it has none that is taken
 abbrev pub AreLeftOut : AuditArguments → List ℕ → Type 0
 AreLeftOut asked bytes = (taken (lines_asked asked bytes) ≡ []) ⊎ (0 < length (taken_above 0 (lines_asked asked bytes)))
+
+-- each line of a text is taken, and there is one
+abbrev pub AreAllTaken : AuditArguments → List ℕ → Type 0
+AreAllTaken asked bytes = (taken_above 0 (lines_asked asked bytes) ≡ []) × (0 < length (taken (lines_asked asked bytes)))

@@ -1,9 +1,10 @@
 //! An audit that follows a log as it grows.
 
-ghost use Rattle.std.specs.Prelude.{◌≡◌, ◌⊎◌, ◌++◌, ℕ, [], IfOk, IfSome, List, OnOk, Result, string_bytes};
+ghost use Rattle.std.specs.Prelude.{◌≡◌, ◌⊎◌, ◌++◌, ℕ, [], IfOk, List, MatchOption, OnOk};
+ghost use Rattle.std.specs.Prelude.{Result, string_bytes};
 ghost use Rattle.fdb_log_reader.specs.ReadLine.{SaidLine};
 ghost use Rattle.fdb_log_reader.specs.declared.error.Why.{Why};
-ghost use Rattle.fdb_audit.specs.Watched.{AreLeftOut, IsFollowed};
+ghost use Rattle.fdb_audit.specs.Watched.{AreAllTaken, AreLeftOut, IsFollowed};
 ghost use Rattle.fdb_audit.specs.declared.arguments.AuditArguments.{AuditArguments};
 
 use crate::arguments::AuditArguments;
@@ -130,7 +131,7 @@ impl Follower {
             → IsFollowed asked bytes (told ++ string_bytes it.said.text) it.found) }
         ensures refused { IfOk result (λ it. (asked : AuditArguments) → (bytes told : List ℕ)
             → HasFollowed asked self bytes told
-            → IfSome it.refused (λ _. AreLeftOut asked bytes)) }
+            → MatchOption it.refused (AreAllTaken asked bytes) (λ _. AreLeftOut asked bytes)) }
     {
         if let Some(last) = self.reader.finish(self.alloc)? {
             self.taking.take(last)?;
@@ -139,13 +140,7 @@ impl Follower {
         self.teller
             .end(self.alloc, &self.reader, &self.taking, self.behind)?;
         let said = self.say();
-        let refused = match self.taking.refused {
-            None if self.taking.counts.lines == 0 => Some(ReadError {
-                line: 0,
-                why: Why::Empty,
-            }),
-            refused => refused,
-        };
+        let refused = self.taking.left_out();
         Ok(Followed {
             said,
             found: self.teller.first,

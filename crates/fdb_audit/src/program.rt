@@ -1,12 +1,11 @@
 //! The program: its command, and what it prints of a log.
 
-ghost use Rattle.std.specs.Prelude.{◌≡◌, ◌≢◌, ◌++◌, ℕ, IfErr, IfOk, IfSome, List, MatchResult};
-ghost use Rattle.std.specs.Prelude.{None};
+ghost use Rattle.std.specs.Prelude.{◌≡◌, ◌≢◌, ◌++◌, ℕ, IfErr, IfOk, List, MatchResult};
+ghost use Rattle.std.specs.Prelude.{MatchOption, None};
 ghost use Rattle.std.specs.Thread.{IsSync};
 ghost use Rattle.clap.specs.Words.{Text};
 ghost use Rattle.fdb_audit.specs.Program.{audit, HasRead, HasTaken, IsAsked, Prints, PrintsBy};
-ghost use Rattle.fdb_audit.specs.Program.{RefusesBy};
-ghost use Rattle.fdb_audit.specs.Watched.{AreLeftOut, HasFollowed, IsFollowed};
+ghost use Rattle.fdb_audit.specs.Watched.{AreAllTaken, AreLeftOut, HasFollowed, IsFollowed};
 ghost use Rattle.fdb_command.specs.Driving.{IsDriven, Stops};
 
 use crate::arguments::{AuditArguments, command, members, owned, text, wanted_of};
@@ -177,7 +176,7 @@ fn followed(
     ensures told { IfOk result (λ it. (asked : AuditArguments) → (bytes told : List ℕ)
         → HasFollowed asked follower bytes told
         → IsFollowed asked bytes (told ++ it.text.items) it.found
-        × IfSome it.refused (λ _. AreLeftOut asked bytes)) }
+        × MatchOption it.refused (AreAllTaken asked bytes) (λ _. AreLeftOut asked bytes)) }
     ensures stops { IfErr result (λ fault. fault ≡ Fault.Memory) }
 {
     match follower.finish() {
@@ -240,8 +239,7 @@ pub fn drive<R: Files + Clock + Threads + Sync, I: Read, O: Write, E: Write>(
         ensures { (arguments : List Text) → (bytes told : List ℕ) → IsAsked arguments asked
             → HasTaken asked intake bytes told → MatchResult result
             (λ answer. PrintsBy asked.follow asked bytes (told ++ answer.text.items) answer.found
-            × IfSome answer.refused (RefusesBy asked.follow asked bytes))
-            (Stops audit arguments bytes) }
+            answer.refused) (Stops audit arguments bytes) }
     {
         match intake {
             AuditIntake::Whole(reader) => judged(rt, alloc, &asked, reader),

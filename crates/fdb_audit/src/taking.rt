@@ -1,8 +1,10 @@
 //! The lines of a log that is followed, as they are taken.
 
-ghost use Rattle.std.specs.Prelude.{◌≡◌, ◌++◌, ◌∷◌, [], List, IfOk, OnOk, Result, map};
+ghost use Rattle.std.specs.Prelude.{◌≡◌, ◌⊎◌, ◌++◌, ◌∷◌, ◌<◌, [], List, IfOk, MatchOption, OnOk};
+ghost use Rattle.std.specs.Prelude.{Result, length, map};
 ghost use Rattle.fdb_log_reader.specs.declared.error.Why.{Why};
 ghost use Rattle.fdb_log_reader.specs.ReadLine.{SaidLine, said_in};
+ghost use Rattle.fdb_audit.specs.Following.{taken, taken_above};
 
 use crate::counts::Counts;
 use crate::numbering::Numbering;
@@ -84,6 +86,22 @@ impl Taking {
             Ok(read) => self.add(read),
             Err(why) => self.leave_out(why),
         }
+    }
+
+    /// The last line that was refused, if one was, or that none was taken.
+    pub(crate) fn left_out(&self) -> Option<ReadError>
+        ensures { (read : List (Result SaidLine Why)) → AreTaken self.now read → MatchOption result
+            ((taken_above 0 read ≡ []) × (0 < length (taken read)))
+            (λ _. (taken read ≡ []) ⊎ (0 < length (taken_above 0 read))) }
+    {
+        if self.counts.lines > 0 && self.numbering.count() == 0 {
+            return None;
+        }
+        let none = ReadError {
+            line: 0,
+            why: Why::Empty,
+        };
+        Some(self.refused.unwrap_or(none))
     }
 
     /// How many lines were read.
