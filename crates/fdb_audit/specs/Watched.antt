@@ -14,16 +14,20 @@ use Rattle.fdb_audit.specs.private.Followed.{AreTaken}
 abbrev pub lines_asked : AuditArguments → List ℕ → List (Result SaidLine Why)
 lines_asked asked text = lines_read (map string_bytes asked.shown.items) (no_names (option_map string_bytes asked.key)) (lines_in text)
 
--- These bytes have been read, whatever comes after them, and this text has been told of them, but for what is told next.
-pub record HasFollowed (asked : AuditArguments) (follower : Follower) (bytes told : List ℕ) : Type 0 where
-  pub read : List (Result SaidLine Why)
-  pub goes : (text : List ℕ) → lines_asked asked (bytes ++ text) ≡ read ++ lines_on follower.reader text
+-- These lines were read, and this text has been told of them, but for what is told next.
+pub record IsTelling (asked : AuditArguments) (follower : Follower) (read : List (Result SaidLine Why)) (told : List ℕ) : Type 0 where
   pub taken : AreTaken follower.taking read
   pub margin : follower.taking.watch.margin ≡ asked.opts.margin
   pub wanted : follower.teller.wanted ≡ asked.wanted
   pub windows : List Window
   pub tells : AreWindows asked.opts.margin asked.wanted read (line_names follower.reader).clients windows (told ++ string_bytes follower.teller.text)
   pub first : follower.teller.first ≡ first_told read windows
+
+-- These bytes have been read, whatever comes after them, and this text has been told of their lines.
+pub record HasFollowed (asked : AuditArguments) (follower : Follower) (bytes told : List ℕ) : Type 0 where
+  pub read : List (Result SaidLine Why)
+  pub goes : (text : List ℕ) → lines_asked asked (bytes ++ text) ≡ read ++ lines_on follower.reader text
+  pub telling : IsTelling asked follower read told
 
 -- What is told of all lines of a text, window by window, and at the end how much was read; and the first fault, if one was told.
 pub record IsFollowed (asked : AuditArguments) (bytes text : List ℕ) (found : Option LogFault) : Type 0 where
@@ -42,3 +46,10 @@ AreLeftOut asked bytes = (taken (lines_asked asked bytes) ≡ []) ⊎ (0 < lengt
 -- each line of a text is taken, and there is one
 abbrev pub AreAllTaken : AuditArguments → List ℕ → Type 0
 AreAllTaken asked bytes = (taken_above 0 (lines_asked asked bytes) ≡ []) × (0 < length (taken (lines_asked asked bytes)))
+
+-- all that is told of these lines has been told, but for what is told next
+pub record HasToldAll (asked : AuditArguments) (follower : Follower) (read : List (Result SaidLine Why)) (told : List ℕ) : Type 0 where
+  pub wanted : follower.teller.wanted ≡ asked.wanted
+  pub windows : List Window
+  pub tells : AreWindows asked.opts.margin asked.wanted read (line_names follower.reader).clients windows (told ++ string_bytes follower.teller.text)
+  pub first : follower.teller.first ≡ first_told read windows

@@ -52,7 +52,7 @@ pub struct Followed {
 }
 
 impl Follower {
-    ghost use Rattle.fdb_audit.specs.Watched.{HasFollowed};
+    ghost use Rattle.fdb_audit.specs.Watched.{lines_asked, HasFollowed, HasToldAll, IsTelling};
 
     /// An audit that has read no line, as the arguments ask for it. A line that comes may begin so far
     /// behind the newest end. It fails only where memory is refused.
@@ -100,8 +100,10 @@ impl Follower {
 
     /// Settles as far as lines that come may not begin any more.
     fn settle(&mut self) -> Result<(), AllocError>
-        ensures { OnOk result ((asked : AuditArguments) → (bytes told : List ℕ)
-            → HasFollowed asked self.old bytes told → HasFollowed asked self.new bytes told) }
+        ensures reader { self.new.reader ≡ self.old.reader }
+        ensures told { OnOk result ((asked : AuditArguments)
+            → (read : List (Result SaidLine Why)) → (told : List ℕ)
+            → IsTelling asked self.old read told → IsTelling asked self.new read told) }
     {
         let at = self.taking.newest.saturating_sub(self.behind);
         let told = self.taking.watch.settle(self.alloc, at)?;
@@ -114,9 +116,12 @@ impl Follower {
 
     /// What is to be said next; nothing of it is left then.
     fn say(&mut self) -> Said
-        ensures { (asked : AuditArguments) → (bytes told : List ℕ)
-            → HasFollowed asked self.old bytes told
-            → HasFollowed asked self.new bytes (told ++ string_bytes result.text) }
+        ensures reader { self.new.reader ≡ self.old.reader }
+        ensures text { string_bytes result.text ≡ string_bytes self.old.teller.text }
+        ensures first { self.new.teller.first ≡ self.old.teller.first }
+        ensures told { (asked : AuditArguments) → (read : List (Result SaidLine Why))
+            → (told : List ℕ) → IsTelling asked self.old read told
+            → IsTelling asked self.new read (told ++ string_bytes result.text) }
     {
         Said {
             text: replace(&mut self.teller.text, String::new(self.alloc)),
@@ -133,14 +138,12 @@ impl Follower {
             → HasFollowed asked self bytes told
             → MatchOption it.refused (AreAllTaken asked bytes) (λ _. AreLeftOut asked bytes)) }
     {
-        if let Some(last) = self.reader.finish(self.alloc)? {
-            self.taking.take(last)?;
-        }
+        self.take_last()?;
+        let refused = self.taking.left_out();
         self.settle_for_good()?;
         self.teller
             .end(self.alloc, &self.reader, &self.taking, self.behind)?;
         let said = self.say();
-        let refused = self.taking.left_out();
         Ok(Followed {
             said,
             found: self.teller.first,
@@ -148,9 +151,26 @@ impl Follower {
         })
     }
 
+    /// Takes the line that has not ended, if there is one.
+    fn take_last(&mut self) -> Result<(), AllocError>
+        ensures { OnOk result ((asked : AuditArguments) → (bytes told : List ℕ)
+            → HasFollowed asked self.old bytes told
+            → IsTelling asked self.new (lines_asked asked bytes) told) }
+    {
+        match self.reader.finish(self.alloc)? {
+            Some(last) => self.taking.take(last),
+            None => Ok(()),
+        }
+    }
+
     /// Settles all.
-    fn settle_for_good(&mut self) -> Result<(), AllocError> {
-        let watch = replace(&mut self.taking.watch, KeyWatch::new(self.alloc, 0, 0));
+    fn settle_for_good(&mut self) -> Result<(), AllocError>
+        ensures { OnOk result ((asked : AuditArguments)
+            → (read : List (Result SaidLine Why)) → (told : List ℕ)
+            → IsTelling asked self.old read told → HasToldAll asked self.new read told) }
+    {
+        let none = KeyWatch::new(self.alloc, 0, 0);
+        let watch = replace(&mut self.taking.watch, none);
         let told = watch.finish(self.alloc)?;
         self.teller
             .tell_all(self.alloc, &self.reader, &self.taking, &told)
