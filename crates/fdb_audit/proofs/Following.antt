@@ -142,9 +142,9 @@ numbers_more above places numbers more i place number lt at is pushed so_far rea
     let lows : All (λ one. one ≤ length (taken read)) (take i places ++ place ∷ []) = subst (All (λ one. one ≤ length (taken read))) split low in
     let size = length_push (take i places) place in
     let within : place ≤ length (taken read) = subst (λ one. one ≤ length (taken read)) (get_or_push (take i places) place place (length (take i places)) refl)
-        (lows (length (take i places)) place (omega arith)) in
+    (lows (length (take i places)) place (omega arith)) in
     let front : All (λ one. one ≤ length (taken read)) (take i places) = λ k d less.
-        subst (λ one. one ≤ length (taken read)) (get_or_append_left (take i places) (place ∷ []) d k less) (lows k d (omega arith)) in
+    subst (λ one. one ≤ length (taken read)) (get_or_append_left (take i places) (place ∷ []) d k less) (lows k d (omega arith)) in
     let all = counted 0 read in
     let refused = ap length same in
     let one : number ≡ number_in read place = is (omega arith) ∙ ap (λ list. place + 1 + count_by (λ one. nat_le one place) list) same in
