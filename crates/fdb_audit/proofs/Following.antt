@@ -1,19 +1,18 @@
 -- The lines that are taken, of those that were read, and the numbers under which they are printed.
-use Rattle.std.proofs.Common.{◌≡◌, ◌∙◌, ℕ, zero, suc, ◌+◌, ◌-◌, ◌<◌, ◌≤◌, Bool, true, false, cond, List, [], ◌∷◌, ◌++◌, Option, None, Result, Ok, Err, ap, arith, count_by, get_or, length, map, nat_le, refl, slice_index, subst, sym, take}
+use Rattle.std.proofs.Common.{◌≡◌, ◌∙◌, ℕ, zero, suc, ◌+◌, ◌-◌, ◌<◌, ◌≤◌, Bool, true, false, cond, List, [], ◌∷◌, ◌++◌, Option, Result, Ok, Err, ap, arith, count_by, get_or, length, map, nat_le, refl, slice_index, subst, sym, take}
 use Rattle.std.specs.List.{All}
 use Rattle.std.specs.List.Sorted.{IsNonDecreasingBy, IsPartitionPoint}
 use Rattle.std.proofs.lemmas.List.{get_or_append_left, get_or_push, length-map, length_push, map_push, take_more}
 use Rattle.std.proofs.lemmas.List.Elements.{All-append, All-cons, All-nil, All-tail, All-weaker}
 use Rattle.std.proofs.lemmas.List.Sorted.{IsNonDecreasingBy-push}
-use Rattle.std.proofs.lemmas.List.Sums.{count_by-le-length, sum_by-cons}
-use Rattle.fdb_lines.specs.declared.line.Line.{Line}
+use Rattle.std.proofs.lemmas.List.Sums.{sum_by-cons}
 use Rattle.fdb_lines.specs.Keys.{key_at, places_below, places_of, same_key}
 use Rattle.fdb_lines.specs.KeyWatch.{HasSeenByKey}
 use Rattle.fdb_log_reader.specs.declared.error.Why.{Why}
 use Rattle.fdb_log_reader.specs.ReadLine.{SaidLine}
 use Rattle.fdb_audit.specs.declared.taking.Taking.{Taking}
 use Rattle.fdb_audit.specs.Following.{keys_taken, lines_taken, number_in, taken, taken_above}
-use Rattle.fdb_audit.specs.private.Followed.{AreNumbered, AreNumbersOf, AreTaken}
+use Rattle.fdb_audit.specs.private.Followed.{AreNumbersOf, AreTaken}
 
 -- ---- with one more line
 
