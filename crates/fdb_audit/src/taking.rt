@@ -65,7 +65,7 @@ impl Taking {
     pub(crate) fn take_all(&mut self, lines: Vec<Result<ReadLine, Why>>) -> Result<(), AllocError>
         requires timed { All (λ read. IfOk read IsTimed) lines.items }
         ensures taken { OnOk result ((read : List (Result SaidLine Why))
-            → AreTaken self.old read → AreTaken self.new (read ++ map said_in lines.entry.items)) }
+            → AreTaken self.old read → AreTaken self.new (read ++ map said_in lines.items)) }
         ensures margin { self.new.watch.margin ≡ self.old.watch.margin }
     {
         for line in lines {
