@@ -276,7 +276,8 @@ follows_on old now new bytes rest line after lines read so_far is takes =
       goes = λ text.
           so_far.goes text
           ∙ (ap (behind (map said_in lines)) (ap (all_on now) (ap (λ r. r ++ text) is ∙ append_assoc line (10 ∷ after) text) ∙ takes.goes (after ++ text))
-          ∙ ap (λ lines. (lines, names_on new (after ++ text))) (sym (append_assoc (map said_in lines) (said_in read ∷ []) (lines_on new (after ++ text)))
+          ∙ ap (λ lines. (lines, names_on new (after ++ text)))
+          (sym (append_assoc (map said_in lines) (said_in read ∷ []) (lines_on new (after ++ text)))
           ∙ ap (λ said. said ++ lines_on new (after ++ text)) (sym (map-append said_in lines (read ∷ [])))));
       more = all_yet (line_names old) (line_names now) (line_names new) so_far.more takes.more;
       texts = All-append (λ read. IfOk read HasTexts) lines (read ∷ []) so_far.texts (one_read (λ read. IfOk read HasTexts) read takes.texts);

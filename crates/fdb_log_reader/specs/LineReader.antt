@@ -1,5 +1,5 @@
 -- What becomes of the lines of a text that is read piece by piece, each line by itself. (this product's own)
-use Rattle.std.specs.Prelude.{◌≡◌, ℕ, List, [], ◌++◌, map, string_bytes, Option, None, Some, Result}
+use Rattle.std.specs.Prelude.{◌≡◌, ℕ, List, ◌++◌, map, string_bytes, Option, None, Some, Result}
 use Rattle.fdb_log_reader.specs.declared.error.Why.{Why}
 use Rattle.fdb_log_reader.specs.declared.line_reader.LineReader.{LineReader}
 use Rattle.fdb_log_reader.specs.Numbers.{IsMore}
@@ -16,7 +16,8 @@ lines_on reader rest = lines_read (map string_bytes reader.shown.items) (line_na
 
 -- and the names behind all of them
 abbrev pub names_on : LineReader → List ℕ → LineNames
-names_on reader rest = names_behind (map string_bytes reader.shown.items) (line_names reader) (lines_in (reader.front.items ++ rest))
+names_on reader rest =
+    names_behind (map string_bytes reader.shown.items) (line_names reader) (lines_in (reader.front.items ++ rest))
 
 -- keys of which the first are these, of the same member
 abbrev pub AreMoreKeys : Option MemberNames → Option MemberNames → Type 0

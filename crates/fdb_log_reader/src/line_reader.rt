@@ -27,8 +27,9 @@ pub struct LineReader {
 impl LineReader {
     ghost use Rattle.fdb_log_reader.specs.LineReader.{line_names, lines_on, names_on, AreMore};
     ghost use Rattle.fdb_log_reader.specs.Names.{names_of};
-    ghost use Rattle.fdb_log_reader.specs.ReadLine.{lines_read, names_behind, no_names, said_by, said_in};
+    ghost use Rattle.fdb_log_reader.specs.ReadLine.{lines_read, no_names, said_by, said_in};
     ghost use Rattle.fdb_log_reader.specs.ReadLine.{HasTexts, IsNumbered};
+    ghost use Rattle.fdb_log_reader.specs.ReadLine.{names_behind};
     ghost use Rattle.fdb_log_reader.specs.Reading.{lines_in};
     ghost use Rattle.fdb_log_reader.specs.private.Following.{Keeps, TakesLine};
 
@@ -38,9 +39,9 @@ impl LineReader {
         ensures read { IfOk result (λ reader. (text : List ℕ) → lines_on reader text ≡ lines_read
             (map string_bytes shown.now) (no_names (option_map (λ key. key.now) key.entry))
             (lines_in text)) }
-        ensures behind { IfOk result (λ reader. (text : List ℕ) → names_on reader text ≡ names_behind
-            (map string_bytes shown.now) (no_names (option_map (λ key. key.now) key.entry))
-            (lines_in text)) }
+        ensures behind { IfOk result (λ reader. (text : List ℕ) → names_on reader text
+            ≡ names_behind (map string_bytes shown.now)
+            (no_names (option_map (λ key. key.now) key.entry)) (lines_in text)) }
         ensures names { IfOk result
             (λ reader. line_names reader ≡ no_names (option_map (λ key. key.now) key.entry)) }
     {
