@@ -1,5 +1,7 @@
 //! How much of a log has been followed.
 
+ghost use Rattle.std.specs.Prelude.{◌≡◌, ◌+◌, ◌-◌, ◌^◌, min};
+
 use fdb_lines::{Call, Line};
 use std::alloc::AllocError;
 use std::fmt::Write;
@@ -19,7 +21,9 @@ pub(crate) struct Counts {
 
 impl Counts {
     /// Of no line.
-    pub(crate) fn new() -> Self {
+    pub(crate) fn new() -> Self
+        ensures { result.lines ≡ 0 }
+    {
         Counts {
             lines: 0,
             reads: 0,
@@ -31,7 +35,9 @@ impl Counts {
     }
 
     /// Counts a line that was taken, where all was settled up to a moment.
-    pub(crate) fn add(&mut self, line: &Line, settled_to: u64) {
+    pub(crate) fn add(&mut self, line: &Line, settled_to: u64)
+        ensures { self.new.lines ≡ min (self.old.lines + 1) (2 ^ 64 - 1) }
+    {
         add_one(&mut self.lines);
         if line.began() < settled_to {
             add_one(&mut self.early);
@@ -70,6 +76,8 @@ impl Counts {
 }
 
 /// Adds one to a count that may be full.
-fn add_one(count: &mut u64) {
+fn add_one(count: &mut u64)
+    ensures { count.new ≡ min (count.old + 1) (2 ^ 64 - 1) }
+{
     *count = count.saturating_add(1);
 }

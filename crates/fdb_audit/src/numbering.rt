@@ -1,6 +1,9 @@
 //! Under which number a line is printed that was taken of a log that is followed.
 
-ghost use Rattle.std.specs.Prelude.{◌≡◌, ◌+◌, ◌<◌, ◌^◌, ◌++◌, ◌∷◌, [], OnOk, count_by, length, nat_le};
+ghost use Rattle.std.specs.Prelude.{◌≡◌, ◌+◌, ◌<◌, ◌≤◌, ◌++◌, ◌∷◌, ℕ, [], All, IfOk, OnErr, OnOk};
+ghost use Rattle.std.specs.Prelude.{count_by, length, nat_le};
+ghost use Rattle.std.specs.List.Sorted.{IsNonDecreasingBy};
+ghost use Rattle.fdb_audit.specs.private.Followed.{AreNumbersOf};
 
 use fdb_lines::Settled;
 use std::alloc::{AllocError, Global};
@@ -9,6 +12,7 @@ use std::alloc::{AllocError, Global};
 #[derive(Drop)]
 pub(crate) struct Numbering {
     above: Vec<u64>,
+    ghost in_order: { IsNonDecreasingBy (λ (above : ℕ). above) above.items },
 }
 
 impl Numbering {
@@ -23,7 +27,9 @@ impl Numbering {
 
     /// Leaves the next line out, above which so many were taken.
     pub(crate) fn leave_out(&mut self, taken: u64) -> Result<(), AllocError>
-        ensures { OnOk result (self.new.above.items ≡ self.old.above.items ++ taken ∷ []) }
+        requires last { All (λ above. above ≤ taken) self.old.above.items }
+        ensures ok { OnOk result (self.new.above.items ≡ self.old.above.items ++ taken ∷ []) }
+        ensures err { OnErr result (self.new.above.items ≡ self.old.above.items) }
     {
         self.above.push(taken)?;
         Ok(())
@@ -37,13 +43,27 @@ impl Numbering {
     }
 
     /// The number of a line, counted from 1, by how many were taken above it.
-    pub(crate) fn number(&self, taken: u64) -> u64 {
-        let refused = self.above.partition_point(|above| *above <= taken) as u64;
+    pub(crate) fn number(&self, taken: u64) -> u64
+        ensures { taken + length self.now.above.items < 18446744073709551615 → result
+            ≡ taken + 1 + count_by (λ above. nat_le above taken) self.now.above.items }
+    {
+        let refused = self.refused_above(taken);
         taken.saturating_add(1).saturating_add(refused)
     }
 
+    /// How many lines were refused above one above which so many were taken. Logarithmic.
+    fn refused_above(&self, taken: u64) -> u64
+        ensures bound { result ≤ length self.now.above.items }
+        ensures count { result ≡ count_by (λ above. nat_le above taken) self.now.above.items }
+    {
+        self.above.partition_point(|above| *above <= taken) as u64
+    }
+
     /// The numbers of the lines that a watch had kept, each at its place.
-    pub(crate) fn numbers(&self, alloc: Global, settled: &Settled) -> Result<Vec<u64>, AllocError> {
+    pub(crate) fn numbers(&self, alloc: Global, settled: &Settled) -> Result<Vec<u64>, AllocError>
+        ensures { IfOk result (λ numbers. AreNumbersOf self.now.above.items
+            settled.now.numbers.items numbers.items) }
+    {
         let mut numbers = Vec::with_capacity(alloc, settled.numbers.len())?;
         for taken in &settled.numbers {
             numbers.push(self.number(*taken))?;

@@ -4,7 +4,7 @@ use Rattle.fdb_log_reader.specs.declared.error.Why.{Why}
 use Rattle.fdb_log_reader.specs.declared.line_reader.LineReader.{LineReader}
 use Rattle.fdb_log_reader.specs.declared.read_line.ReadLine.{ReadLine}
 use Rattle.fdb_log_reader.specs.LineReader.{AreMore, line_names, lines_on, names_on}
-use Rattle.fdb_log_reader.specs.ReadLine.{HasTexts, IsNumbered, LineNames, SaidLine, said_by, said_in}
+use Rattle.fdb_log_reader.specs.ReadLine.{HasTexts, IsNumbered, IsTimed, LineNames, SaidLine, said_by, said_in}
 
 -- what becomes of all further lines, and the names behind them
 abbrev pub AllRead : Type 0
@@ -22,6 +22,7 @@ pub record Follows (old : LineReader) (bytes : List ℕ) (lines : List (Result R
   pub goes : (text : List ℕ) → all_on old (bytes ++ text) ≡ behind (map said_in lines) (all_on new (rest ++ text))
   pub more : AreMore (line_names old) (line_names new)
   pub texts : All (λ read. IfOk read HasTexts) lines
+  pub timed : All (λ read. IfOk read IsTimed) lines
   pub numbers : All (λ read. IfOk read (λ read. IsNumbered (line_names new) (said_by read))) lines
 
 -- the same of one line with its feed
@@ -29,6 +30,7 @@ pub record TakesLine (old : LineReader) (line : List ℕ) (read : Result ReadLin
   pub goes : (text : List ℕ) → all_on old (line ++ 10 ∷ text) ≡ behind (said_in read ∷ []) (all_on new text)
   pub more : AreMore (line_names old) (line_names new)
   pub texts : IfOk read HasTexts
+  pub timed : IfOk read IsTimed
   pub numbers : IfOk read (λ read. IsNumbered (line_names new) (said_by read))
 
 -- and of bytes of a line that has not ended
