@@ -1,19 +1,18 @@
 -- The lines that are taken, of those that were read, and the numbers under which they are printed.
-use Rattle.std.proofs.Common.{◌≡◌, ◌∙◌, ℕ, zero, suc, ◌+◌, ◌-◌, ◌<◌, ◌≤◌, Bool, true, false, cond, List, [], ◌∷◌, ◌++◌, Option, None, Result, Ok, Err, ap, arith, count_by, get_or, length, map, nat_le, refl, slice_index, subst, sym, take}
+use Rattle.std.proofs.Common.{◌≡◌, ◌∙◌, ℕ, zero, suc, ◌+◌, ◌-◌, ◌<◌, ◌≤◌, Bool, true, false, cond, List, [], ◌∷◌, ◌++◌, Option, Result, Ok, Err, ap, arith, count_by, get_or, length, map, nat_le, refl, slice_index, subst, sym, take}
 use Rattle.std.specs.List.{All}
 use Rattle.std.specs.List.Sorted.{IsNonDecreasingBy, IsPartitionPoint}
 use Rattle.std.proofs.lemmas.List.{get_or_append_left, get_or_push, length-map, length_push, map_push, take_more}
 use Rattle.std.proofs.lemmas.List.Elements.{All-append, All-cons, All-nil, All-tail, All-weaker}
 use Rattle.std.proofs.lemmas.List.Sorted.{IsNonDecreasingBy-push}
-use Rattle.std.proofs.lemmas.List.Sums.{count_by-le-length, sum_by-cons}
-use Rattle.fdb_lines.specs.declared.line.Line.{Line}
+use Rattle.std.proofs.lemmas.List.Sums.{sum_by-cons}
 use Rattle.fdb_lines.specs.Keys.{key_at, places_below, places_of, same_key}
 use Rattle.fdb_lines.specs.KeyWatch.{HasSeenByKey}
 use Rattle.fdb_log_reader.specs.declared.error.Why.{Why}
 use Rattle.fdb_log_reader.specs.ReadLine.{SaidLine}
 use Rattle.fdb_audit.specs.declared.taking.Taking.{Taking}
 use Rattle.fdb_audit.specs.Following.{keys_taken, lines_taken, number_in, taken, taken_above}
-use Rattle.fdb_audit.specs.private.Followed.{AreNumbered, AreNumbersOf, AreTaken}
+use Rattle.fdb_audit.specs.private.Followed.{AreNumbersOf, AreTaken}
 
 -- ---- with one more line
 
@@ -143,9 +142,9 @@ numbers_more above places numbers more i place number lt at is pushed so_far rea
     let lows : All (λ one. one ≤ length (taken read)) (take i places ++ place ∷ []) = subst (All (λ one. one ≤ length (taken read))) split low in
     let size = length_push (take i places) place in
     let within : place ≤ length (taken read) = subst (λ one. one ≤ length (taken read)) (get_or_push (take i places) place place (length (take i places)) refl)
-        (lows (length (take i places)) place (omega arith)) in
+    (lows (length (take i places)) place (omega arith)) in
     let front : All (λ one. one ≤ length (taken read)) (take i places) = λ k d less.
-        subst (λ one. one ≤ length (taken read)) (get_or_append_left (take i places) (place ∷ []) d k less) (lows k d (omega arith)) in
+    subst (λ one. one ≤ length (taken read)) (get_or_append_left (take i places) (place ∷ []) d k less) (lows k d (omega arith)) in
     let all = counted 0 read in
     let refused = ap length same in
     let one : number ≡ number_in read place = is (omega arith) ∙ ap (λ list. place + 1 + count_by (λ one. nat_le one place) list) same in

@@ -3,7 +3,6 @@
 ghost use Rattle.std.specs.Prelude.{◌≡◌, ◌+◌, ◌<◌, ◌≤◌, ◌++◌, ◌∷◌, ℕ, [], All, IfOk, OnErr, OnOk};
 ghost use Rattle.std.specs.Prelude.{count_by, length, nat_le};
 ghost use Rattle.std.specs.List.Sorted.{IsNonDecreasingBy};
-ghost use Rattle.fdb_audit.specs.private.Followed.{AreNumbersOf};
 
 use fdb_lines::Settled;
 use std::alloc::{AllocError, Global};
@@ -16,6 +15,8 @@ pub(crate) struct Numbering {
 }
 
 impl Numbering {
+    ghost use Rattle.fdb_audit.specs.private.Followed.{AreNumbersOf};
+
     /// No line was refused.
     pub(crate) fn new(alloc: Global) -> Self
         ensures { result.above.items ≡ [] }

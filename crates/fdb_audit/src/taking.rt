@@ -1,9 +1,10 @@
 //! The lines of a log that is followed, as they are taken.
 
-ghost use Rattle.std.specs.Prelude.{◌≡◌, ◌+◌, ◌-◌, ◌^◌, ◌<◌, ◌≤◌, ◌++◌, ◌∷◌, [], All, List, IfOk, OnOk};
-ghost use Rattle.std.specs.Prelude.{Err, Ok, Result, length, min};
+ghost use Rattle.std.specs.Prelude.{◌≡◌, ◌⊎◌, ◌+◌, ◌-◌, ◌^◌, ◌<◌, ◌≤◌, ◌++◌, ◌∷◌, [], All, List};
+ghost use Rattle.std.specs.Prelude.{Err, IfOk, MatchOption, Ok, OnOk, Result, length, map, min};
 ghost use Rattle.fdb_log_reader.specs.declared.error.Why.{Why};
 ghost use Rattle.fdb_log_reader.specs.ReadLine.{IsTimed, SaidLine, said_by, said_in};
+ghost use Rattle.fdb_audit.specs.Following.{taken, taken_above};
 
 use crate::counts::Counts;
 use crate::numbering::Numbering;
@@ -60,6 +61,19 @@ impl Taking {
         })
     }
 
+    /// Takes some lines, or leaves those out that are refused. An error says that memory was refused.
+    pub(crate) fn take_all(&mut self, lines: Vec<Result<ReadLine, Why>>) -> Result<(), AllocError>
+        requires timed { All (λ read. IfOk read IsTimed) lines.items }
+        ensures taken { OnOk result ((read : List (Result SaidLine Why))
+            → AreTaken self.old read → AreTaken self.new (read ++ map said_in lines.entry.items)) }
+        ensures margin { self.new.watch.margin ≡ self.old.watch.margin }
+    {
+        for line in lines {
+            self.take(line)?;
+        }
+        Ok(())
+    }
+
     /// Takes a line, or leaves it out where it is refused. An error says that memory was refused.
     pub(crate) fn take(&mut self, read: Result<ReadLine, Why>) -> Result<(), AllocError>
         requires timed { IfOk read IsTimed }
@@ -75,6 +89,22 @@ impl Taking {
             Ok(read) => self.add(read),
             Err(why) => self.leave_out(why),
         }
+    }
+
+    /// The last line that was refused, if one was, or that none was taken.
+    pub(crate) fn left_out(&self) -> Option<ReadError>
+        ensures { (read : List (Result SaidLine Why)) → AreTaken self.now read → MatchOption result
+            ((taken_above 0 read ≡ []) × (0 < length (taken read)))
+            (λ _. (taken read ≡ []) ⊎ (0 < length (taken_above 0 read))) }
+    {
+        if self.counts.lines > 0 && self.numbering.count() == 0 {
+            return None;
+        }
+        let none = ReadError {
+            line: 0,
+            why: Why::Empty,
+        };
+        Some(self.refused.unwrap_or(none))
     }
 
     /// How many lines were read.
