@@ -11,20 +11,19 @@ use Rattle.fdb_log_reader.specs.declared.error.Why.{Why}
 use Rattle.fdb_log_reader.specs.declared.error.Why.TheVariants.{BadMember, Memory, SomeTimes, TooLong, TooMany}
 use Rattle.fdb_log_reader.specs.declared.line_reader.LineReader.{LineReader}
 use Rattle.fdb_lines.specs.Lines.{are_known, has_times, is_learn, kind_of}
-use Rattle.fdb_log_reader.specs.declared.member.Member.{Member}
 use Rattle.fdb_log_reader.specs.declared.member.Member.TheVariants.{Learn}
 use Rattle.fdb_log_reader.specs.declared.read_line.ReadLine.{ReadLine}
 use Rattle.fdb_log_reader.specs.declared.reader.TheConstants.{MAX_LINE_BYTES}
 use Rattle.fdb_log_reader.specs.declared.usual.Usual.{Usual}
 use Rattle.fdb_log_reader.specs.Columns.{IsText}
-use Rattle.fdb_log_reader.specs.LineReader.{AreMore, AreMoreKeys, line_names, lines_on}
+use Rattle.fdb_log_reader.specs.LineReader.{AreMore, AreMoreKeys, line_names, lines_on, names_on}
 use Rattle.fdb_log_reader.specs.Members.{and_then, member_of}
 use Rattle.fdb_log_reader.specs.Numbers.{client_in, with_client, IsMore}
 use Rattle.fdb_log_reader.specs.Parts.{SaidParts, parts_said}
 use Rattle.fdb_log_reader.specs.Reading.{is_line_feed, lines_in, value_of, without_empty_end}
-use Rattle.fdb_log_reader.specs.ReadLine.{HasTexts, IsNumbered, IsTimed, LineNames, MemberNames, ReadsLine, SaidLine, are_full, key_number, known_of, line_in, line_read, line_said, line_with, lines_read, member_in, names_after, numbered, refusal_alone, said_by, said_in, showing, text_says, unless, with_known, with_names}
+use Rattle.fdb_log_reader.specs.ReadLine.{HasTexts, IsNumbered, IsTimed, LineNames, MemberNames, ReadsLine, SaidLine, are_full, key_number, known_of, line_in, line_read, line_said, line_with, lines_read, member_in, names_after, names_behind, numbered, refusal_alone, said_by, said_in, showing, text_says, unless, with_known, with_names}
 use Rattle.fdb_log_reader.specs.private.{IsOneLine}
-use Rattle.fdb_log_reader.specs.private.Following.{Follows, Keeps, TakesLine}
+use Rattle.fdb_log_reader.specs.private.Following.{AllRead, Follows, Keeps, TakesLine, all_on, behind}
 use Rattle.fdb_log_reader.specs.private.Usual.{StandsFor, beside_of, says_of}
 use Rattle.fdb_log_reader.proofs.Naming.{number_within}
 use Rattle.fdb_log_reader.proofs.ShownTexts.{more_names, within_some}
@@ -185,23 +184,31 @@ none_named (one ∷ more) none = absurd (grind (arith, nat_tests))
 
 -- ---- a line that is too long
 
+-- what becomes of some lines, and the names behind them
+abbrev all_of : List (List ℕ) → LineNames → List (List ℕ) → AllRead
+all_of shown names lines = (lines_read shown names lines, names_behind shown names lines)
+
+long_one : (shown : List (List ℕ)) (names : LineNames) (line : List ℕ) (lines : List (List ℕ)) → MAX_LINE_BYTES < length line
+    → all_of shown names (line ∷ lines) ≡ behind (Err TooLong ∷ []) (all_of shown names lines)
+long_one shown names line lines long =
+    let is : nat_lt MAX_LINE_BYTES (length line) ≡ true = grind (arith, nat_tests) in
+    let refused : line_read shown names line ≡ Err TooLong = rw is in
+    ap (λ read. behind (line_in read ∷ []) (all_of shown (names_after names read) lines)) refused
+
 long_read : (shown : List (List ℕ)) (names : LineNames) (line : List ℕ) (more : List (List ℕ)) → MAX_LINE_BYTES < length line
-    → lines_read shown names (without_empty_end (line ∷ more)) ≡ Err TooLong ∷ lines_read shown names (without_empty_end more)
+    → all_of shown names (without_empty_end (line ∷ more)) ≡ behind (Err TooLong ∷ []) (all_of shown names (without_empty_end more))
 long_read shown names line [] long =
     let some : (length line == 0) ≡ false = grind (arith, nat_tests) in
-    let is : nat_lt MAX_LINE_BYTES (length line) ≡ true = grind (arith, nat_tests) in
-    rw (some, is)
-long_read shown names line (next ∷ more) long =
-    let is : nat_lt MAX_LINE_BYTES (length line) ≡ true = grind (arith, nat_tests) in
-    rw is
+    ap (λ b. all_of shown names (if b then [] else line ∷ [])) some ∙ long_one shown names line [] long
+long_read shown names line (next ∷ more) long = long_one shown names line (without_empty_end (next ∷ more)) long
 
 -- a front that is too long is refused at its end, whatever it says
 long_front : (shown : List (List ℕ)) (names : LineNames) (front text : List ℕ) → IsOneLine front → MAX_LINE_BYTES < length front
-    → lines_read shown names (lines_in (front ++ text)) ≡ Err TooLong ∷ lines_read shown names (without_empty_end (parts text).1)
+    → all_of shown names (lines_in (front ++ text)) ≡ behind (Err TooLong ∷ []) (all_of shown names (without_empty_end (parts text).1))
 long_front shown names front text one long =
     let first = (parts text).0 in
     let lengths = length-append front first in
-    ap (λ parts. lines_read shown names (without_empty_end parts)) (front_stays front text one)
+    ap (λ parts. all_of shown names (without_empty_end parts)) (front_stays front text one)
     ∙ long_read shown names (front ++ first) (parts text).1 (omega arith)
 
 fits_in : (front bytes : List ℕ) (room : ℕ) → length bytes ≤ room → (text : List ℕ) → front ++ (bytes ++ text) ≡ (front ++ take room bytes) ++ text
@@ -211,9 +218,9 @@ fits_in front bytes room few text =
 -- of a line that is too long no more is kept than shows it
 kept_part : (shown : List (List ℕ)) (names : LineNames) (front bytes : List ℕ) (room : ℕ) → IsOneLine front → IsOneLine bytes
     → length front + room ≡ MAX_LINE_BYTES + 1 → (text : List ℕ)
-    → lines_read shown names (lines_in (front ++ (bytes ++ text))) ≡ lines_read shown names (lines_in ((front ++ take room bytes) ++ text))
+    → all_of shown names (lines_in (front ++ (bytes ++ text))) ≡ all_of shown names (lines_in ((front ++ take room bytes) ++ text))
 kept_part shown names front bytes room one more is text =
-    elim (nat_lt room (length bytes)) as (λ b. nat_lt room (length bytes) ≡ b → lines_read shown names (lines_in (front ++ (bytes ++ text))) ≡ lines_read shown names (lines_in ((front ++ take room bytes) ++ text))) [
+    elim (nat_lt room (length bytes)) as (λ b. nat_lt room (length bytes) ≡ b → all_of shown names (lines_in (front ++ (bytes ++ text))) ≡ all_of shown names (lines_in ((front ++ take room bytes) ++ text))) [
       | true ↦ λ e.
           let long : room < length bytes = grind (arith, nat_tests) in
           let whole = front ++ bytes in
@@ -222,18 +229,18 @@ kept_part shown names front bytes room one more is text =
           let part_one = All-append (λ byte. is_line_feed byte ≡ false) front (take room bytes) one (All-take (λ byte. is_line_feed byte ≡ false) room bytes more) in
           let whole_long : MAX_LINE_BYTES < length whole = omega (arith, length-append front bytes) in
           let part_long : MAX_LINE_BYTES < length part = omega (arith, length-append front (take room bytes), length-take-le room bytes (omega arith)) in
-          ap (λ bytes. lines_read shown names (lines_in bytes)) (sym (append_assoc front bytes text))
+          ap (λ bytes. all_of shown names (lines_in bytes)) (sym (append_assoc front bytes text))
           ∙ (long_front shown names whole text whole_one whole_long ∙ sym (long_front shown names part text part_one part_long))
       | false ↦ λ e.
           let few : length bytes ≤ room = grind (arith, nat_tests) in
-          ap (λ bytes. lines_read shown names (lines_in bytes)) (fits_in front bytes room few text)
+          ap (λ bytes. all_of shown names (lines_in bytes)) (fits_in front bytes room few text)
     ] refl
 
 pub keeps : (old new : LineReader) (bytes : List ℕ) (room : ℕ) → IsOneLine bytes → length old.front.items + room ≡ MAX_LINE_BYTES + 1
     → new.names ≡ old.names → new.shown ≡ old.shown → new.front.items ≡ old.front.items ++ take room bytes → Keeps old bytes new
 keeps old new bytes room one is names shown front = record {
   goes = λ text. kept_part (map string_bytes old.shown.items) (line_names old) old.front.items bytes room old.one_line one is text
-      ∙ λ i. lines_read (map string_bytes (sym shown i).items) (known_of (sym names i)) (lines_in (sym front i ++ text));
+      ∙ λ i. all_of (map string_bytes (sym shown i).items) (known_of (sym names i)) (lines_in (sym front i ++ text));
   names = ap known_of names;
 }
 
@@ -248,9 +255,9 @@ takes old new bytes whole read is one reads shown front =
     let fit = fits members names whole in
     record {
       goes = λ text.
-          ap (lines_read members names) (ap lines_in (sym (append_assoc old.front.items bytes (10 ∷ text))) ∙ (ap (λ whole. lines_in (whole ++ 10 ∷ text)) is ∙ first_line whole text one))
-          ∙ (ap₂ (λ line names. line ∷ lines_read members names (lines_in text)) reads.said reads.after
-          ∙ λ i. said_in read ∷ lines_read (map string_bytes (sym shown i).items) (line_names new) (lines_in (sym front i ++ text)));
+          ap (all_of members names) (ap lines_in (sym (append_assoc old.front.items bytes (10 ∷ text))) ∙ (ap (λ whole. lines_in (whole ++ 10 ∷ text)) is ∙ first_line whole text one))
+          ∙ (ap₂ (λ line names. behind (line ∷ []) (all_of members names (lines_in text))) reads.said reads.after
+          ∙ λ i. behind (said_in read ∷ []) (all_of (map string_bytes (sym shown i).items) (line_names new) (lines_in (sym front i ++ text))));
       more = subst (AreMore names) reads.after fit.more;
       texts = reads.texts;
       timed = timed_read read (subst (λ line. IfOk line (λ said. has_times said.line ≡ true)) reads.said fit.timed);
@@ -286,8 +293,9 @@ follows_on old now new bytes rest line after lines read so_far is takes =
     record {
       goes = λ text.
           so_far.goes text
-          ∙ (ap (λ more. map said_in lines ++ more) (ap (lines_on now) (ap (λ r. r ++ text) is ∙ append_assoc line (10 ∷ after) text) ∙ takes.goes (after ++ text))
-          ∙ (sym (append_assoc (map said_in lines) (said_in read ∷ []) (lines_on new (after ++ text)))
+          ∙ (ap (behind (map said_in lines)) (ap (all_on now) (ap (λ r. r ++ text) is ∙ append_assoc line (10 ∷ after) text) ∙ takes.goes (after ++ text))
+          ∙ ap (λ lines. (lines, names_on new (after ++ text)))
+          (sym (append_assoc (map said_in lines) (said_in read ∷ []) (lines_on new (after ++ text)))
           ∙ ap (λ said. said ++ lines_on new (after ++ text)) (sym (map-append said_in lines (read ∷ [])))));
       more = all_yet (line_names old) (line_names now) (line_names new) so_far.more takes.more;
       texts = All-append (λ read. IfOk read HasTexts) lines (read ∷ []) so_far.texts (one_read (λ read. IfOk read HasTexts) read takes.texts);
@@ -299,7 +307,7 @@ follows_on old now new bytes rest line after lines read so_far is takes =
 
 pub follows_kept : (old now new : LineReader) (bytes rest : List ℕ) (lines : List (Result ReadLine Why)) → Follows old bytes lines now rest → Keeps now rest new → Follows old bytes lines new []
 follows_kept old now new bytes rest lines so_far keeps = record {
-  goes = λ text. so_far.goes text ∙ ap (λ more. map said_in lines ++ more) (keeps.goes text);
+  goes = λ text. so_far.goes text ∙ ap (behind (map said_in lines)) (keeps.goes text);
   more = subst (AreMore (line_names old)) (sym keeps.names) so_far.more;
   texts = so_far.texts;
   timed = so_far.timed;
@@ -308,11 +316,11 @@ follows_kept old now new bytes rest lines so_far keeps = record {
 
 -- ---- where the text ends
 
-pub nothing_left : (reader : LineReader) → reader.front.items ≡ [] → lines_on reader [] ≡ []
-nothing_left reader none = ap (λ front. lines_read (map string_bytes reader.shown.items) (line_names reader) (lines_in (front ++ []))) none
+pub nothing_left : (reader : LineReader) → reader.front.items ≡ [] → all_on reader [] ≡ ([], line_names reader)
+nothing_left reader none = ap (λ front. all_of (map string_bytes reader.shown.items) (line_names reader) (lines_in (front ++ []))) none
 
 pub last_taken : (old new : LineReader) (read : Result ReadLine Why) → 0 < length old.front.items → new.front.items ≡ [] → TakesLine old [] read new
-    → lines_on old [] ≡ said_in read ∷ []
+    → all_on old [] ≡ (said_in read ∷ [], line_names new)
 last_taken old new read some none takes =
-    ap (lines_read (map string_bytes old.shown.items) (line_names old)) (last_line old.front.items old.one_line some ∙ sym (first_line old.front.items [] old.one_line))
-    ∙ (takes.goes [] ∙ ap (λ more. said_in read ∷ more) (nothing_left new none))
+    ap (all_of (map string_bytes old.shown.items) (line_names old)) (last_line old.front.items old.one_line some ∙ sym (first_line old.front.items [] old.one_line))
+    ∙ (takes.goes [] ∙ ap (behind (said_in read ∷ [])) (nothing_left new none))

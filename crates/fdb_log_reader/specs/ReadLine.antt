@@ -123,6 +123,11 @@ lines_read shown names (line ∷ lines) =
     let read = line_read shown names line in
     line_in read ∷ lines_read shown (names_after names read) lines
 
+-- and the names behind them
+abbrev pub names_behind : List (List ℕ) → LineNames → List (List ℕ) → LineNames
+names_behind shown names [] = names
+names_behind shown names (line ∷ lines) = names_behind shown (names_after names (line_read shown names line)) lines
+
 -- ---- what a line was read as
 
 abbrev pub keys_of : KnownKeys → MemberNames

@@ -25,10 +25,11 @@ pub struct LineReader {
 }
 
 impl LineReader {
-    ghost use Rattle.fdb_log_reader.specs.LineReader.{line_names, lines_on, AreMore};
+    ghost use Rattle.fdb_log_reader.specs.LineReader.{line_names, lines_on, names_on, AreMore};
     ghost use Rattle.fdb_log_reader.specs.Names.{names_of};
     ghost use Rattle.fdb_log_reader.specs.ReadLine.{lines_read, no_names, said_by, said_in};
     ghost use Rattle.fdb_log_reader.specs.ReadLine.{HasTexts, IsNumbered, IsTimed};
+    ghost use Rattle.fdb_log_reader.specs.ReadLine.{names_behind};
     ghost use Rattle.fdb_log_reader.specs.Reading.{lines_in};
     ghost use Rattle.fdb_log_reader.specs.private.Following.{Keeps, TakesLine};
 
@@ -38,6 +39,9 @@ impl LineReader {
         ensures read { IfOk result (λ reader. (text : List ℕ) → lines_on reader text ≡ lines_read
             (map string_bytes shown.now) (no_names (option_map (λ key. key.now) key.entry))
             (lines_in text)) }
+        ensures behind { IfOk result (λ reader. (text : List ℕ) → names_on reader text
+            ≡ names_behind (map string_bytes shown.now)
+            (no_names (option_map (λ key. key.now) key.entry)) (lines_in text)) }
         ensures names { IfOk result
             (λ reader. line_names reader ≡ no_names (option_map (λ key. key.now) key.entry)) }
     {
@@ -77,6 +81,8 @@ impl LineReader {
     ) -> Result<Vec<Result<ReadLine, Why>>, AllocError>
         ensures read { IfOk result (λ lines. (text : List ℕ) → lines_on self.old (bytes.now ++ text)
             ≡ map said_in lines.items ++ lines_on self.new text) }
+        ensures behind { OnOk result
+            ((text : List ℕ) → names_on self.old (bytes.now ++ text) ≡ names_on self.new text) }
         ensures texts { IfOk result (λ lines. All (λ read. IfOk read HasTexts) lines.items) }
         ensures timed { IfOk result (λ lines. All (λ read. IfOk read IsTimed) lines.items) }
         ensures numbers { IfOk result (λ lines. All (λ read.
@@ -100,6 +106,7 @@ impl LineReader {
     pub fn finish(&mut self, alloc: Global) -> Result<Option<Result<ReadLine, Why>>, AllocError>
         ensures read { IfOk result (λ last. MatchOption last (lines_on self.old [] ≡ [])
             (λ read. lines_on self.old [] ≡ said_in read ∷ [])) }
+        ensures behind { OnOk result (names_on self.old [] ≡ line_names self.new) }
         ensures goes_on { IfOk result (λ last. (text : List ℕ) → MatchOption last
             (lines_on self.old text ≡ lines_on self.new text)
             (λ read. lines_on self.old (10 ∷ text) ≡ said_in read ∷ lines_on self.new text)) }

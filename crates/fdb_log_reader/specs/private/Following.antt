@@ -1,14 +1,25 @@
 -- What comes of a reader of single lines that is given some bytes. (this product's own)
-use Rattle.std.specs.Prelude.{◌≡◌, ℕ, List, ◌++◌, ◌∷◌, All, IfOk, map, Result}
+use Rattle.std.specs.Prelude.{◌≡◌, ℕ, List, [], ◌++◌, ◌∷◌, All, IfOk, map, Result}
 use Rattle.fdb_log_reader.specs.declared.error.Why.{Why}
 use Rattle.fdb_log_reader.specs.declared.line_reader.LineReader.{LineReader}
 use Rattle.fdb_log_reader.specs.declared.read_line.ReadLine.{ReadLine}
-use Rattle.fdb_log_reader.specs.LineReader.{AreMore, line_names, lines_on}
-use Rattle.fdb_log_reader.specs.ReadLine.{HasTexts, IsNumbered, IsTimed, said_by, said_in}
+use Rattle.fdb_log_reader.specs.LineReader.{AreMore, line_names, lines_on, names_on}
+use Rattle.fdb_log_reader.specs.ReadLine.{HasTexts, IsNumbered, IsTimed, LineNames, SaidLine, said_by, said_in}
+
+-- what becomes of all further lines, and the names behind them
+abbrev pub AllRead : Type 0
+AllRead = List (Result SaidLine Why) × LineNames
+
+abbrev pub all_on : LineReader → List ℕ → AllRead
+all_on reader rest = (lines_on reader rest, names_on reader rest)
+
+-- the same, with these lines before
+abbrev pub behind : List (Result SaidLine Why) → AllRead → AllRead
+behind lines more = (lines ++ more.0, more.1)
 
 -- Of these bytes those lines were read, and a reader reads on with this rest.
 pub record Follows (old : LineReader) (bytes : List ℕ) (lines : List (Result ReadLine Why)) (new : LineReader) (rest : List ℕ) : Type 0 where
-  pub goes : (text : List ℕ) → lines_on old (bytes ++ text) ≡ map said_in lines ++ lines_on new (rest ++ text)
+  pub goes : (text : List ℕ) → all_on old (bytes ++ text) ≡ behind (map said_in lines) (all_on new (rest ++ text))
   pub more : AreMore (line_names old) (line_names new)
   pub texts : All (λ read. IfOk read HasTexts) lines
   pub timed : All (λ read. IfOk read IsTimed) lines
@@ -16,7 +27,7 @@ pub record Follows (old : LineReader) (bytes : List ℕ) (lines : List (Result R
 
 -- the same of one line with its feed
 pub record TakesLine (old : LineReader) (line : List ℕ) (read : Result ReadLine Why) (new : LineReader) : Type 0 where
-  pub goes : (text : List ℕ) → lines_on old (line ++ 10 ∷ text) ≡ said_in read ∷ lines_on new text
+  pub goes : (text : List ℕ) → all_on old (line ++ 10 ∷ text) ≡ behind (said_in read ∷ []) (all_on new text)
   pub more : AreMore (line_names old) (line_names new)
   pub texts : IfOk read HasTexts
   pub timed : IfOk read IsTimed
@@ -24,5 +35,5 @@ pub record TakesLine (old : LineReader) (line : List ℕ) (read : Result ReadLin
 
 -- and of bytes of a line that has not ended
 pub record Keeps (old : LineReader) (bytes : List ℕ) (new : LineReader) : Type 0 where
-  pub goes : (text : List ℕ) → lines_on old (bytes ++ text) ≡ lines_on new text
+  pub goes : (text : List ℕ) → all_on old (bytes ++ text) ≡ all_on new text
   pub names : line_names new ≡ line_names old
