@@ -10,7 +10,6 @@ use Rattle.serde_json.specs.Find.{get}
 use Rattle.fdb_log_reader.specs.declared.error.Why.{Why}
 use Rattle.fdb_log_reader.specs.declared.error.Why.TheVariants.{Memory, TooLong, TooMany}
 use Rattle.fdb_log_reader.specs.declared.line_reader.LineReader.{LineReader}
-use Rattle.fdb_log_reader.specs.declared.member.Member.{Member}
 use Rattle.fdb_log_reader.specs.declared.read_line.ReadLine.{ReadLine}
 use Rattle.fdb_log_reader.specs.declared.reader.TheConstants.{MAX_LINE_BYTES}
 use Rattle.fdb_log_reader.specs.declared.usual.Usual.{Usual}

@@ -1,5 +1,5 @@
 -- Members that are kept beside the calls, a cell for each line. (this product's own)
-use Rattle.std.specs.Prelude.{◌≡◌, ℕ, List, [], ◌∷◌, ◌++◌, length, map, slice_get, string_bytes, Option, None, Some, IfSome, option_and_then, option_map, Result, Ok, Err, if◌then◌else◌}
+use Rattle.std.specs.Prelude.{◌≡◌, ℕ, List, [], ◌∷◌, ◌++◌, length, map, slice_get, string_bytes, Option, None, Some, IfSome, option_and_then, option_map, Result, Ok}
 use Rattle.std.specs.Option.{ok_or, option_flatten}
 use Rattle.json.specs.Strict.{AreDistinct}
 use Rattle.serde_json.specs.Data.{Data}
