@@ -1,7 +1,7 @@
 //! Lines that are read one by one, each by itself, however long the text gets.
 
-ghost use Rattle.std.specs.Prelude.{◌≡◌, ◌++◌, ◌∷◌, ◌≤◌, ℕ, List, [], All, IfOk, IfSome, OnOk, length};
-ghost use Rattle.std.specs.Prelude.{MatchOption, map, option_map, take, string_bytes};
+ghost use Rattle.std.specs.Prelude.{◌≡◌, ◌++◌, ◌∷◌, ◌≤◌, ℕ, List, [], All, IfOk, IfSome, OnOk};
+ghost use Rattle.std.specs.Prelude.{length, MatchOption, map, option_map, take, string_bytes};
 ghost use Rattle.fdb_log_reader.specs.ReadLine.{known_of, ReadsLine};
 ghost use Rattle.fdb_log_reader.specs.private.{IsOneLine};
 

@@ -1,7 +1,7 @@
 //! A line that is read by itself, and how it is read.
 
-ghost use Rattle.std.specs.Prelude.{◌≡◌, ◌⊎◌, ◌≤◌, ℕ, List, [], All, Err, IfOk, IfSome, MatchResult};
-ghost use Rattle.std.specs.Prelude.{Ok, false, map, option_map, string_bytes};
+ghost use Rattle.std.specs.Prelude.{◌≡◌, ◌⊎◌, ◌≤◌, ℕ, List, [], All, Err, IfOk, IfSome};
+ghost use Rattle.std.specs.Prelude.{MatchResult, Ok, false, map, option_map, string_bytes};
 ghost use Rattle.serde_json.specs.Data.{depth};
 ghost use Rattle.serde_json.specs.Find.{get};
 ghost use Rattle.serde_json.specs.Read.{max_depth};

@@ -2,6 +2,7 @@
 //! behind `=>` what is read of it, as a whole and byte by byte: the error, or the names and each
 //! line. Then the orders that explain some, by hand and by another program.
 
+mod apart;
 mod judged;
 
 use fdb_checks::same_text;
