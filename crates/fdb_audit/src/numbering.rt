@@ -1,6 +1,10 @@
 //! Under which number a line is printed that was taken of a log that is followed.
 
-ghost use Rattle.std.specs.Prelude.{◌≡◌, ◌+◌, ◌<◌, ◌^◌, ◌++◌, ◌∷◌, [], OnOk, count_by, length, nat_le};
+ghost use Rattle.std.specs.Prelude.{◌≡◌, ◌+◌, ◌<◌, ◌≤◌, ◌^◌, ◌++◌, ◌∷◌, [], All, IfOk, List, OnOk};
+ghost use Rattle.std.specs.Prelude.{Result, count_by, length, map, nat_le};
+ghost use Rattle.fdb_log_reader.specs.declared.error.Why.{Why};
+ghost use Rattle.fdb_log_reader.specs.ReadLine.{SaidLine};
+ghost use Rattle.fdb_audit.specs.Following.{number_in, taken, taken_above};
 
 use fdb_lines::Settled;
 use std::alloc::{AllocError, Global};
@@ -43,7 +47,12 @@ impl Numbering {
     }
 
     /// The numbers of the lines that a watch had kept, each at its place.
-    pub(crate) fn numbers(&self, alloc: Global, settled: &Settled) -> Result<Vec<u64>, AllocError> {
+    pub(crate) fn numbers(&self, alloc: Global, settled: &Settled) -> Result<Vec<u64>, AllocError>
+        ensures { IfOk result (λ numbers. (read : List (Result SaidLine Why))
+            → (self.now.above.items ≡ taken_above 0 read) → (length read < 2 ^ 64)
+            → All (λ place. place ≤ length (taken read)) settled.now.numbers.items
+            → numbers.items ≡ map (number_in read) settled.now.numbers.items) }
+    {
         let mut numbers = Vec::with_capacity(alloc, settled.numbers.len())?;
         for taken in &settled.numbers {
             numbers.push(self.number(*taken))?;

@@ -1,0 +1,240 @@
+-- What is told of a log that is followed, window by window: windows follow one another, and stay as they are while more is read.
+use Rattle.std.proofs.Common.{◌≡◌, ◌∙◌, ℕ, zero, suc, ◌+◌, ◌<◌, ◌≤◌, Bool, true, false, cond, List, [], ◌∷◌, ◌++◌, All, ap, append-nil, append_assoc, arith, inl, inr, length, length-append, map, option_map, refl, slice_get, slice_index, slice_index_or, string_bytes, subst, sym, take, Option, None, Some, Result}
+use Rattle.std.proofs.lemmas.Bool.{cases_lt}
+use Rattle.std.proofs.lemmas.List.{get_or_append_left, get_or_past, get_or_push, length-map, take_all, take-append-le}
+use Rattle.std.proofs.lemmas.List.Elements.{All-append, All-cons, All-map, All-nil}
+use Rattle.std.specs.Option.{option_or}
+use Rattle.fdb_lines.specs.declared.key_part.KeyPart.{KeyPart}
+use Rattle.fdb_lines.specs.declared.key_part.SettledKey.{SettledKey}
+use Rattle.fdb_lines.specs.declared.line.Line.{Line}
+use Rattle.fdb_lines.specs.declared.reason.Finding.{Finding}
+use Rattle.fdb_lines.specs.KeyParts.{lines_of_one}
+use Rattle.fdb_lines.specs.Keys.{key_at, places_below, places_of, same_key}
+use Rattle.fdb_lines.specs.KeyWatch.{AreTold, IsToldOf}
+use Rattle.fdb_lines.specs.Lines.{lines_in}
+use Rattle.fdb_lines.specs.Log.{lines_of}
+use Rattle.fdb_lines.specs.Reasons.{found_of}
+use Rattle.fdb_lines.specs.Watch.{judged_from}
+use Rattle.fdb_log_reader.specs.declared.error.Why.{Why}
+use Rattle.fdb_log_reader.specs.Numbers.{IsMore}
+use Rattle.fdb_log_reader.specs.Printed.{printed}
+use Rattle.fdb_log_reader.specs.ReadLine.{SaidLine}
+use Rattle.fdb_audit.specs.declared.fault.LogFault.{LogFault}
+use Rattle.fdb_audit.specs.declared.judging.Wanted.{Wanted}
+use Rattle.fdb_audit.specs.declared.teller.Teller.{Teller}
+use Rattle.fdb_audit.specs.Following.{AreWindows, IsFoundIn, IsWindow, Window, first_in, first_told, keys_taken, lines_taken, number_in, places_in, printed_in, taken, told_text}
+use Rattle.fdb_audit.specs.Text.{Beside, PrintedLog, fault_of}
+use Rattle.fdb_audit.specs.private.Followed.{TellsOn}
+
+-- ---- windows that follow others
+
+pub windows_on : (margin : ℕ) (wanted : Wanted) (read : List (Result SaidLine Why)) (names : List (List ℕ)) (ws vs : List Window) (text more : List ℕ)
+    → AreWindows margin wanted read names ws text → AreWindows margin wanted read names vs more
+    → AreWindows margin wanted read names (ws ++ vs) (text ++ more)
+windows_on margin wanted read names [] vs text more are other =
+    subst (AreWindows margin wanted read names vs) (sym (ap (λ (bytes : List ℕ). bytes ++ more) are)) other
+windows_on margin wanted read names (w ∷ ws) vs text more are other =
+    (are.0, are.1 ++ more, ap (λ (bytes : List ℕ). bytes ++ more) are.2 ∙ append_assoc are.0 are.1 more, are.3, are.4, are.5,
+    windows_on margin wanted read names ws vs are.1 more are.6 other)
+
+-- ---- windows stay while more is read
+
+names_yet : (a b c : List (List ℕ)) → IsMore a b → IsMore b c → IsMore a c
+names_yet a b c one two = (one.0 ++ two.0, two.1 ∙ (ap (λ (names : List (List ℕ)). names ++ two.0) one.1 ∙ append_assoc a one.0 two.0))
+
+same_taken : (read further : List (Result SaidLine Why)) (n : ℕ) → n ≤ length read → take n (read ++ further) ≡ take n read
+same_taken read further n within = take-append-le n read further within
+
+pub windows_stay : (margin : ℕ) (wanted : Wanted) (read further : List (Result SaidLine Why)) (names more : List (List ℕ)) (ws : List Window) (text : List ℕ)
+    → AreWindows margin wanted read names ws text → IsMore names more → AreWindows margin wanted (read ++ further) more ws text
+windows_stay margin wanted read further names more [] text are is = are
+windows_stay margin wanted read further names more (w ∷ ws) text are is =
+    let within = are.3 in
+    let size = length-append read further in
+    let still : w.read ≤ length (read ++ further) = omega arith in
+    (are.0, are.1, are.2, still, names_yet w.names names more are.4 is,
+    subst (λ (those : List (Result SaidLine Why)). IsWindow margin wanted those w are.0) (sym (same_taken read further w.read within)) are.5,
+    windows_stay margin wanted read further names more ws are.1 are.6 is)
+
+-- ---- the first fault that is told
+
+or_else : {X : Type 0} (a b c : Option X) → option_or (option_or a b) c ≡ option_or a (option_or b c)
+or_else None b c = refl
+or_else (Some a) b c = refl
+
+or_none : {X : Type 0} (a : Option X) → option_or a None ≡ a
+or_none None = refl
+or_none (Some a) = refl
+
+pub first_on : (read : List (Result SaidLine Why)) (ws vs : List Window) → first_told read (ws ++ vs) ≡ option_or (first_told read ws) (first_told read vs)
+first_on read [] vs = refl
+first_on read (w ∷ ws) vs =
+    let first = first_in (take w.read read) w in
+    ap (option_or first) (first_on read ws vs) ∙ sym (or_else first (first_told read ws) (first_told read vs))
+
+pub first_stays : (read further : List (Result SaidLine Why)) (ws : List Window) → All (λ (w : Window). w.read ≤ length read) ws
+    → first_told (read ++ further) ws ≡ first_told read ws
+first_stays read further [] within = refl
+first_stays read further (w ∷ ws) within =
+    let here : w.read ≤ length read = within 0 w (omega arith) in
+    let rest : All (λ (w : Window). w.read ≤ length read) ws = λ k d lt. within (suc k) d (omega arith) in
+    ap (λ (those : List (Result SaidLine Why)). option_or (first_in those w) (first_told (read ++ further) ws)) (same_taken read further w.read here)
+    ∙ ap (option_or (first_in (take w.read read) w)) (first_stays read further ws rest)
+
+-- windows are of lines that were read
+pub windows_within : (margin : ℕ) (wanted : Wanted) (read : List (Result SaidLine Why)) (names : List (List ℕ)) (ws : List Window) (text : List ℕ)
+    → AreWindows margin wanted read names ws text → All (λ (w : Window). w.read ≤ length read) ws
+windows_within margin wanted read names [] text are = All-nil (λ (w : Window). w.read ≤ length read)
+windows_within margin wanted read names (w ∷ ws) text are =
+    All-cons (λ (w : Window). w.read ≤ length read) w ws are.3 (windows_within margin wanted read names ws are.1 are.6)
+
+-- ---- what is told more
+
+pub tells_nothing : (teller : Teller) (margin : ℕ) (read : List (Result SaidLine Why)) (names : List (List ℕ)) → TellsOn teller teller margin read names
+tells_nothing teller margin read names = record {
+  windows = [];
+  at = All-nil (λ (window : Window). window.read ≡ length read);
+  text = [];
+  told = refl;
+  appended = sym (append-nil (string_bytes teller.text));
+  first = sym (or_none teller.first);
+  wanted = refl;
+}
+
+pub tells_yet : (old mid new : Teller) (margin : ℕ) (read : List (Result SaidLine Why)) (names : List (List ℕ))
+    → TellsOn old mid margin read names → TellsOn mid new margin read names → TellsOn old new margin read names
+tells_yet old mid new margin read names one two = record {
+  windows = one.windows ++ two.windows;
+  at = All-append (λ (window : Window). window.read ≡ length read) one.windows two.windows one.at two.at;
+  text = one.text ++ two.text;
+  told = windows_on margin new.wanted read names one.windows two.windows one.text two.text
+      (subst (λ (wanted : Wanted). AreWindows margin wanted read names one.windows one.text) (sym two.wanted) one.told) two.told;
+  appended = two.appended ∙ (ap (λ (bytes : List ℕ). bytes ++ two.text) one.appended ∙ append_assoc (string_bytes old.text) one.text two.text);
+  first = two.first ∙ (ap (λ (first : Option LogFault). option_or first (first_told read two.windows)) one.first
+      ∙ (or_else old.first (first_told read one.windows) (first_told read two.windows)
+      ∙ ap (option_or old.first) (sym (first_on read one.windows two.windows))));
+  wanted = two.wanted ∙ one.wanted;
+}
+
+-- ---- the places of the lines of a key
+
+place_more : (before : List ℕ) (n i : ℕ) (b : Bool) → slice_index before i ≤ n → slice_index (before ++ cond b (n ∷ []) []) i ≤ suc n
+place_more before n i true within = elim (cases_lt i (length before)) [
+  | inl old ↦ rw (get_or_append_left before (n ∷ []) 0 i old) (omega arith)
+  | inr ge ↦ elim (cases_lt (length before) i) [
+      | inl past ↦
+          let size : length (before ++ n ∷ []) ≤ i = let sum = length-append before (n ∷ []) in omega arith in
+          rw (get_or_past (before ++ n ∷ []) i 0 size) (omega arith)
+      | inr le ↦
+          let at : length before ≡ i = omega arith in
+          rw (get_or_push before n 0 i at) (omega arith)
+    ]
+]
+place_more before n i false within = rw append-nil (omega arith)
+
+place_within : (keys : List (Option ℕ)) (key : Option ℕ) (n i : ℕ) → slice_index (places_below keys key n) i ≤ n
+place_within keys key zero i = rw (get_or_past [] i 0 (omega arith)) (omega arith)
+place_within keys key (suc n) i = place_more (places_below keys key n) n i (same_key (key_at keys n) key) (place_within keys key n i)
+
+-- ---- what is told of a key
+
+-- each line that had been kept was taken
+pub kept_within : (to : Option ℕ) (read : List (Result SaidLine Why)) (entry : SettledKey) (part : KeyPart)
+    → IsToldOf to (lines_taken read) (keys_taken read) entry part → All (λ (place : ℕ). place ≤ length (taken read)) entry.settled.numbers.items
+kept_within to read entry part told =
+    let keys = keys_taken read in
+    let kept = part.watch.numbers.items in
+    let size : length keys ≡ length (taken read) = length-map (taken read) (λ (said : SaidLine). said.key) in
+    let within : (i : ℕ) → slice_index (places_of keys part.key) i ≤ length (taken read) =
+      λ i. subst (λ n. slice_index (places_of keys part.key) i ≤ n) size (place_within keys part.key (length keys) i) in
+    subst (All (λ (place : ℕ). place ≤ length (taken read))) (sym told.numbers)
+      (All-map (λ (place : ℕ). place ≤ length (taken read)) (slice_index (places_of keys part.key)) kept (λ k d lt. within (slice_index_or kept k d)))
+
+-- what is told of a key at a moment
+abbrev pub window_of : Option ℕ → List (Result SaidLine Why) → List (List ℕ) → SettledKey → KeyPart → Window
+window_of to read names entry part = record {
+  read = length read;
+  names = names;
+  key = part.key;
+  kept = part.watch.numbers.items;
+  from = part.watch.from;
+  early = judged_from part.watch;
+  since = part.watch.settled;
+  to = to;
+  found = entry.settled.found.items;
+}
+
+found_in : (margin : ℕ) (to : Option ℕ) (read : List (Result SaidLine Why)) (names : List (List ℕ)) (entry : SettledKey) (part : KeyPart)
+    → part.watch.margin ≡ margin → IsToldOf to (lines_taken read) (keys_taken read) entry part
+    → IsFoundIn margin (lines_of_one (lines_taken read) (keys_taken read) part.key) (window_of to read names entry part)
+found_in margin to read names entry part same told =
+    subst (λ m. IsFoundIn m (lines_of_one (lines_taken read) (keys_taken read) part.key) (window_of to read names entry part)) same
+      (record { told = told.told.told; reasons = told.told.reasons; late = told.told.late })
+
+-- what is shown of lines
+abbrev log_with : List Line → List (List ℕ) → List ℕ → List Beside → PrintedLog
+log_with lines names numbers beside = record { lines = lines; names = names; numbers = numbers; beside = beside }
+
+-- and of the lines of a key that had been kept
+abbrev pub shown_of : List (Result SaidLine Why) → List (List ℕ) → SettledKey → List Beside → PrintedLog
+shown_of read names entry beside = record {
+  lines = (lines_of entry.settled.log).lines;
+  names = map printed names;
+  numbers = map (number_in read) entry.settled.numbers.items;
+  beside = beside;
+}
+
+shown_is : (to : Option ℕ) (read : List (Result SaidLine Why)) (names : List (List ℕ)) (entry : SettledKey) (part : KeyPart) (beside : List Beside)
+    → IsToldOf to (lines_taken read) (keys_taken read) entry part → shown_of read names entry beside ≡ printed_in read (window_of to read names entry part) beside
+shown_is to read names entry part beside told =
+    ap (λ (lines : List Line). log_with lines (map printed names) (map (number_in read) entry.settled.numbers.items) beside) told.log
+    ∙ ap (λ (places : List ℕ). log_with (lines_in (lines_taken read) places) (map printed names) (map (number_in read) places) beside) told.numbers
+
+-- the first of some faults, by the number of its line
+abbrev pub first_of : PrintedLog → List Finding → Option LogFault
+first_of it found = option_map (λ (finding : Finding). fault_of it.numbers (found_of finding)) (slice_get found 0)
+
+pub tells_of : (old new : Teller) (margin : ℕ) (to : Option ℕ) (read : List (Result SaidLine Why)) (names : List (List ℕ)) (entry : SettledKey) (part : KeyPart) (beside : List Beside) (it : PrintedLog)
+    → part.watch.margin ≡ margin → IsToldOf to (lines_taken read) (keys_taken read) entry part → it ≡ shown_of read names entry beside
+    → string_bytes new.text ≡ string_bytes old.text ++ told_text old.wanted it entry.settled.found.items
+    → new.first ≡ option_or old.first (first_of it entry.settled.found.items) → new.wanted ≡ old.wanted
+    → TellsOn old new margin read names
+tells_of old new margin to read names entry part beside it same told is added first wanted =
+    let found = entry.settled.found.items in
+    let window = window_of to read names entry part in
+    let log = printed_in read window beside in
+    let shown : it ≡ log = is ∙ shown_is to read names entry part beside told in
+    let text = told_text new.wanted log found in
+    let all : take (length read) read ≡ read = take_all (length read) read (omega arith) in
+    let one : IsWindow margin new.wanted read window text = record { found = found_in margin to read names entry part same told; beside = beside; text = refl } in
+    let here : window.read ≤ length read = omega arith in
+    record {
+      windows = window ∷ [];
+      at = All-cons (λ (window : Window). window.read ≡ length read) window [] refl (All-nil (λ (window : Window). window.read ≡ length read));
+      text = text;
+      told = (text, [], sym (append-nil text), here, ([], sym (append-nil names)),
+          subst (λ (those : List (Result SaidLine Why)). IsWindow margin new.wanted those window text) (sym all) one, refl);
+      appended = added ∙ (ap (λ (it : PrintedLog). string_bytes old.text ++ told_text old.wanted it found) shown
+          ∙ ap (λ (wanted : Wanted). string_bytes old.text ++ told_text wanted log found) (sym wanted));
+      first = first ∙ (ap (λ (it : PrintedLog). option_or old.first (first_of it found)) shown
+          ∙ ap (option_or old.first) (sym (or_none (first_in (take (length read) read) window)
+          ∙ ap (λ (those : List (Result SaidLine Why)). first_in those window) all)));
+      wanted = wanted;
+    }
+
+-- ---- what is told of each key
+
+some_of : {X : Type 0} (xs : List X) (i : ℕ) → i < length xs → X
+some_of [] i within = absurd (omega arith)
+some_of (x ∷ xs) i within = x
+
+-- an entry tells of a part
+pub part_told : (margin : ℕ) (to : Option ℕ) (lines : List Line) (keys : List (Option ℕ)) (parts : List KeyPart) (entries : List SettledKey) (k : ℕ) (entry : SettledKey)
+    → All (λ (part : KeyPart). part.watch.margin ≡ margin) parts → AreTold to lines keys parts entries
+    → k < length entries → slice_index_or entries k entry ≡ entry
+    → (part : KeyPart) × (part.watch.margin ≡ margin) × IsToldOf to lines keys entry part
+part_told margin to lines keys parts entries k entry same told within is =
+    let one = told.each k entry within in
+    let d = some_of parts one.0 one.1 in
+    let part = slice_index_or parts one.0 d in
+    (part, same one.0 d one.1, subst (λ (entry : SettledKey). IsToldOf to lines keys entry part) is (one.2 d))
