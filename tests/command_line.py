@@ -49,7 +49,7 @@ class Program(NamedTuple):
         return self.ended(NO_STREAM, "writing failed")
 
     def words_refused(self):
-        return self.ended(OTHER_ARGUMENTS, "words refused: see --help")
+        return self.ended(OTHER_ARGUMENTS, "words refused")
 
     def whole(self):
         """All that may be asked for at once, each number with its value."""

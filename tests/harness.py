@@ -153,7 +153,7 @@ def refused(why):
 
 READING_FAILED = faulted(NO_STREAM, "reading failed")
 OUT_OF_MEMORY = faulted(NO_MEMORY, "want of memory")
-ARGUMENTS_REFUSED = faulted(OTHER_ARGUMENTS, "words refused: see --help")
+ARGUMENTS_REFUSED = faulted(OTHER_ARGUMENTS, "words refused")
 
 
 def members(**texts):

@@ -33,9 +33,15 @@ pub windows_on : (margin : ℕ) (wanted : Wanted) (read : List (Result SaidLine 
     → AreWindows margin wanted read names (ws ++ vs) (text ++ more)
 windows_on margin wanted read names [] vs text more are other =
     subst (AreWindows margin wanted read names vs) (sym (ap (λ (bytes : List ℕ). bytes ++ more) are)) other
-windows_on margin wanted read names (w ∷ ws) vs text more are other =
-    (are.0, are.1 ++ more, ap (λ (bytes : List ℕ). bytes ++ more) are.2 ∙ append_assoc are.0 are.1 more, are.3, are.4, are.5,
-    windows_on margin wanted read names ws vs are.1 more are.6 other)
+windows_on margin wanted read names (w ∷ ws) vs text more are other = (
+  are.0,
+  are.1 ++ more,
+  ap (λ (bytes : List ℕ). bytes ++ more) are.2 ∙ append_assoc are.0 are.1 more,
+  are.3,
+  are.4,
+  are.5,
+  windows_on margin wanted read names ws vs are.1 more are.6 other,
+)
 
 -- ---- windows stay while more is read
 
@@ -51,10 +57,15 @@ windows_stay margin wanted read further names more [] text are is = are
 windows_stay margin wanted read further names more (w ∷ ws) text are is =
     let within = are.3 in
     let size = length-append read further in
-    let still : w.read ≤ length (read ++ further) = omega arith in
-    (are.0, are.1, are.2, still, names_yet w.names names more are.4 is,
-    subst (λ (those : List (Result SaidLine Why)). IsWindow margin wanted those w are.0) (sym (same_taken read further w.read within)) are.5,
-    windows_stay margin wanted read further names more ws are.1 are.6 is)
+    let still : w.read ≤ length (read ++ further) = omega arith in (
+      are.0,
+      are.1,
+      are.2,
+      still,
+      names_yet w.names names more are.4 is,
+      subst (λ (those : List (Result SaidLine Why)). IsWindow margin wanted those w are.0) (sym (same_taken read further w.read within)) are.5,
+      windows_stay margin wanted read further names more ws are.1 are.6 is,
+    )
 
 -- ---- the first fault that is told
 
@@ -122,13 +133,13 @@ place_more : (before : List ℕ) (n i : ℕ) (b : Bool) → slice_index before i
 place_more before n i true within = elim (cases_lt i (length before)) [
   | inl old ↦ rw (get_or_append_left before (n ∷ []) 0 i old) (omega arith)
   | inr ge ↦ elim (cases_lt (length before) i) [
-      | inl past ↦
-          let size : length (before ++ n ∷ []) ≤ i = let sum = length-append before (n ∷ []) in omega arith in
-          rw (get_or_past (before ++ n ∷ []) i 0 size) (omega arith)
-      | inr le ↦
-          let at : length before ≡ i = omega arith in
-          rw (get_or_push before n 0 i at) (omega arith)
-    ]
+    | inl past ↦
+        let size : length (before ++ n ∷ []) ≤ i = let sum = length-append before (n ∷ []) in omega arith in
+        rw (get_or_past (before ++ n ∷ []) i 0 size) (omega arith)
+    | inr le ↦
+        let at : length before ≡ i = omega arith in
+        rw (get_or_push before n 0 i at) (omega arith)
+  ]
 ]
 place_more before n i false within = rw append-nil (omega arith)
 
@@ -146,9 +157,9 @@ kept_within to read entry part told =
     let kept = part.watch.numbers.items in
     let size : length keys ≡ length (taken read) = length-map (taken read) (λ (said : SaidLine). said.key) in
     let within : (i : ℕ) → slice_index (places_of keys part.key) i ≤ length (taken read) =
-      λ i. subst (λ n. slice_index (places_of keys part.key) i ≤ n) size (place_within keys part.key (length keys) i) in
+    λ i. subst (λ n. slice_index (places_of keys part.key) i ≤ n) size (place_within keys part.key (length keys) i) in
     subst (All (λ (place : ℕ). place ≤ length (taken read))) (sym told.numbers)
-      (All-map (λ (place : ℕ). place ≤ length (taken read)) (slice_index (places_of keys part.key)) kept (λ k d lt. within (slice_index_or kept k d)))
+    (All-map (λ (place : ℕ). place ≤ length (taken read)) (slice_index (places_of keys part.key)) kept (λ k d lt. within (slice_index_or kept k d)))
 
 -- what is told of a key at a moment
 abbrev pub window_of : Option ℕ → List (Result SaidLine Why) → List (List ℕ) → SettledKey → KeyPart → Window
@@ -169,7 +180,7 @@ found_in : (margin : ℕ) (to : Option ℕ) (read : List (Result SaidLine Why)) 
     → IsFoundIn margin (lines_of_one (lines_taken read) (keys_taken read) part.key) (window_of to read names entry part)
 found_in margin to read names entry part same told =
     subst (λ m. IsFoundIn m (lines_of_one (lines_taken read) (keys_taken read) part.key) (window_of to read names entry part)) same
-      (record { told = told.told.told; reasons = told.told.reasons; late = told.told.late })
+    (record { told = told.told.told; reasons = told.told.reasons; late = told.told.late })
 
 -- what is shown of lines
 abbrev log_with : List Line → List (List ℕ) → List ℕ → List Beside → PrintedLog
@@ -212,8 +223,15 @@ tells_of old new margin to read names entry part beside it same told is added fi
       windows = window ∷ [];
       at = All-cons (λ (window : Window). window.read ≡ length read) window [] refl (All-nil (λ (window : Window). window.read ≡ length read));
       text = text;
-      told = (text, [], sym (append-nil text), here, ([], sym (append-nil names)),
-          subst (λ (those : List (Result SaidLine Why)). IsWindow margin new.wanted those window text) (sym all) one, refl);
+      told = (
+        text,
+        [],
+        sym (append-nil text),
+        here,
+        ([], sym (append-nil names)),
+        subst (λ (those : List (Result SaidLine Why)). IsWindow margin new.wanted those window text) (sym all) one,
+        refl,
+      );
       appended = added ∙ (ap (λ (it : PrintedLog). string_bytes old.text ++ told_text old.wanted it found) shown
           ∙ ap (λ (wanted : Wanted). string_bytes old.text ++ told_text wanted log found) (sym wanted));
       first = first ∙ (ap (λ (it : PrintedLog). option_or old.first (first_of it found)) shown

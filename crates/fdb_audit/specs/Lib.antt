@@ -5,5 +5,6 @@ pub mod Totals
 pub mod Groups
 pub mod Judged
 pub mod Following
+pub mod Watched
 pub mod Program
 pub mod private

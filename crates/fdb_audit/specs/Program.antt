@@ -1,5 +1,5 @@
 -- What the program promises of itself. (this product's own)
-use Rattle.std.specs.Prelude.{◌≡◌, ◌≢◌, ℕ, ◌++◌, ◌||◌, ◌&&◌, ◌==◌, not, Bool, List, [], ◌∷◌, Option, None, Some, Err, codes, map, option_map, pos, string_bytes, unwrap_or}
+use Rattle.std.specs.Prelude.{◌≡◌, ◌≢◌, ℕ, ◌++◌, ◌||◌, ◌&&◌, ◌==◌, not, Bool, List, [], ◌∷◌, Option, None, Some, MatchOption, Err, codes, is_some, map, option_map, pos, string_bytes, unwrap_or}
 use Rattle.std.specs.List.{slice_split}
 use Rattle.std.specs.Str.Parse.{digits_value, without_leading_plus}
 use Rattle.clap.specs.Words.{App, Rule, Text, first_of, matches_of, new_rule, one_of}
@@ -16,7 +16,10 @@ use Rattle.fdb_audit.specs.declared.arguments.AuditArguments.{AuditArguments}
 use Rattle.fdb_audit.specs.declared.fault.LogFault.{LogFault}
 use Rattle.fdb_audit.specs.declared.judging.Wanted.{Wanted}
 use Rattle.fdb_audit.specs.declared.refused.LogsRefused.{LogsRefused}
+use Rattle.fdb_audit.specs.declared.program.AuditIntake.{AuditIntake}
+use Rattle.fdb_audit.specs.declared.program.AuditIntake.TheVariants.{Whole, Followed}
 use Rattle.fdb_audit.specs.declared.program.TheConstants.{MAX_LOG_BYTES}
+use Rattle.fdb_audit.specs.Watched.{AreAllTaken, AreLeftOut, HasFollowed, IsFollowed}
 
 -- an argument that gives a text, as clap is given it
 abbrev pub text_rule : Text → Rule
@@ -82,18 +85,36 @@ Prints asked bytes text found =
     (first : Option Found) × (found ≡ option_map (fault_of []) first)
     × IsJudgementBy (key_asked asked) (shown_asked asked) bytes asked.opts asked.wanted first text
 
+-- the intake has taken these bytes: of a log that is followed this text has been told so far, of any other none
+abbrev pub HasTaken : AuditArguments → AuditIntake → List ℕ → List ℕ → Type 0
+HasTaken asked (Whole reader) bytes told = (asked.follow ≡ None) × HasRead asked reader bytes × (told ≡ [])
+HasTaken asked (Followed follower) bytes told = (behind : ℕ) × (asked.follow ≡ Some behind) × HasFollowed asked follower bytes told
+
+-- what is printed of a log, which is refused whole or not at all, or of one that is followed, of which lines may be left out
+abbrev pub PrintsBy : Option ℕ → AuditArguments → List ℕ → List ℕ → Option LogFault → Option LogsRefused → Type 0
+PrintsBy None asked bytes text found refused = Prints asked bytes text found × (refused ≡ None)
+PrintsBy (Some behind) asked bytes text found refused =
+    IsFollowed asked bytes text found × MatchOption refused (AreAllTaken asked bytes) (λ _. AreLeftOut asked bytes)
+
+-- why it is refused, or why a part of it is
+abbrev pub RefusesBy : Option ℕ → AuditArguments → List ℕ → LogsRefused → Type 0
+RefusesBy None asked bytes refused = (refused.error.why ≢ Memory) × (reading_with (key_asked asked) (shown_asked asked) bytes ≡ Err refused.error)
+RefusesBy (Some behind) asked bytes refused = AreLeftOut asked bytes
+
 -- It prints what an audit of the log finds that the bytes stand for, and refuses what stands for none; that memory was
--- refused says nothing of the bytes. Whatever it finds, it prints.
-abbrev pub audit : Promise AuditArguments LogReader LogsRefused LogFault
+-- refused says nothing of the bytes. Whatever it finds, it prints. Of a log that is followed it says on standard error which
+-- lines it leaves out.
+abbrev pub audit : Promise AuditArguments AuditIntake LogsRefused LogFault
 audit = record {
   app = command;
   most = MAX_LOG_BYTES;
   asks = IsAsked;
   tells = λ arguments. is_set (codes "progress") command arguments;
-  taken = HasRead;
-  prints = λ arguments bytes text found. (asked : AuditArguments) × IsAsked arguments asked
-      × Prints asked bytes text found;
+  warns = λ arguments. is_some (number_named (codes "follow") arguments);
+  taken = HasTaken;
+  prints = λ arguments bytes text found refused. (asked : AuditArguments) × IsAsked arguments asked
+      × PrintsBy asked.follow asked bytes text found refused;
   refuses = λ arguments bytes refused. (asked : AuditArguments) × IsAsked arguments asked
-      × (refused.error.why ≢ Memory) × (reading_with (key_asked asked) (shown_asked asked) bytes ≡ Err refused.error);
+      × RefusesBy asked.follow asked bytes refused;
   finds = λ arguments bytes found. ⊥;
 }

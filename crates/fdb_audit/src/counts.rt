@@ -1,6 +1,6 @@
 //! How much of a log has been followed.
 
-ghost use Rattle.std.specs.Prelude.{◌≡◌, ◌++◌, OnOk, string_bytes};
+ghost use Rattle.std.specs.Prelude.{◌≡◌, ◌+◌, ◌-◌, ◌^◌, ◌++◌, min, OnOk, string_bytes};
 ghost use Rattle.fdb_audit.specs.Following.{counted_object, counted_words};
 ghost use Rattle.fdb_audit.specs.private.Followed.{counted_in};
 
@@ -23,7 +23,9 @@ pub(crate) struct Counts {
 
 impl Counts {
     /// Of no line.
-    pub(crate) fn new() -> Self {
+    pub(crate) fn new() -> Self
+        ensures { result.lines ≡ 0 }
+    {
         Counts {
             lines: 0,
             reads: 0,
@@ -35,7 +37,9 @@ impl Counts {
     }
 
     /// Counts a line that was taken, where all was settled up to a moment.
-    pub(crate) fn add(&mut self, line: &Line, settled_to: u64) {
+    pub(crate) fn add(&mut self, line: &Line, settled_to: u64)
+        ensures { self.new.lines ≡ min (self.old.lines + 1) (2 ^ 64 - 1) }
+    {
         add_one(&mut self.lines);
         if line.began() < settled_to {
             add_one(&mut self.early);
@@ -80,6 +84,8 @@ impl Counts {
 }
 
 /// Adds one to a count that may be full.
-fn add_one(count: &mut u64) {
+fn add_one(count: &mut u64)
+    ensures { count.new ≡ min (count.old + 1) (2 ^ 64 - 1) }
+{
     *count = count.saturating_add(1);
 }

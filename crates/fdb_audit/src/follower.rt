@@ -1,5 +1,12 @@
 //! An audit that follows a log as it grows.
 
+ghost use Rattle.std.specs.Prelude.{◌≡◌, ◌⊎◌, ◌++◌, ℕ, [], IfOk, List, MatchOption, OnOk};
+ghost use Rattle.std.specs.Prelude.{Result, string_bytes};
+ghost use Rattle.fdb_log_reader.specs.ReadLine.{SaidLine};
+ghost use Rattle.fdb_log_reader.specs.declared.error.Why.{Why};
+ghost use Rattle.fdb_audit.specs.Watched.{AreAllTaken, AreLeftOut, IsFollowed};
+ghost use Rattle.fdb_audit.specs.declared.arguments.AuditArguments.{AuditArguments};
+
 use crate::arguments::AuditArguments;
 use crate::fault::LogFault;
 use crate::taking::Taking;
@@ -45,6 +52,8 @@ pub struct Followed {
 }
 
 impl Follower {
+    ghost use Rattle.fdb_audit.specs.Watched.{lines_asked, HasFollowed, HasToldAll, IsTelling};
+
     /// An audit that has read no line, as the arguments ask for it. A line that comes may begin so far
     /// behind the newest end. It fails only where memory is refused.
     pub fn new(alloc: Global, asked: &AuditArguments, behind: u64) -> Result<Self, AllocError> {
@@ -66,17 +75,22 @@ impl Follower {
     }
 
     /// Reads on. An error says that memory was refused.
-    pub fn feed(&mut self, bytes: &[u8]) -> Result<(), AllocError> {
+    pub fn feed(&mut self, bytes: &[u8]) -> Result<(), AllocError>
+        ensures { OnOk result ((asked : AuditArguments) → (before told : List ℕ)
+            → HasFollowed asked self.old before told
+            → HasFollowed asked self.new (before ++ bytes.now) told) }
+    {
         let lines = self.reader.feed(self.alloc, bytes)?;
-        for line in lines {
-            self.taking.take(line)?;
-        }
-        Ok(())
+        self.taking.take_all(lines)
     }
 
     /// What is to be said before more is read: what has become certain, once some thousand lines have
     /// come since it was said, or where no more may come for a while.
-    pub fn tell(&mut self, is_idle: bool) -> Result<Said, AllocError> {
+    pub fn tell(&mut self, is_idle: bool) -> Result<Said, AllocError>
+        ensures { IfOk result (λ said. (asked : AuditArguments) → (bytes told : List ℕ)
+            → HasFollowed asked self.old bytes told
+            → HasFollowed asked self.new bytes (told ++ string_bytes said.text)) }
+    {
         let unsettled = self.taking.unsettled;
         if unsettled >= STRIDE || (is_idle && unsettled > 0) {
             self.settle()?;
@@ -85,7 +99,12 @@ impl Follower {
     }
 
     /// Settles as far as lines that come may not begin any more.
-    fn settle(&mut self) -> Result<(), AllocError> {
+    fn settle(&mut self) -> Result<(), AllocError>
+        ensures reader { self.new.reader ≡ self.old.reader }
+        ensures told { OnOk result ((asked : AuditArguments)
+            → (read : List (Result SaidLine Why)) → (told : List ℕ)
+            → IsTelling asked self.old read told → IsTelling asked self.new read told) }
+    {
         let at = self.taking.newest.saturating_sub(self.behind);
         let told = self.taking.watch.settle(self.alloc, at)?;
         self.taking.unsettled = 0;
@@ -96,7 +115,14 @@ impl Follower {
     }
 
     /// What is to be said next; nothing of it is left then.
-    fn say(&mut self) -> Said {
+    fn say(&mut self) -> Said
+        ensures reader { self.new.reader ≡ self.old.reader }
+        ensures text { string_bytes result.text ≡ string_bytes self.old.teller.text }
+        ensures first { self.new.teller.first ≡ self.old.teller.first }
+        ensures told { (asked : AuditArguments) → (read : List (Result SaidLine Why))
+            → (told : List ℕ) → IsTelling asked self.old read told
+            → IsTelling asked self.new read (told ++ string_bytes result.text) }
+    {
         Said {
             text: replace(&mut self.teller.text, String::new(self.alloc)),
             warnings: replace(&mut self.taking.warnings, String::new(self.alloc)),
@@ -104,21 +130,20 @@ impl Follower {
     }
 
     /// What is left to be said, where the log ends here: what is open, and the totals.
-    pub fn finish(mut self) -> Result<Followed, AllocError> {
-        if let Some(last) = self.reader.finish(self.alloc)? {
-            self.taking.take(last)?;
-        }
+    pub fn finish(mut self) -> Result<Followed, AllocError>
+        ensures told { IfOk result (λ it. (asked : AuditArguments) → (bytes told : List ℕ)
+            → HasFollowed asked self bytes told
+            → IsFollowed asked bytes (told ++ string_bytes it.said.text) it.found) }
+        ensures refused { IfOk result (λ it. (asked : AuditArguments) → (bytes told : List ℕ)
+            → HasFollowed asked self bytes told
+            → MatchOption it.refused (AreAllTaken asked bytes) (λ _. AreLeftOut asked bytes)) }
+    {
+        self.take_last()?;
+        let refused = self.taking.left_out();
         self.settle_for_good()?;
         self.teller
             .end(self.alloc, &self.reader, &self.taking, self.behind)?;
         let said = self.say();
-        let refused = match self.taking.refused {
-            None if self.taking.counts.lines == 0 => Some(ReadError {
-                line: 0,
-                why: Why::Empty,
-            }),
-            refused => refused,
-        };
         Ok(Followed {
             said,
             found: self.teller.first,
@@ -126,9 +151,26 @@ impl Follower {
         })
     }
 
+    /// Takes the line that has not ended, if there is one.
+    fn take_last(&mut self) -> Result<(), AllocError>
+        ensures { OnOk result ((asked : AuditArguments) → (bytes told : List ℕ)
+            → HasFollowed asked self.old bytes told
+            → IsTelling asked self.new (lines_asked asked bytes) told) }
+    {
+        match self.reader.finish(self.alloc)? {
+            Some(last) => self.taking.take(last),
+            None => Ok(()),
+        }
+    }
+
     /// Settles all.
-    fn settle_for_good(&mut self) -> Result<(), AllocError> {
-        let watch = replace(&mut self.taking.watch, KeyWatch::new(self.alloc, 0, 0));
+    fn settle_for_good(&mut self) -> Result<(), AllocError>
+        ensures { OnOk result ((asked : AuditArguments)
+            → (read : List (Result SaidLine Why)) → (told : List ℕ)
+            → IsTelling asked self.old read told → HasToldAll asked self.new read told) }
+    {
+        let none = KeyWatch::new(self.alloc, 0, 0);
+        let watch = replace(&mut self.taking.watch, none);
         let told = watch.finish(self.alloc)?;
         self.teller
             .tell_all(self.alloc, &self.reader, &self.taking, &told)

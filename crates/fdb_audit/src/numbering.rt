@@ -1,10 +1,8 @@
 //! Under which number a line is printed that was taken of a log that is followed.
 
-ghost use Rattle.std.specs.Prelude.{◌≡◌, ◌+◌, ◌<◌, ◌≤◌, ◌^◌, ◌++◌, ◌∷◌, [], All, IfOk, List, OnOk};
-ghost use Rattle.std.specs.Prelude.{Result, count_by, length, map, nat_le};
-ghost use Rattle.fdb_log_reader.specs.declared.error.Why.{Why};
-ghost use Rattle.fdb_log_reader.specs.ReadLine.{SaidLine};
-ghost use Rattle.fdb_audit.specs.Following.{number_in, taken, taken_above};
+ghost use Rattle.std.specs.Prelude.{◌≡◌, ◌+◌, ◌<◌, ◌≤◌, ◌++◌, ◌∷◌, ℕ, [], All, IfOk, OnErr, OnOk};
+ghost use Rattle.std.specs.Prelude.{count_by, length, nat_le};
+ghost use Rattle.std.specs.List.Sorted.{IsNonDecreasingBy};
 
 use fdb_lines::Settled;
 use std::alloc::{AllocError, Global};
@@ -13,9 +11,12 @@ use std::alloc::{AllocError, Global};
 #[derive(Drop)]
 pub(crate) struct Numbering {
     above: Vec<u64>,
+    ghost in_order: { IsNonDecreasingBy (λ (above : ℕ). above) above.items },
 }
 
 impl Numbering {
+    ghost use Rattle.fdb_audit.specs.private.Followed.{AreNumbersOf};
+
     /// No line was refused.
     pub(crate) fn new(alloc: Global) -> Self
         ensures { result.above.items ≡ [] }
@@ -27,7 +28,9 @@ impl Numbering {
 
     /// Leaves the next line out, above which so many were taken.
     pub(crate) fn leave_out(&mut self, taken: u64) -> Result<(), AllocError>
-        ensures { OnOk result (self.new.above.items ≡ self.old.above.items ++ taken ∷ []) }
+        requires last { All (λ above. above ≤ taken) self.old.above.items }
+        ensures ok { OnOk result (self.new.above.items ≡ self.old.above.items ++ taken ∷ []) }
+        ensures err { OnErr result (self.new.above.items ≡ self.old.above.items) }
     {
         self.above.push(taken)?;
         Ok(())
@@ -41,17 +44,26 @@ impl Numbering {
     }
 
     /// The number of a line, counted from 1, by how many were taken above it.
-    pub(crate) fn number(&self, taken: u64) -> u64 {
-        let refused = self.above.partition_point(|above| *above <= taken) as u64;
+    pub(crate) fn number(&self, taken: u64) -> u64
+        ensures { taken + length self.now.above.items < 18446744073709551615 → result
+            ≡ taken + 1 + count_by (λ above. nat_le above taken) self.now.above.items }
+    {
+        let refused = self.refused_above(taken);
         taken.saturating_add(1).saturating_add(refused)
+    }
+
+    /// How many lines were refused above one above which so many were taken. Logarithmic.
+    fn refused_above(&self, taken: u64) -> u64
+        ensures bound { result ≤ length self.now.above.items }
+        ensures count { result ≡ count_by (λ above. nat_le above taken) self.now.above.items }
+    {
+        self.above.partition_point(|above| *above <= taken) as u64
     }
 
     /// The numbers of the lines that a watch had kept, each at its place.
     pub(crate) fn numbers(&self, alloc: Global, settled: &Settled) -> Result<Vec<u64>, AllocError>
-        ensures { IfOk result (λ numbers. (read : List (Result SaidLine Why))
-            → (self.now.above.items ≡ taken_above 0 read) → (length read < 2 ^ 64)
-            → All (λ place. place ≤ length (taken read)) settled.now.numbers.items
-            → numbers.items ≡ map (number_in read) settled.now.numbers.items) }
+        ensures { IfOk result (λ numbers. AreNumbersOf self.now.above.items
+            settled.now.numbers.items numbers.items) }
     {
         let mut numbers = Vec::with_capacity(alloc, settled.numbers.len())?;
         for taken in &settled.numbers {

@@ -1,14 +1,16 @@
 //! The program: its command, and what it prints of a log.
 
-ghost use Rattle.std.specs.Prelude.{◌≡◌, ◌≢◌, ℕ, List, MatchResult};
+ghost use Rattle.std.specs.Prelude.{◌≡◌, ◌≢◌, ◌++◌, ℕ, IfErr, IfOk, List, MatchResult};
+ghost use Rattle.std.specs.Prelude.{MatchOption, None};
 ghost use Rattle.std.specs.Thread.{IsSync};
 ghost use Rattle.clap.specs.Words.{Text};
-ghost use Rattle.fdb_audit.specs.Program.{audit, HasRead, IsAsked, Prints};
+ghost use Rattle.fdb_audit.specs.Program.{audit, HasRead, HasTaken, IsAsked, Prints, PrintsBy};
+ghost use Rattle.fdb_audit.specs.Watched.{AreAllTaken, AreLeftOut, HasFollowed, IsFollowed};
 ghost use Rattle.fdb_command.specs.Driving.{IsDriven, Stops};
 
 use crate::arguments::{AuditArguments, command, members, owned, text, wanted_of};
 use crate::fault::{LogFault, told};
-use crate::follower::{Followed, Follower, Said};
+use crate::follower::{Follower, Said};
 use crate::judging::{Judgement, judge_named_by};
 use crate::refused::LogsRefused;
 use clap::{ArgMatches, Command};
@@ -74,13 +76,10 @@ impl Program for Audit {
 
     fn begin(&self, alloc: Global, asked: &AuditArguments) -> Result<AuditIntake, AllocError> {
         match asked.follow {
-            Some(behind) => {
-                let follower = Follower::new(alloc, asked, behind)?;
-                Ok(AuditIntake::Followed(follower))
-            }
+            Some(behind) => Ok(AuditIntake::Followed(Follower::new(alloc, asked, behind)?)),
             None => {
-                let reader = LogReader::with_columns(alloc, asked.key.as_deref(), &asked.shown)?;
-                Ok(AuditIntake::Whole(reader))
+                let key = asked.key.as_deref();
+                Ok(AuditIntake::Whole(LogReader::with_columns(alloc, key, &asked.shown)?))
             }
         }
     }
@@ -106,17 +105,19 @@ impl Program for Audit {
         &self,
         _rt: &R,
         alloc: Global,
-        _asked: &AuditArguments,
+        asked: &AuditArguments,
         intake: AuditIntake,
         is_idle: bool,
     ) -> Result<Told<AuditIntake>, Fault<LogsRefused, LogFault>> {
         match intake {
-            AuditIntake::Whole(reader) => Ok(Told {
-                intake: AuditIntake::Whole(reader),
+            AuditIntake::Followed(follower) if asked.follow.is_some() => {
+                tell_of(follower, is_idle)
+            }
+            intake => Ok(Told {
+                intake,
                 text: Vec::new(alloc),
                 warnings: Vec::new(alloc),
             }),
-            AuditIntake::Followed(follower) => tell_of(follower, is_idle),
         }
     }
 
@@ -152,7 +153,12 @@ impl AuditIntake {
 fn tell_of(
     mut follower: Follower,
     is_idle: bool,
-) -> Result<Told<AuditIntake>, Fault<LogsRefused, LogFault>> {
+) -> Result<Told<AuditIntake>, Fault<LogsRefused, LogFault>>
+    ensures told { IfOk result (λ it. (asked : AuditArguments) → (bytes told : List ℕ)
+        → HasTaken asked (AuditIntake.Followed follower) bytes told
+        → HasTaken asked it.intake bytes (told ++ it.text.items)) }
+    ensures stops { IfErr result (λ fault. fault ≡ Fault.Memory) }
+{
     match follower.tell(is_idle) {
         Ok(Said { text, warnings }) => Ok(Told {
             intake: AuditIntake::Followed(follower),
@@ -164,20 +170,48 @@ fn tell_of(
 }
 
 /// What is left to be said of a log that was followed.
-fn ended(
+fn followed(
     follower: Follower,
-) -> Result<Answer<LogsRefused, LogFault>, Fault<LogsRefused, LogFault>> {
+) -> Result<Answer<LogsRefused, LogFault>, Fault<LogsRefused, LogFault>>
+    ensures told { IfOk result (λ it. (asked : AuditArguments) → (bytes told : List ℕ)
+        → HasFollowed asked follower bytes told
+        → IsFollowed asked bytes (told ++ it.text.items) it.found
+        × MatchOption it.refused (AreAllTaken asked bytes) (λ _. AreLeftOut asked bytes)) }
+    ensures stops { IfErr result (λ fault. fault ≡ Fault.Memory) }
+{
     match follower.finish() {
-        Ok(
-            Followed {
-                said,
-                found,
-                refused,
-            },
-        ) => Ok(Answer {
-            text: said.text.into_bytes(),
-            found,
-            refused: refused.map(|error| LogsRefused { error }),
+        Ok(it) => Ok(Answer {
+            text: it.said.text.into_bytes(),
+            found: it.found,
+            refused: it.refused.map(|error| LogsRefused { error }),
+        }),
+        Err(_) => Err(Fault::Memory),
+    }
+}
+
+/// What is found of a log of which all has been read.
+fn judged<R: Threads + Sync>(
+    rt: &R,
+    alloc: Global,
+    asked: &AuditArguments,
+    reader: LogReader,
+) -> Result<Answer<LogsRefused, LogFault>, Fault<LogsRefused, LogFault>>
+    requires { IsSync R.row }
+    ensures { (arguments : List Text) → (bytes : List ℕ) → IsAsked arguments asked.now
+        → asked.now.follow ≡ None → HasRead asked.now reader bytes → MatchResult result
+        (λ answer. Prints asked.now bytes answer.text.items answer.found
+        × (answer.refused ≡ None))
+        (Stops audit arguments bytes) }
+{
+    let named = match reader.finish() {
+        Ok(named) => named,
+        Err(error) => return Err(refusal(error)),
+    };
+    match judge_named_by(rt, alloc, &named, &asked.opts, asked.wanted) {
+        Ok(Judgement { fault, text }) => Ok(Answer {
+            text: text.into_bytes(),
+            found: told(fault),
+            refused: None,
         }),
         Err(_) => Err(Fault::Memory),
     }
@@ -202,22 +236,14 @@ pub fn drive<R: Files + Clock + Threads + Sync, I: Read, O: Write, E: Write>(
         Fault<LogsRefused, LogFault>,
     >
         requires { IsSync R.row }
+        ensures { (arguments : List Text) → (bytes told : List ℕ) → IsAsked arguments asked
+            → HasTaken asked intake bytes told → MatchResult result
+            (λ answer. PrintsBy asked.follow asked bytes (told ++ answer.text.items) answer.found
+            answer.refused) (Stops audit arguments bytes) }
     {
-        let reader = match intake {
-            AuditIntake::Whole(reader) => reader,
-            AuditIntake::Followed(follower) => return ended(follower),
-        };
-        let named = match reader.finish() {
-            Ok(named) => named,
-            Err(error) => return Err(refusal(error)),
-        };
-        match judge_named_by(rt, alloc, &named, &asked.opts, asked.wanted) {
-            Ok(Judgement { fault, text }) => Ok(Answer {
-                text: text.into_bytes(),
-                found: told(fault),
-                refused: None,
-            }),
-            Err(_) => Err(Fault::Memory),
+        match intake {
+            AuditIntake::Whole(reader) => judged(rt, alloc, &asked, reader),
+            AuditIntake::Followed(follower) => followed(follower),
         }
     };
     fdb_command::drive(&Audit, rt, alloc, arguments, input, out, err, body)

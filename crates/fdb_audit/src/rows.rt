@@ -131,7 +131,11 @@ impl Rows {
     fn let_go(&mut self, settled: &Settled) {
         let mut kept = 0;
         for (place, line) in settled.numbers.iter().enumerate() {
-            if settled.kept.get(kept).copied() == Some(place as u32) {
+            if settled
+                .kept
+                .get(kept)
+                .is_some_and(|next| *next as usize == place)
+            {
                 kept += 1;
             } else {
                 self.texts.remove(line);

@@ -1,8 +1,10 @@
 //! The lines of a log that is followed, as they are taken.
 
-ghost use Rattle.std.specs.Prelude.{◌≡◌, ◌++◌, ◌∷◌, [], List, IfOk, OnOk, Result};
+ghost use Rattle.std.specs.Prelude.{◌≡◌, ◌⊎◌, ◌+◌, ◌-◌, ◌^◌, ◌<◌, ◌≤◌, ◌++◌, ◌∷◌, [], All, List};
+ghost use Rattle.std.specs.Prelude.{Err, IfOk, MatchOption, Ok, OnOk, Result, length, map, min};
 ghost use Rattle.fdb_log_reader.specs.declared.error.Why.{Why};
-ghost use Rattle.fdb_log_reader.specs.ReadLine.{SaidLine, said_in};
+ghost use Rattle.fdb_log_reader.specs.ReadLine.{IsTimed, SaidLine, said_by, said_in};
+ghost use Rattle.fdb_audit.specs.Following.{taken, taken_above};
 
 use crate::counts::Counts;
 use crate::numbering::Numbering;
@@ -29,6 +31,7 @@ pub(crate) struct Taking {
     pub(crate) refused: Option<ReadError>,
     /// A line for standard error for each line that was refused since these were last said.
     pub(crate) warnings: String,
+    ghost above: { All (λ above. above ≤ counts.lines) numbering.above.items },
 }
 
 impl Taking {
@@ -58,8 +61,22 @@ impl Taking {
         })
     }
 
+    /// Takes some lines, or leaves those out that are refused. An error says that memory was refused.
+    pub(crate) fn take_all(&mut self, lines: Vec<Result<ReadLine, Why>>) -> Result<(), AllocError>
+        requires timed { All (λ read. IfOk read IsTimed) lines.items }
+        ensures taken { OnOk result ((read : List (Result SaidLine Why))
+            → AreTaken self.old read → AreTaken self.new (read ++ map said_in lines.entry.items)) }
+        ensures margin { self.new.watch.margin ≡ self.old.watch.margin }
+    {
+        for line in lines {
+            self.take(line)?;
+        }
+        Ok(())
+    }
+
     /// Takes a line, or leaves it out where it is refused. An error says that memory was refused.
     pub(crate) fn take(&mut self, read: Result<ReadLine, Why>) -> Result<(), AllocError>
+        requires timed { IfOk read IsTimed }
         ensures taken { OnOk result ((lines : List (Result SaidLine Why))
             → AreTaken self.old lines → AreTaken self.new (lines ++ said_in read ∷ [])) }
         ensures margin { self.new.watch.margin ≡ self.old.watch.margin }
@@ -74,17 +91,43 @@ impl Taking {
         }
     }
 
+    /// The last line that was refused, if one was, or that none was taken.
+    pub(crate) fn left_out(&self) -> Option<ReadError>
+        ensures { (read : List (Result SaidLine Why)) → AreTaken self.now read → MatchOption result
+            ((taken_above 0 read ≡ []) × (0 < length (taken read)))
+            (λ _. (taken read ≡ []) ⊎ (0 < length (taken_above 0 read))) }
+    {
+        if self.counts.lines > 0 && self.numbering.count() == 0 {
+            return None;
+        }
+        let none = ReadError {
+            line: 0,
+            why: Why::Empty,
+        };
+        Some(self.refused.unwrap_or(none))
+    }
+
     /// How many lines were read.
-    pub(crate) fn line_count(&self) -> u64 {
+    pub(crate) fn line_count(&self) -> u64
+        ensures { result
+            ≡ min (self.now.counts.lines + length self.now.numbering.above.items) (2 ^ 64 - 1) }
+    {
         self.counts.lines.saturating_add(self.numbering.count())
     }
 
     /// Adds a line.
-    fn add(&mut self, read: ReadLine) -> Result<(), AllocError> {
+    fn add(&mut self, read: ReadLine) -> Result<(), AllocError>
+        requires timed { IsTimed read }
+        requires room { self.old.counts.lines + length self.old.numbering.above.items
+            < 18446744073709551614 }
+        ensures taken { OnOk result ((lines : List (Result SaidLine Why)) → AreTaken self.old lines
+            → AreTaken self.new (lines ++ Ok (said_by read) ∷ [])) }
+        ensures margin { self.new.watch.margin ≡ self.old.watch.margin }
+    {
         let ReadLine { line, key, shown } = read;
         match self.watch.push(self.alloc, key, line) {
             Ok(()) => {}
-            Err(WatchError::NoTimes) => return self.leave_out(Why::SomeTimes),
+            Err(WatchError::NoTimes) => unreachable!(),
             Err(WatchError::Line(_)) => return Err(AllocError),
         }
         self.rows.add(self.counts.lines, shown)?;
@@ -93,14 +136,25 @@ impl Taking {
     }
 
     /// Notes when a line that was added began and ended, and counts it.
-    fn note(&mut self, line: &Line) {
+    fn note(&mut self, line: &Line)
+        requires room { self.old.counts.lines < 18446744073709551615 }
+        ensures watch { self.new.watch ≡ self.old.watch }
+        ensures above { self.new.numbering.above.items ≡ self.old.numbering.above.items }
+        ensures count { self.new.counts.lines ≡ self.old.counts.lines + 1 }
+    {
         self.counts.add(line, self.watch.settled_to());
         self.newest = self.newest.max(line.ended().unwrap_or(0));
         self.unsettled = self.unsettled.saturating_add(1);
     }
 
     /// Leaves a line out, and says why.
-    fn leave_out(&mut self, why: Why) -> Result<(), AllocError> {
+    fn leave_out(&mut self, why: Why) -> Result<(), AllocError>
+        requires room { self.old.counts.lines + length self.old.numbering.above.items
+            < 18446744073709551614 }
+        ensures taken { OnOk result ((lines : List (Result SaidLine Why)) → AreTaken self.old lines
+            → AreTaken self.new (lines ++ Err why ∷ [])) }
+        ensures margin { self.new.watch.margin ≡ self.old.watch.margin }
+    {
         self.numbering.leave_out(self.counts.lines)?;
         let line = self.line_count();
         let error = ReadError { line, why };

@@ -2,12 +2,12 @@
 use Rattle.std.proofs.Common.{◌≡◌, ◌≢◌, ◌⊎◌, ◌≤◌, ◌++◌, ℕ, List, [], Bool, true, false, length, Option, None, Some, Result, Ok, Err, inl, inr, append-nil, refl, sym, subst, ◌∙◌}
 use Rattle.std.specs.Borrow.{Bor}
 use Rattle.std.specs.Io.KnownBytes.{Appends}
-use Rattle.std.specs.Prelude.{IfErr, IfOk, IsErrAnd, MatchResult, OnErr, is_some, option_map}
+use Rattle.std.specs.Prelude.{IfErr, IfOk, IsErrAnd, MatchResult, is_some, option_map}
 use Rattle.std.proofs.KnownBytes.{Appends-trans}
 use Rattle.clap.specs.Words.{App, Text, fault_of}
 use Rattle.clap.specs.declared.parser.matches.ArgMatches.{ArgMatches}
 use Rattle.fdb_command.specs.Arguments.{AreMatches, ReadsInput, file_named}
-use Rattle.fdb_command.specs.Driving.{HasAtMostTold, IsBegun, IsPartial, IsPrinted, IsWritten, MayAnswer, MayFind, MayRefuse, Promise, Stops, TellsOf, TellsProgress, Warns}
+use Rattle.fdb_command.specs.Driving.{HasAtMostTold, IsBegun, IsPrinted, IsWritten, MayAnswer, MayFind, MayRefuse, Promise, Stops, TellsOf, TellsProgress, Warns}
 use Rattle.fdb_command.specs.Output.{TakesAny}
 use Rattle.fdb_command.specs.Input.{MayBeRead, MayBegin}
 use Rattle.fdb_command.specs.declared.arguments.ArgumentsFault.{ArgumentsFault}

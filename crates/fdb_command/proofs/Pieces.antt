@@ -1,5 +1,5 @@
 -- What is read of an input, piece by piece.
-use Rattle.std.proofs.Common.{◌≡◌, ◌⊎◌, inl, inr, ℕ, ◌+◌, ◌≤◌, ◌<◌, List, [], ◌∷◌, ◌++◌, Option, None, Some, IfSome, append-nil, append_assoc, length, Result, Ok, Err, ap, arith, refl, subst, sym, ◌∙◌}
+use Rattle.std.proofs.Common.{◌≡◌, ◌⊎◌, inl, inr, ℕ, ◌+◌, ◌≤◌, List, [], ◌∷◌, ◌++◌, Option, None, Some, IfSome, append-nil, append_assoc, length, Result, Ok, Err, ap, arith, refl, subst, sym, ◌∙◌}
 use Rattle.std.specs.Io.KnownBytes.{Appends, Consumes, IsAtEnd}
 use Rattle.std.specs.Prelude.{IfErr, IsErrAnd, OnErr}
 use Rattle.std.proofs.KnownBytes.{Appends-nil, Appends-trans, Consumes-trans}
@@ -7,7 +7,7 @@ use Rattle.std.proofs.lemmas.List.{length-append}
 use Rattle.clap.specs.Words.{Text}
 use Rattle.fdb_command.specs.Driving.{Promise, Stops, TellsOf}
 use Rattle.fdb_command.specs.Input.{MayBegin, TakesAtMost}
-use Rattle.fdb_command.specs.Output.{TakesAny, TakesSome}
+use Rattle.fdb_command.specs.Output.{TakesAny}
 use Rattle.fdb_command.specs.private.Taking.{IsFailure, IsPut, IsTaken, MayStop, StopsAt, TakesOn, TellsLast}
 use Rattle.fdb_command.specs.declared.fault.Fault.{Fault}
 use Rattle.fdb_command.specs.declared.fault.Fault.TheVariants.{Memory, Reading, Writing}

@@ -222,13 +222,13 @@ pub record IsDriven {O I E F R W L : Type 0} (program : Promise O I E F)
       (contents out_before) (contents out_after))
   pub few : TakesAtMost (program.most + 1) (remaining input_before) (remaining input_after)
 
--- a program that tells nothing while it reads
-abbrev pub TellsNothing : {O I E F : Type 0} → Promise O I E F → Type 0
-TellsNothing {O} {I} program = (options : O) (intake : I) (bytes told : List ℕ)
-    → program.taken options intake bytes told → told ≡ []
+-- at these arguments a program tells nothing while it reads
+abbrev pub TellsNothing : {O I E F : Type 0} → Promise O I E F → List Text → Type 0
+TellsNothing {O} {I} program arguments = (options : O) (intake : I) (bytes told : List ℕ)
+    → program.asks arguments options → program.taken options intake bytes told → told ≡ []
 
--- a program that refuses all of its input or nothing
-abbrev pub RefusesWhole : {O I E F : Type 0} → Promise O I E F → Type 0
-RefusesWhole {O} {I} {E} {F} program =
-    (arguments : List Text) (bytes text : List ℕ) (found : Option F) (error : E)
+-- it refuses all of its input or nothing
+abbrev pub RefusesWhole : {O I E F : Type 0} → Promise O I E F → List Text → Type 0
+RefusesWhole {O} {I} {E} {F} program arguments =
+    (bytes text : List ℕ) (found : Option F) (error : E)
     → program.prints arguments bytes text found (Some error) → ⊥

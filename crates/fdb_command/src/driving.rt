@@ -9,7 +9,8 @@ ghost use Rattle.fdb_command.specs.Input.{TakesAtMost};
 ghost use Rattle.fdb_command.specs.private.Asked.{Ask};
 ghost use Rattle.fdb_command.specs.Driving.{HasAtMostTold, HasTold, IsBegun, IsCallable, IsDone};
 ghost use Rattle.fdb_command.specs.Driving.{IsDriven, IsFaulty, IsPartial, IsPrinted, IsWritten};
-ghost use Rattle.fdb_command.specs.Driving.{KeepsPromise, MayFind, MayRefuse, TellsProgress, Warns};
+ghost use Rattle.fdb_command.specs.Driving.{KeepsPromise, MayFind, MayRefuse, RefusesWhole};
+ghost use Rattle.fdb_command.specs.Driving.{TellsNothing, TellsProgress, Warns};
 ghost use Rattle.fdb_command.specs.private.Taking.{IsPut};
 
 use crate::arguments::{ArgumentsFault, Invocation, file_of, parse};
@@ -68,8 +69,16 @@ where
     B: FnOnce(P::Options, P::Intake) -> Made<P> + Drop,
     requires callable { IsCallable P.promise (B.pre body) }
     requires promised { KeepsPromise P.promise (B.post body) }
-    ensures { IsDriven P.promise I.remaining O.contents arguments
+    ensures driven { IsDriven P.promise I.remaining O.contents arguments
         input.old input.new out.old out.new err.old err.new result }
+    ensures unwritten { IfOk arguments (λ list.
+        TellsNothing P.promise (map string_bytes list.items)
+        × RefusesWhole P.promise (map string_bytes list.items))
+        → (result ≡ 1) ⊎ ((result ≡ 2) ⊎ (result ≡ 3)) → out.new ≡ out.old }
+    ensures begun { IfOk arguments (λ list. TellsNothing P.promise (map string_bytes list.items))
+        → result ≡ 5 → (out.new ≡ out.old) ⊎ IsOkAnd arguments (λ list.
+        IsBegun P.promise (map string_bytes list.items)
+        (I.remaining input.old) (O.contents out.old) (O.contents out.new)) }
 {
     let run = Run {
         program,

@@ -1,5 +1,5 @@
 -- Lines that are read one by one: what is read of each, and of a text that comes piece by piece.
-use Rattle.std.proofs.Common.{◌≡◌, ℕ, ◌+◌, suc, ◌<◌, ◌≤◌, ◌==◌, nat_lt, Bool, true, false, List, [], ◌∷◌, ◌++◌, length, length-append, map, string_bytes, take, Option, None, Some, IfOk, IfSome, IsSomeAnd, MatchResult, ◌⊎◌, inl, inr, String, option_map, zero, Result, Ok, Err, refl, ap, ap₂, subst, sym, ◌∙◌, arith, append_assoc, append-nil, if◌then◌else◌}
+use Rattle.std.proofs.Common.{◌≡◌, ℕ, ◌+◌, suc, ◌<◌, ◌≤◌, ◌==◌, nat_lt, Bool, true, false, List, [], ◌∷◌, ◌++◌, length, length-append, map, string_bytes, take, Option, None, Some, IfOk, IfSome, IsSomeAnd, MatchResult, not, ◌⊎◌, inl, inr, String, option_map, zero, Result, Ok, Err, refl, ap, ap₂, subst, sym, ◌∙◌, arith, append_assoc, append-nil, if◌then◌else◌}
 use Rattle.std.proofs.lemmas.Bool.Decides.{nat_tests}
 use Rattle.std.proofs.lemmas.List.{take_all, length-take-le, map-append}
 use Rattle.std.proofs.lemmas.List.Elements.{All-append, All-nil, All-take}
@@ -8,9 +8,11 @@ use Rattle.std.specs.declared.alloc.Global.{Global}
 use Rattle.serde_json.specs.Data.{Data}
 use Rattle.serde_json.specs.Find.{get}
 use Rattle.fdb_log_reader.specs.declared.error.Why.{Why}
-use Rattle.fdb_log_reader.specs.declared.error.Why.TheVariants.{Memory, TooLong, TooMany}
+use Rattle.fdb_log_reader.specs.declared.error.Why.TheVariants.{BadMember, Memory, SomeTimes, TooLong, TooMany}
 use Rattle.fdb_log_reader.specs.declared.line_reader.LineReader.{LineReader}
+use Rattle.fdb_lines.specs.Lines.{are_known, has_times, is_learn, kind_of}
 use Rattle.fdb_log_reader.specs.declared.member.Member.{Member}
+use Rattle.fdb_log_reader.specs.declared.member.Member.TheVariants.{Learn}
 use Rattle.fdb_log_reader.specs.declared.read_line.ReadLine.{ReadLine}
 use Rattle.fdb_log_reader.specs.declared.reader.TheConstants.{MAX_LINE_BYTES}
 use Rattle.fdb_log_reader.specs.declared.usual.Usual.{Usual}
@@ -20,7 +22,7 @@ use Rattle.fdb_log_reader.specs.Members.{and_then, member_of}
 use Rattle.fdb_log_reader.specs.Numbers.{client_in, with_client, IsMore}
 use Rattle.fdb_log_reader.specs.Parts.{SaidParts, parts_said}
 use Rattle.fdb_log_reader.specs.Reading.{is_line_feed, lines_in, value_of, without_empty_end}
-use Rattle.fdb_log_reader.specs.ReadLine.{HasTexts, IsNumbered, LineNames, MemberNames, ReadsLine, SaidLine, are_full, key_number, known_of, line_in, line_read, line_said, line_with, lines_read, member_in, names_after, numbered, refusal_alone, said_by, said_in, showing, text_says, unless, with_known, with_names}
+use Rattle.fdb_log_reader.specs.ReadLine.{HasTexts, IsNumbered, IsTimed, LineNames, MemberNames, ReadsLine, SaidLine, are_full, key_number, known_of, line_in, line_read, line_said, line_with, lines_read, member_in, names_after, numbered, refusal_alone, said_by, said_in, showing, text_says, unless, with_known, with_names}
 use Rattle.fdb_log_reader.specs.private.{IsOneLine}
 use Rattle.fdb_log_reader.specs.private.Following.{Follows, Keeps, TakesLine}
 use Rattle.fdb_log_reader.specs.private.Usual.{StandsFor, beside_of, says_of}
@@ -94,24 +96,34 @@ still_read names more (Err why) are is = tt
 
 -- ---- what comes of a line
 
--- the names are more, and have the numbers of the line
+-- a line that is not refused has times
+timed_by : (known learns : Bool) → (if not known then Some SomeTimes else (if learns then Some (BadMember Learn) else None)) ≡ None → known ≡ true
+timed_by true learns none = refl
+timed_by false learns none = absurd (grind (arith, none))
+
+timed_alone : (parts : SaidParts) → refusal_alone parts ≡ None → are_known parts.times ≡ true
+timed_alone parts none = timed_by (are_known parts.times) (is_learn (kind_of parts.call)) none
+
+-- the names are more, and have the numbers of the line, which has times
 record Fits (names : LineNames) (read : Result (SaidLine × LineNames) Why) : Type 0 where
   more : AreMore names (names_after names read)
   numbers : IfOk (line_in read) (IsNumbered (names_after names read))
+  timed : IfOk (line_in read) (λ said. has_times said.line ≡ true)
 
 fits_not : (names : LineNames) (why : Why) → Fits names (Err why)
-fits_not names why = record { more = all_same names; numbers = tt }
+fits_not names why = record { more = all_same names; numbers = tt; timed = tt }
 
-fits_unless : (names more : LineNames) (said : SaidLine) (why : Option Why) → AreMore names more → IsNumbered more said → Fits names (unless why (said, more))
-fits_unless names more said None are is = record { more = are; numbers = is }
-fits_unless names more said (Some why) are is = fits_not names why
+fits_unless : (names more : LineNames) (said : SaidLine) (why : Option Why) → AreMore names more → IsNumbered more said → (why ≡ None → has_times said.line ≡ true)
+    → Fits names (unless why (said, more))
+fits_unless names more said None are is timed = record { more = are; numbers = is; timed = timed refl }
+fits_unless names more said (Some why) are is timed = fits_not names why
 
 fits_with : (shown : List (List ℕ)) (names : LineNames) (beside : List ℕ → Option Data) (parts : SaidParts) → Fits names (line_with shown names beside parts)
 fits_with shown names beside parts =
     let more = with_names names parts in
     fits_unless names more (numbered more parts (map beside shown)) (refusal_alone parts)
     (client_more names.clients parts.client, known_more names.keys parts.key)
-    (client_within more.clients parts.client, key_within more.keys parts.key)
+    (client_within more.clients parts.client, key_within more.keys parts.key) (timed_alone parts)
 
 fits_then : {T : Type 0} (names : LineNames) (said : Result T Why) (next : T → Result (SaidLine × LineNames) Why) → ((t : T) → Fits names (next t)) → Fits names (and_then said next)
 fits_then names (Ok said) next fits = fits said
@@ -132,6 +144,10 @@ fits shown names bytes =
 numbers_read : (names : LineNames) (read : Result ReadLine Why) → IfOk (said_in read) (IsNumbered names) → IfOk read (λ read. IsNumbered names (said_by read))
 numbers_read names (Ok read) is = is
 numbers_read names (Err why) is = tt
+
+timed_read : (read : Result ReadLine Why) → IfOk (said_in read) (λ said. has_times said.line ≡ true) → IfOk read IsTimed
+timed_read (Ok read) is = is
+timed_read (Err why) is = tt
 
 -- such a line in the usual form says what its members do
 pub usual_read : (names : LineNames) (bytes : List ℕ) (further : Option (List ℕ)) (line : Usual) → length bytes ≤ MAX_LINE_BYTES → are_full names ≡ false
@@ -237,6 +253,7 @@ takes old new bytes whole read is one reads shown front =
           ∙ λ i. said_in read ∷ lines_read (map string_bytes (sym shown i).items) (line_names new) (lines_in (sym front i ++ text)));
       more = subst (AreMore names) reads.after fit.more;
       texts = reads.texts;
+      timed = timed_read read (subst (λ line. IfOk line (λ said. has_times said.line ≡ true)) reads.said fit.timed);
       numbers = numbers_read (line_names new) read (subst (λ line. IfOk line (IsNumbered (line_names new))) reads.said (subst (λ more. IfOk (line_in said) (IsNumbered more)) reads.after fit.numbers));
     }
 
@@ -246,6 +263,7 @@ takes_kept old now new line read keeps takes = record {
   goes = λ text. keeps.goes (10 ∷ text) ∙ takes.goes text;
   more = subst (λ names. AreMore names (line_names new)) keeps.names takes.more;
   texts = takes.texts;
+  timed = takes.timed;
   numbers = takes.numbers;
 }
 
@@ -254,6 +272,7 @@ begins reader bytes = record {
   goes = λ text. refl;
   more = all_same (line_names reader);
   texts = λ k d lt. absurd (omega arith);
+  timed = λ k d lt. absurd (omega arith);
   numbers = λ k d lt. absurd (omega arith);
 }
 
@@ -272,6 +291,7 @@ follows_on old now new bytes rest line after lines read so_far is takes =
           ∙ ap (λ said. said ++ lines_on new (after ++ text)) (sym (map-append said_in lines (read ∷ [])))));
       more = all_yet (line_names old) (line_names now) (line_names new) so_far.more takes.more;
       texts = All-append (λ read. IfOk read HasTexts) lines (read ∷ []) so_far.texts (one_read (λ read. IfOk read HasTexts) read takes.texts);
+      timed = All-append (λ read. IfOk read IsTimed) lines (read ∷ []) so_far.timed (one_read (λ read. IfOk read IsTimed) read takes.timed);
       numbers = All-append (λ read. IfOk read (λ read. IsNumbered (line_names new) (said_by read))) lines (read ∷ [])
           (λ k d lt. still_read (line_names now) (line_names new) (slice_index_or lines k d) takes.more (so_far.numbers k d lt))
           (one_read (λ read. IfOk read (λ read. IsNumbered (line_names new) (said_by read))) read takes.numbers);
@@ -282,6 +302,7 @@ follows_kept old now new bytes rest lines so_far keeps = record {
   goes = λ text. so_far.goes text ∙ ap (λ more. map said_in lines ++ more) (keeps.goes text);
   more = subst (AreMore (line_names old)) (sym keeps.names) so_far.more;
   texts = so_far.texts;
+  timed = so_far.timed;
   numbers = subst (λ names. All (λ read. IfOk read (λ read. IsNumbered names (said_by read))) lines) (sym keeps.names) so_far.numbers;
 }
 

@@ -1,12 +1,12 @@
 -- What a line says that is read by itself: of the lines above it only the names are kept. (this product's own)
-use Rattle.std.specs.Prelude.{◌≡◌, ℕ, ◌<◌, ◌||◌, Bool, not, nat_le, nat_lt, List, [], ◌∷◌, All, length, map, string_bytes, String, Option, None, Some, IfOk, IfSome, IsSomeAnd, option_and_then, option_map, Result, Ok, Err, if◌then◌else◌}
+use Rattle.std.specs.Prelude.{◌≡◌, ℕ, ◌<◌, ◌||◌, Bool, not, nat_le, nat_lt, true, List, [], ◌∷◌, All, length, map, string_bytes, String, Option, None, Some, IfOk, IfSome, IsSomeAnd, option_and_then, option_map, Result, Ok, Err, if◌then◌else◌}
 use Rattle.std.specs.declared.alloc.Global.{Global}
 use Rattle.serde_json.specs.Data.{Data}
 use Rattle.serde_json.specs.Find.{get}
 use Rattle.serde_json.specs.Read.{read}
 use Rattle.fdb_lines.specs.declared.line.Line.{Line}
 use Rattle.fdb_lines.specs.declared.log.TheConstants.{MAX_LINES}
-use Rattle.fdb_lines.specs.Lines.{are_known, is_learn, kind_of}
+use Rattle.fdb_lines.specs.Lines.{are_known, has_times, is_learn, kind_of}
 use Rattle.fdb_log_reader.specs.declared.error.Why.{Why}
 use Rattle.fdb_log_reader.specs.declared.error.Why.TheVariants.{BadMember, SomeTimes, TooLong, TooMany}
 use Rattle.fdb_log_reader.specs.declared.known_names.KnownKeys.{KnownKeys}
@@ -151,6 +151,10 @@ said_in (Err why) = Err why
 -- each text that is shown is JSON without white space, read as what the line says
 abbrev pub HasTexts : ReadLine → Type 0
 HasTexts read = All (λ text. IsText (text_says text) (option_map string_bytes text)) read.shown.items
+
+-- it has times
+abbrev pub IsTimed : ReadLine → Type 0
+IsTimed read = has_times read.line ≡ true
 
 -- the numbers of its client and its key are those of names
 abbrev pub IsNumbered : LineNames → SaidLine → Type 0

@@ -28,7 +28,7 @@ impl LineReader {
     ghost use Rattle.fdb_log_reader.specs.LineReader.{line_names, lines_on, AreMore};
     ghost use Rattle.fdb_log_reader.specs.Names.{names_of};
     ghost use Rattle.fdb_log_reader.specs.ReadLine.{lines_read, no_names, said_by, said_in};
-    ghost use Rattle.fdb_log_reader.specs.ReadLine.{HasTexts, IsNumbered};
+    ghost use Rattle.fdb_log_reader.specs.ReadLine.{HasTexts, IsNumbered, IsTimed};
     ghost use Rattle.fdb_log_reader.specs.Reading.{lines_in};
     ghost use Rattle.fdb_log_reader.specs.private.Following.{Keeps, TakesLine};
 
@@ -78,6 +78,7 @@ impl LineReader {
         ensures read { IfOk result (λ lines. (text : List ℕ) → lines_on self.old (bytes.now ++ text)
             ≡ map said_in lines.items ++ lines_on self.new text) }
         ensures texts { IfOk result (λ lines. All (λ read. IfOk read HasTexts) lines.items) }
+        ensures timed { IfOk result (λ lines. All (λ read. IfOk read IsTimed) lines.items) }
         ensures numbers { IfOk result (λ lines. All (λ read.
             IfOk read (λ read. IsNumbered (line_names self.new) (said_by read))) lines.items) }
         ensures names { OnOk result (AreMore (line_names self.old) (line_names self.new)) }
@@ -103,6 +104,7 @@ impl LineReader {
             (lines_on self.old text ≡ lines_on self.new text)
             (λ read. lines_on self.old (10 ∷ text) ≡ said_in read ∷ lines_on self.new text)) }
         ensures texts { IfOk result (λ last. IfSome last (λ read. IfOk read HasTexts)) }
+        ensures timed { IfOk result (λ last. IfSome last (λ read. IfOk read IsTimed)) }
         ensures numbers { IfOk result (λ last. IfSome last (λ read.
             IfOk read (λ read. IsNumbered (line_names self.new) (said_by read)))) }
         ensures names { OnOk result (AreMore (line_names self.old) (line_names self.new)) }

@@ -35,17 +35,19 @@ pub record IsAsked (arguments : List Text) (opts : ReplayOpts) : Type 0 where
   pub few_proxies : opts.proxies ≤ MAX_GRV_PROXIES
   pub history : opts.with_history ≡ is_set (codes "history") command arguments
 
--- It takes all bytes as they come, and tells of no progress. It prints the text of a run of the
--- script that the bytes stand for, with the history where that is asked for. It refuses what stands
--- for no script; that memory was refused says nothing of the bytes. There is nothing to be found.
+-- It takes all bytes as they come, and tells nothing while it reads, nor of progress. It prints the
+-- text of a run of the script that the bytes stand for, with the history where that is asked for. It
+-- refuses what stands for no script, whole; that memory was refused says nothing of the bytes. There
+-- is nothing to be found.
 abbrev pub replay : Promise ReplayOpts (Vec ℕ Global) ScriptRefused Infallible
 replay = record {
   app = command;
   most = MAX_SCRIPT_BYTES;
   asks = IsAsked;
   tells = λ arguments. false;
-  taken = λ opts script bytes. script.items ≡ bytes;
-  prints = λ arguments bytes text found. (found ≡ None)
+  warns = λ arguments. false;
+  taken = λ opts script bytes told. (script.items ≡ bytes) × (told ≡ []);
+  prints = λ arguments bytes text found refused. (found ≡ None) × (refused ≡ None)
       × Replays bytes (is_set (codes "history") command arguments) text;
   refuses = λ arguments bytes refused.
       (refused.error ≢ Memory) × ReadsAs bytes (Err refused.error);

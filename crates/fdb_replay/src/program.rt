@@ -1,10 +1,11 @@
 //! The program: its command, and what it prints of a script.
 
-ghost use Rattle.std.specs.Prelude.{◌≡◌, ◌≢◌, ◌⊎◌, ◌≤◌, List, IfOk, MatchResult, None, codes};
+ghost use Rattle.std.specs.Prelude.{◌≡◌, ◌≢◌, ◌⊎◌, ◌≤◌, List, IfOk, IsOkAnd, MatchResult, None};
+ghost use Rattle.std.specs.Prelude.{codes, map, string_bytes};
 ghost use Rattle.clap.specs.Words.{Text, app_of};
 ghost use Rattle.fdb_client.specs.declared.cluster.TheConstants.{MAX_GRV_PROXIES};
 ghost use Rattle.fdb_command.specs.Arguments.{AreMatches, is_set};
-ghost use Rattle.fdb_command.specs.Driving.{IsDriven, Stops};
+ghost use Rattle.fdb_command.specs.Driving.{IsBegun, IsDriven, Stops};
 ghost use Rattle.fdb_replay.specs.Program.{command, proxies_named, replay};
 ghost use Rattle.fdb_replay.specs.Replay.{Refuses, Replays};
 
@@ -24,6 +25,7 @@ use std::io;
 use std::io::{Read, Write};
 use std::sync::Wait;
 use std::thread::Threads;
+use std::time::Clock;
 use thiserror::Error;
 
 /// The end of the help: what each status means, and where the formats are told.
@@ -47,7 +49,7 @@ pub struct ScriptRefused {
 }
 
 /// The text of a replay, or the fault with which it stops.
-type Made = Result<Answer<Infallible>, Fault<ScriptRefused, Infallible>>;
+type Made = Result<Answer<ScriptRefused, Infallible>, Fault<ScriptRefused, Infallible>>;
 
 /// The program that replays a script, and writes its replies, the audit line and, where it is
 /// wanted, the history. It has nothing to write where the script is refused or memory runs out.
@@ -109,8 +111,8 @@ impl Program for Replay {
 
 /// Replays the script of the file that the arguments name or else of the input, and writes the
 /// lines to `out`; or writes the help there. Answers the status of the program, as
-/// [`fdb_command::drive`] says.
-pub fn drive<R: Threads + Wait + Sync + Files, I: Read, O: Write, E: Write>(
+/// [`fdb_command::drive`] says. It tells nothing while it reads.
+pub fn drive<R: Threads + Wait + Sync + Files + Clock, I: Read, O: Write, E: Write>(
     rt: &R,
     alloc: Global,
     arguments: io::Result<Vec<String>>,
@@ -118,14 +120,18 @@ pub fn drive<R: Threads + Wait + Sync + Files, I: Read, O: Write, E: Write>(
     out: &mut O,
     err: &mut E,
 ) -> u8
-    ensures { IsDriven replay I.remaining O.contents arguments
+    ensures driven { IsDriven replay I.remaining O.contents arguments
         input.old input.new out.old out.new err.old err.new result }
+    ensures unwritten { (result ≡ 1) ⊎ ((result ≡ 2) ⊎ (result ≡ 3)) → out.new ≡ out.old }
+    ensures begun { result ≡ 5 → (out.new ≡ out.old) ⊎ IsOkAnd arguments (λ list.
+        IsBegun replay (map string_bytes list.items) (I.remaining input.old)
+        (O.contents out.old) (O.contents out.new)) }
 {
     let body = move |opts: ReplayOpts, script: Vec<u8>| -> Made
         requires some_proxy { 1 ≤ opts.proxies }
         requires few_proxies { opts.proxies ≤ MAX_GRV_PROXIES }
         ensures { (arguments : List Text) → MatchResult result
-            (λ answer. (answer.found ≡ None)
+            (λ answer. (answer.found ≡ None) × (answer.refused ≡ None)
             × Replays script.items opts.with_history answer.text.items)
             (Stops replay arguments script.items) }
     { answer_of(rt, alloc, opts, &script) };
@@ -142,12 +148,16 @@ fn answer_of<R: Threads + Wait + Sync>(
     requires some_proxy { 1 ≤ opts.proxies }
     requires few_proxies { opts.proxies ≤ MAX_GRV_PROXIES }
     ensures { (arguments : List Text) → MatchResult result
-        (λ answer. (answer.found ≡ None)
+        (λ answer. (answer.found ≡ None) × (answer.refused ≡ None)
         × Replays script.now opts.with_history answer.text.items)
         (Stops replay arguments script.now) }
 {
     match replayed_text(rt, alloc, script, opts, &OpenGate) {
-        Ok(text) => Ok(Answer { text, found: None }),
+        Ok(text) => Ok(Answer {
+            text,
+            found: None,
+            refused: None,
+        }),
         Err(fault) => Err(fault_of(fault)),
     }
 }

@@ -18,6 +18,7 @@ use std::str::from_utf8;
 use std::sync::Wait;
 use std::test::Fail;
 use std::thread::Threads;
+use std::time::Clock;
 
 const SCRIPT: &str = r#"{"epoch_end":0,"recovery":100,"clients":1,"rounds":[[
 {"do":"grv","client":0},
@@ -73,7 +74,7 @@ fn faults_and_statuses(rt: HostRuntime) -> Result<(), Fail> {
     let refused = "script refused: BadField 10000 9999";
     for (fault, text, status) in [
         (Fault::Refused(ScriptRefused { error }), refused, 1),
-        (Fault::Arguments, "words refused: see --help", 2),
+        (Fault::Arguments, "words refused", 2),
         (Fault::Memory, "want of memory", 3),
         (Fault::Reading, "reading failed", 5),
         (Fault::Writing, "writing failed", 5),
@@ -88,7 +89,7 @@ fn faults_and_statuses(rt: HostRuntime) -> Result<(), Fail> {
 
 /// Drives the program over some arguments and a reader, and compares its status and all that it
 /// writes: the text to its one writer, or a fault line to the other.
-fn ends<R: Threads + Wait + Sync + Files>(
+fn ends<R: Threads + Wait + Sync + Files + Clock>(
     rt: &R,
     alloc: Global,
     input: &mut Stream<'_>,
@@ -225,7 +226,7 @@ fn a_standard_error_that_fails(rt: HostRuntime) -> Result<(), Fail> {
 }
 
 /// Asks for the help, over a writer that fails at a call.
-fn helped<R: Threads + Wait + Sync + Files>(
+fn helped<R: Threads + Wait + Sync + Files + Clock>(
     rt: &R,
     alloc: Global,
     fails_at: usize,

@@ -8,10 +8,11 @@ use std::alloc::{AllocError, AllocFailed, Global};
 use std::fs::Files;
 use std::sync::Wait;
 use std::thread::Threads;
+use std::time::Clock;
 
 /// Whether the text of a run of such a script with so many GRV proxies is what the program writes, or
 /// nothing where a call is refused.
-pub(crate) fn is_played<R: Threads + Wait + Sync + Files>(
+pub(crate) fn is_played<R: Threads + Wait + Sync + Files + Clock>(
     rt: &R,
     alloc: Global,
     template: &str,
@@ -37,7 +38,7 @@ fn played<R: Threads + Wait + Sync>(
 }
 
 /// Whether the program writes just that, and ends well.
-fn is_driven<R: Threads + Wait + Sync + Files>(
+fn is_driven<R: Threads + Wait + Sync + Files + Clock>(
     rt: &R,
     alloc: Global,
     text: &str,

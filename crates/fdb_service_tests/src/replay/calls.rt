@@ -13,6 +13,7 @@ use std::io;
 use std::io::{Read, Write};
 use std::sync::Wait;
 use std::thread::Threads;
+use std::time::Clock;
 
 /// What a run with so many GRV proxies leaves, through a gate that holds nobody.
 pub(crate) fn outcome_of<R: Threads + Wait + Sync>(
@@ -55,7 +56,7 @@ pub(crate) fn replays<R: Threads + Wait + Sync, G: Gate, W: Write>(
 }
 
 /// Drives the program over its arguments and its three streams, and answers its exit status.
-pub(crate) fn drives<R: Threads + Wait + Sync + Files, I: Read, O: Write, E: Write>(
+pub(crate) fn drives<R: Threads + Wait + Sync + Files + Clock, I: Read, O: Write, E: Write>(
     rt: &R,
     alloc: Global,
     arguments: io::Result<Vec<String>>,

@@ -1,4 +1,4 @@
-use Rattle.std.proofs.Common.{◌≡◌, ◌⊎◌, ◌+◌, ◌++◌, ◌∙◌, None, inl, inr, arith, refl}
+use Rattle.std.proofs.Common.{◌⊎◌, ◌+◌, ◌++◌, ◌∙◌, None, inr, arith}
 use Rattle.std.proofs.lemmas.List.{length-append, length-drop, length-take}
 use Rattle.std.proofs.KnownBytes.{Consumes-trans}
 use Rattle.fdb_command.specs.private.Taking.{IsFailure, MayStop}

@@ -1,4 +1,4 @@
-use Rattle.std.proofs.Common.{◌≡◌, ◌∙◌, inl, inr, [], ℕ, Vec, Global, string_bytes, ap, sym, append-nil}
+use Rattle.std.proofs.Common.{◌≡◌, ◌∙◌, inl, inr, [], ℕ, Vec, Global, string_bytes, ap, refl, sym, append-nil}
 use Rattle.fdb_log_reader.specs.Reading.{reading_of, reading_with}
 use Rattle.fdb_audit.specs.Program.{key_asked, shown_asked}
 use Rattle.fdb_audit.proofs.Refusing.{stops}
@@ -8,7 +8,7 @@ use Rattle.fdb_audit.proofs.program.fn.drive.body.Goals as goal
 pub returns-in-Ok-judge_named_by : goal.returns-in-Ok-judge_named_by
 returns-in-Ok-judge_named_by g c = λ arguments bytes is has.
     let same : c.into_bytes.result.items ≡ string_bytes c.in-Ok-judge_named_by.field-0.text = ap (λ (v : Vec ℕ Global). v.items) c.into_bytes.ensures.value in
-    (_, c.told.ensures, reading_of c.in-Ok.named, ap (reading_with (key_asked c.args.asked) (shown_asked c.args.asked)) (sym (append-nil bytes)) ∙ (sym (has []) ∙ c.in-Ok.ensures.read), rw same c.in-Ok-judge_named_by.ensures)
+    (refl, reading_of c.in-Ok.named, ap (reading_with (key_asked c.args.asked) (shown_asked c.args.asked)) (sym (append-nil bytes)) ∙ (sym (has []) ∙ c.in-Ok.ensures.read), rw same c.in-Ok-judge_named_by.ensures)
 
 pub returns-in-Err : goal.returns-in-Err
 returns-in-Err g c = λ arguments bytes is has.

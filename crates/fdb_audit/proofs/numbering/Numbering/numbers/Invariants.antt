@@ -1,0 +1,7 @@
+use Rattle.std.proofs.Common.{take}
+use Rattle.fdb_audit.specs.private.Followed.{AreNumbersOf}
+use Rattle.fdb_audit.proofs.numbering.Numbering.numbers.Given as goal
+
+-- the numbers so far
+abbrev pub invariant-loop-taken : goal.invariant-loop-taken
+invariant-loop-taken l = AreNumbersOf l.self.above.items (take l.taken-index l.settled.numbers.items) l.numbers.items
