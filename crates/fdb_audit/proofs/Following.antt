@@ -12,7 +12,8 @@ use Rattle.fdb_log_reader.specs.declared.error.Why.{Why}
 use Rattle.fdb_log_reader.specs.ReadLine.{SaidLine}
 use Rattle.fdb_audit.specs.declared.taking.Taking.{Taking}
 use Rattle.fdb_audit.specs.Following.{keys_taken, lines_taken, number_in, taken, taken_above}
-use Rattle.fdb_audit.specs.private.Followed.{AreNumbersOf, AreTaken}
+use Rattle.fdb_audit.specs.private.Followed.{AreTaken}
+use Rattle.fdb_audit.specs.private.Numbering.{AreNumbersOf}
 
 -- ---- with one more line
 

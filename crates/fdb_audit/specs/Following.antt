@@ -93,7 +93,7 @@ told_text wanted it found = if lists wanted then list_text wanted.json it found 
 pub record IsWindow (margin : ℕ) (wanted : Wanted) (read : List (Result SaidLine Why)) (window : Window) (text : List ℕ) : Type 0 where
   pub found : IsFoundIn margin (lines_of_one (lines_taken read) (keys_taken read) window.key) window
   pub beside : List Beside
-  pub text : text ≡ told_text wanted (printed_in read window beside) window.found
+  pub printed : text ≡ told_text wanted (printed_in read window beside) window.found
 
 -- the first fault that is told, by the number of its line
 abbrev pub first_in : List (Result SaidLine Why) → Window → Option LogFault

@@ -1,5 +1,6 @@
 -- What a view shows, and what is asked of a log. (this product's own)
 pub mod Followed
+pub mod Numbering
 use Rattle.std.specs.Prelude.{◌≡◌, ℕ, ◌==◌, Bool, List, [], Option, None, Some, IfSome, count_by, length, map, option_map, string_bytes}
 use Rattle.fdb_lines.specs.declared.opts.AuditOpts.{AuditOpts}
 use Rattle.fdb_lines.specs.Audit.{case_of}

@@ -15,7 +15,7 @@ pub(crate) struct Numbering {
 }
 
 impl Numbering {
-    ghost use Rattle.fdb_audit.specs.private.Followed.{AreNumbersOf};
+    ghost use Rattle.fdb_audit.specs.private.Numbering.{AreNumbersOf};
 
     /// No line was refused.
     pub(crate) fn new(alloc: Global) -> Self

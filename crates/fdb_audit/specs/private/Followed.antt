@@ -1,9 +1,5 @@
 -- What the parts of a follower hold of the lines that were read. (this product's own)
-<<<<<<< HEAD
 use Rattle.std.specs.Prelude.{◌≡◌, ℕ, ◌+◌, ◌<◌, ◌^◌, ◌++◌, List, All, length, map, string_bytes, Option, Result}
-=======
-use Rattle.std.specs.Prelude.{◌≡◌, ℕ, ◌+◌, ◌<◌, ◌≤◌, ◌^◌, ◌++◌, List, All, length, map, string_bytes, Option, Result}
->>>>>>> origin/follow
 use Rattle.std.specs.Option.{option_or}
 use Rattle.fdb_lines.specs.KeyWatch.{HasSeenByKey}
 use Rattle.fdb_log_reader.specs.declared.error.Why.{Why}
@@ -11,24 +7,14 @@ use Rattle.fdb_log_reader.specs.ReadLine.{SaidLine}
 use Rattle.fdb_audit.specs.declared.counts.Counts.{Counts}
 use Rattle.fdb_audit.specs.declared.taking.Taking.{Taking}
 use Rattle.fdb_audit.specs.declared.teller.Teller.{Teller}
-<<<<<<< HEAD
 use Rattle.fdb_audit.specs.declared.teller.ToldArguments.{ToldArguments}
 use Rattle.fdb_audit.specs.declared.told_faults.Column.{Column}
 use Rattle.fdb_audit.specs.Following.{AreWindows, Counted, FollowArguments, Window, first_told, keys_taken, lines_taken, taken, taken_above}
-=======
-use Rattle.fdb_audit.specs.Following.{AreWindows, Window, first_told, keys_taken, lines_taken, number_in, taken, taken_above}
->>>>>>> origin/follow
 
 -- how many lines were taken above each that was refused; and each line has a number, and the next one too
 pub record AreNumbered (taking : Taking) (read : List (Result SaidLine Why)) : Type 0 where
   pub above : taking.numbering.above.items ≡ taken_above 0 read
   pub few : length read + 1 < 2 ^ 64
-
--- The numbers of lines, by how many were taken above each, where so many were taken above each that was refused.
-abbrev pub AreNumbersOf : List ℕ → List ℕ → List ℕ → Type 0
-AreNumbersOf above places numbers =
-    (read : List (Result SaidLine Why)) → above ≡ taken_above 0 read → length read + 1 < 2 ^ 64
-    → All (λ place. place ≤ length (taken read)) places → numbers ≡ map (number_in read) places
 
 -- the lines that were taken, of those that were read
 pub record AreTaken (taking : Taking) (read : List (Result SaidLine Why)) : Type 0 where

@@ -1,5 +1,5 @@
 use Rattle.std.proofs.Common.{take}
-use Rattle.fdb_audit.specs.private.Followed.{AreNumbersOf}
+use Rattle.fdb_audit.specs.private.Numbering.{AreNumbersOf}
 use Rattle.fdb_audit.proofs.numbering.Numbering.numbers.Given as goal
 
 -- the numbers so far
