@@ -117,13 +117,7 @@ impl Teller {
         let keys = keys_of(alloc, entry)?;
         let texts = taking.rows.numbers(alloc, settled)?;
         let mut beside = Vec::new(alloc);
-        if let Some(member) = &self.key {
-            beside.push(MemberBeside {
-                member: String::from_str(alloc, member)?,
-                texts: key_text(alloc, reader.key_names(), entry.key)?,
-                numbers: &keys,
-            })?;
-        }
+        self.add_key(alloc, reader, entry.key, &keys, &mut beside)?;
         taking.rows.add_beside(alloc, settled, &texts, &mut beside)?;
         let view = View {
             log: &settled.log,
@@ -131,7 +125,27 @@ impl Teller {
             numbers: &numbers,
             beside: &beside,
         };
-        self.add(alloc, view, &settled.found)
+        self.add(alloc, view, &settled.found)?;
+        Ok(())
+    }
+
+    /// Adds a key as it is printed beside its lines, if keys are kept.
+    fn add_key<'x>(
+        &self,
+        alloc: Global,
+        reader: &LineReader,
+        key: Option<u32>,
+        numbers: &'x [Option<u32>],
+        beside: &mut Vec<MemberBeside<'x>>,
+    ) -> Result<(), AllocError> {
+        if let Some(member) = &self.key {
+            beside.push(MemberBeside {
+                member: String::from_str(alloc, member)?,
+                texts: key_text(alloc, reader.key_names(), key)?,
+                numbers,
+            })?;
+        }
+        Ok(())
     }
 
     /// Adds faults of a view.
