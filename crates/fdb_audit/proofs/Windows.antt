@@ -186,6 +186,11 @@ found_in margin to read names entry part same told =
 abbrev log_with : List Line → List (List ℕ) → List ℕ → List Beside → PrintedLog
 log_with lines names numbers beside = record { lines = lines; names = names; numbers = numbers; beside = beside }
 
+pub same_log : (lines : List Line) (names other : List (List ℕ)) (numbers those : List ℕ) (beside : List Beside)
+    → names ≡ other → numbers ≡ those → log_with lines names numbers beside ≡ log_with lines other those beside
+same_log lines names other numbers those beside one two =
+    ap (λ (names : List (List ℕ)). log_with lines names numbers beside) one ∙ ap (λ (numbers : List ℕ). log_with lines other numbers beside) two
+
 -- and of the lines of a key that had been kept
 abbrev pub shown_of : List (Result SaidLine Why) → List (List ℕ) → SettledKey → List Beside → PrintedLog
 shown_of read names entry beside = record {

@@ -1,5 +1,6 @@
 -- What is told of a log that is followed as it grows. (this product's own)
-use Rattle.std.specs.Prelude.{◌≡◌, ℕ, ◌+◌, ◌≤◌, ◌++◌, ◌||◌, nat_le, not, Bool, List, [], ◌∷◌, All, Option, None, Some, count_by, length, map, option_map, slice_get, slice_index, take, Result, Ok, Err, if◌then◌else◌}
+use Rattle.std.specs.Prelude.{◌≡◌, ℕ, ◌+◌, ◌≤◌, ◌++◌, ◌||◌, nat_le, not, Bool, List, [], ◌∷◌, All, Option, None, Some, codes, count_by, decimal, length, map, option_map, slice_get, slice_index, take, Result, Ok, Err, if◌then◌else◌}
+use Rattle.std.specs.List.{flat_map}
 use Rattle.std.specs.Option.{option_or}
 use Rattle.fdb_lines.specs.declared.line.Line.{Line}
 use Rattle.fdb_lines.specs.declared.reason.Finding.{Finding}
@@ -15,6 +16,7 @@ use Rattle.fdb_log_reader.specs.Numbers.{IsMore}
 use Rattle.fdb_log_reader.specs.Printed.{printed}
 use Rattle.fdb_log_reader.specs.ReadLine.{SaidLine}
 use Rattle.fdb_audit.specs.Judged.{list_text}
+use Rattle.fdb_audit.specs.Objects.{truth}
 use Rattle.fdb_audit.specs.Text.{Beside, PrintedLog, fault_of}
 use Rattle.fdb_audit.specs.declared.fault.LogFault.{LogFault}
 use Rattle.fdb_audit.specs.declared.judging.Wanted.{Wanted}
@@ -107,3 +109,62 @@ AreWindows margin wanted read names [] text = text ≡ []
 AreWindows margin wanted read names (window ∷ windows) text =
     (first rest : List ℕ) × (text ≡ first ++ rest) × (window.read ≤ length read) × IsMore window.names names
     × IsWindow margin wanted (take window.read read) window first × AreWindows margin wanted read names windows rest
+
+-- ---- what is printed at the end
+
+-- how many lines were taken, in all and of each kind; how many were refused; and how many began before what had been settled
+pub record Counted : Type 0 where
+  pub lines : ℕ
+  pub reads : ℕ
+  pub commits : ℕ
+  pub asks : ℕ
+  pub reports : ℕ
+  pub refused : ℕ
+  pub early : ℕ
+
+-- in words
+abbrev pub draws_words : Counted → List ℕ
+draws_words counts = codes " asks " ++ decimal counts.asks ++ codes " reports " ++ decimal counts.reports
+
+abbrev pub came_words : Counted → List ℕ
+came_words counts = codes " refused " ++ decimal counts.refused ++ codes " early " ++ decimal counts.early
+
+abbrev pub counted_words : Counted → List ℕ
+counted_words counts =
+    codes " lines " ++ decimal counts.lines ++ codes " reads " ++ decimal counts.reads ++ codes " commits " ++ decimal counts.commits
+    ++ draws_words counts ++ came_words counts
+
+-- as a JSON object
+abbrev pub draws_members : Counted → List ℕ
+draws_members counts = codes ",\"asks\":" ++ decimal counts.asks ++ codes ",\"reports\":" ++ decimal counts.reports
+
+abbrev pub came_members : Counted → List ℕ
+came_members counts = codes ",\"refused\":" ++ decimal counts.refused ++ codes ",\"early\":" ++ decimal counts.early ++ codes "}"
+
+abbrev pub counted_object : Counted → List ℕ
+counted_object counts =
+    codes "{\"lines\":" ++ decimal counts.lines ++ codes ",\"reads\":" ++ decimal counts.reads ++ codes ",\"commits\":"
+    ++ decimal counts.commits ++ draws_members counts ++ came_members counts
+
+-- the arguments: how far behind the newest end a line may begin, the margin, whether keys are kept, and what is printed beside lines
+pub record FollowArguments : Type 0 where
+  pub behind : ℕ
+  pub margin : ℕ
+  pub by_key : Bool
+  pub members : List (List ℕ)
+
+-- names with commas between them
+abbrev pub listed : List (List ℕ) → List ℕ
+listed [] = []
+listed (name ∷ names) = name ++ flat_map (λ other. codes "," ++ other) names
+
+abbrev pub followed_members : FollowArguments → List ℕ
+followed_members asked =
+    codes "{\"follow\":" ++ decimal asked.behind ++ codes ",\"margin\":" ++ decimal asked.margin ++ codes ",\"by_key\":"
+
+abbrev pub followed_object : FollowArguments → List ℕ
+followed_object asked = followed_members asked ++ truth asked.by_key ++ codes ",\"members\":[" ++ listed asked.members ++ codes "]}"
+
+-- how much was read, and by which arguments
+abbrev pub total_of : Counted → FollowArguments → List ℕ
+total_of counts asked = codes "{\"total\":" ++ counted_object counts ++ codes ",\"arguments\":" ++ followed_object asked ++ codes "}"

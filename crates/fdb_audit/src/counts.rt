@@ -1,6 +1,8 @@
 //! How much of a log has been followed.
 
-ghost use Rattle.std.specs.Prelude.{◌≡◌, ◌+◌, ◌-◌, ◌^◌, min};
+ghost use Rattle.std.specs.Prelude.{◌≡◌, ◌+◌, ◌-◌, ◌^◌, ◌++◌, min, OnOk, string_bytes};
+ghost use Rattle.fdb_audit.specs.Following.{counted_object, counted_words};
+ghost use Rattle.fdb_audit.specs.private.Followed.{counted_in};
 
 use fdb_lines::{Call, Line};
 use std::alloc::AllocError;
@@ -52,7 +54,10 @@ impl Counts {
     }
 
     /// Writes them in words, with how many lines were refused.
-    pub(crate) fn push_words(&self, out: &mut String, refused: u64) -> Result<(), AllocError> {
+    pub(crate) fn push_words(&self, out: &mut String, refused: u64) -> Result<(), AllocError>
+        ensures { OnOk result (string_bytes out.new
+            ≡ string_bytes out.old ++ counted_words (counted_in self.now refused)) }
+    {
         let (lines, reads, commits) = (self.lines, self.reads, self.commits);
         let (asks, reports) = (self.asks, self.reports);
         let early = self.early;
@@ -62,7 +67,10 @@ impl Counts {
     }
 
     /// Writes them as a JSON object, with how many lines were refused.
-    pub(crate) fn push_object(&self, out: &mut String, refused: u64) -> Result<(), AllocError> {
+    pub(crate) fn push_object(&self, out: &mut String, refused: u64) -> Result<(), AllocError>
+        ensures { OnOk result (string_bytes out.new
+            ≡ string_bytes out.old ++ counted_object (counted_in self.now refused)) }
+    {
         let (lines, reads, commits) = (self.lines, self.reads, self.commits);
         let (asks, reports) = (self.asks, self.reports);
         let early = self.early;

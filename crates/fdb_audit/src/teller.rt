@@ -1,14 +1,19 @@
 //! What is told of a log that is followed, as it is printed.
 
-ghost use Rattle.std.specs.Prelude.{◌≡◌, ℕ, [], All, IfOk, List, None, OnOk, Option, Result};
-ghost use Rattle.std.specs.Prelude.{string_bytes};
+ghost use Rattle.std.specs.Prelude.{◌≡◌, ◌++◌, ℕ, [], All, IfOk, List, None, OnOk, Option, Result};
+ghost use Rattle.std.specs.Prelude.{option_map, slice_get, string_bytes};
+ghost use Rattle.std.specs.Option.{option_or};
 ghost use Rattle.fdb_lines.specs.declared.key_part.KeyPart.{KeyPart};
-ghost use Rattle.fdb_lines.specs.KeyWatch.{AreTold};
+ghost use Rattle.fdb_lines.specs.KeyWatch.{AreTold, IsToldOf};
+ghost use Rattle.fdb_lines.specs.Reasons.{found_of};
 ghost use Rattle.fdb_log_reader.specs.LineReader.{line_names};
 ghost use Rattle.fdb_log_reader.specs.ReadLine.{SaidLine};
 ghost use Rattle.fdb_log_reader.specs.declared.error.Why.{Why};
-ghost use Rattle.fdb_audit.specs.Following.{keys_taken, lines_taken};
-ghost use Rattle.fdb_audit.specs.private.Followed.{AreNumbered, TellsOn};
+ghost use Rattle.fdb_audit.specs.Following.{counted_words, followed_object, keys_taken};
+ghost use Rattle.fdb_audit.specs.Following.{lines_taken, listed, told_text, total_of};
+ghost use Rattle.fdb_audit.specs.Text.{fault_of, line};
+ghost use Rattle.fdb_audit.specs.private.{shown_in};
+ghost use Rattle.fdb_audit.specs.private.Followed.{arguments_of, counted_of, members_of, AreNumbered, TellsOn};
 
 use crate::arguments::AuditArguments;
 use crate::beside::MemberBeside;
@@ -99,20 +104,20 @@ impl Teller {
         reader: &LineReader,
         taking: &Taking,
         entry: &SettledKey,
-    ) -> Result<(), AllocError> {
+    ) -> Result<(), AllocError>
+        ensures { OnOk result ((read : List (Result SaidLine Why)) → (to : Option ℕ)
+            → (part : KeyPart) → (margin : ℕ)
+            → AreNumbered taking.now read → (part.watch.margin ≡ margin)
+            → IsToldOf to (lines_taken read) (keys_taken read) entry.now part
+            → TellsOn self.old self.new margin read (line_names reader.now).clients) }
+    {
         let settled = &entry.settled;
         let names = reader.names().printed(alloc)?;
         let numbers = taking.numbering.numbers(alloc, settled)?;
         let keys = keys_of(alloc, entry)?;
         let texts = taking.rows.numbers(alloc, settled)?;
         let mut beside = Vec::new(alloc);
-        if let Some(member) = &self.key {
-            beside.push(MemberBeside {
-                member: String::from_str(alloc, member)?,
-                texts: key_text(alloc, reader.key_names(), entry.key)?,
-                numbers: &keys,
-            })?;
-        }
+        self.add_key(alloc, reader, entry.key, &keys, &mut beside)?;
         taking.rows.add_beside(alloc, settled, &texts, &mut beside)?;
         let view = View {
             log: &settled.log,
@@ -120,11 +125,38 @@ impl Teller {
             numbers: &numbers,
             beside: &beside,
         };
-        self.add(alloc, view, &settled.found)
+        self.add(alloc, view, &settled.found)?;
+        Ok(())
+    }
+
+    /// Adds a key as it is printed beside its lines, if keys are kept.
+    fn add_key<'x>(
+        &self,
+        alloc: Global,
+        reader: &LineReader,
+        key: Option<u32>,
+        numbers: &'x [Option<u32>],
+        beside: &mut Vec<MemberBeside<'x>>,
+    ) -> Result<(), AllocError> {
+        if let Some(member) = &self.key {
+            beside.push(MemberBeside {
+                member: String::from_str(alloc, member)?,
+                texts: key_text(alloc, reader.key_names(), key)?,
+                numbers,
+            })?;
+        }
+        Ok(())
     }
 
     /// Adds faults of a view.
-    fn add(&mut self, alloc: Global, view: View<'_>, found: &[Finding]) -> Result<(), AllocError> {
+    fn add(&mut self, alloc: Global, view: View<'_>, found: &[Finding]) -> Result<(), AllocError>
+        ensures text { OnOk result (string_bytes self.new.text ≡ string_bytes self.old.text
+            ++ told_text self.old.wanted (shown_in view.entry) found.now) }
+        ensures first { OnOk result (self.new.first ≡ option_or self.old.first (option_map
+            (λ finding. fault_of (shown_in view.entry).numbers (found_of finding))
+            (slice_get found.now 0))) }
+        ensures wanted { self.new.wanted ≡ self.old.wanted }
+    {
         if self.wanted.all || !self.wanted.totals {
             view.push_list(&mut self.text, self.wanted.json, found)?;
         }
@@ -133,7 +165,13 @@ impl Teller {
     }
 
     /// Notes the first fault that was found.
-    fn note_first(&mut self, view: View<'_>, found: &[Finding]) {
+    fn note_first(&mut self, view: View<'_>, found: &[Finding])
+        ensures first { self.new.first ≡ option_or self.old.first (option_map
+            (λ finding. fault_of (shown_in view.entry).numbers (found_of finding))
+            (slice_get found.now 0)) }
+        ensures text { self.new.text ≡ self.old.text }
+        ensures wanted { self.new.wanted ≡ self.old.wanted }
+    {
         if self.first.is_none()
             && let Some(finding) = found.first()
         {
@@ -151,7 +189,12 @@ impl Teller {
         reader: &LineReader,
         taking: &Taking,
         behind: u64,
-    ) -> Result<(), AllocError> {
+    ) -> Result<(), AllocError>
+        ensures text { OnOk result ((more : List ℕ)
+            × (string_bytes self.new.text ≡ string_bytes self.old.text ++ more)) }
+        ensures first { self.new.first ≡ self.old.first }
+        ensures wanted { self.new.wanted ≡ self.old.wanted }
+    {
         if self.first.is_none() && !self.wanted.json {
             return push_line(&mut self.text, "audit ok", taking);
         }
@@ -159,49 +202,76 @@ impl Teller {
             return Ok(());
         };
         if self.wanted.json {
-            self.push_total_object(taking, behind, told.columns())?;
+            let asked = ToldArguments {
+                behind,
+                margin: self.margin,
+                by_key: self.key.is_some(),
+                columns: told.columns(),
+            };
+            push_total_object(&mut self.text, taking, asked)?;
         } else {
             push_line(&mut self.text, "audit total", taking)?;
         }
         let names = reader.names().printed(alloc)?;
         told.push(alloc, &mut self.text, self.wanted.json, &names)
     }
+}
 
-    /// Writes how much was read, and by which arguments, as a JSON object.
-    fn push_total_object(
-        &mut self,
-        taking: &Taking,
-        behind: u64,
-        columns: &[Column],
-    ) -> Result<(), AllocError> {
-        let (out, margin) = (&mut self.text, self.margin);
-        write!(out, "{{\"total\":")?;
-        taking.counts.push_object(out, taking.numbering.count())?;
-        write!(
-            out,
-            ",\"arguments\":{{\"follow\":{behind},\"margin\":{margin},\"by_key\":"
-        )?;
-        push_truth(out, self.key.is_some())?;
-        write!(out, ",\"members\":[")?;
-        push_members(out, columns)?;
-        writeln!(out, "]}}}}")
-    }
+/// By which arguments a log is followed.
+#[derive(Clone, Copy)]
+struct ToldArguments<'a> {
+    behind: u64,
+    margin: u64,
+    by_key: bool,
+    columns: &'a [Column],
 }
 
 /// Writes a line of words in front of how much was read.
-fn push_line(out: &mut String, words: &str, taking: &Taking) -> Result<(), AllocError> {
+fn push_line(out: &mut String, words: &str, taking: &Taking) -> Result<(), AllocError>
+    ensures { OnOk result (string_bytes out.new ≡ string_bytes out.old
+        ++ line (words.now ++ counted_words (counted_of taking.now))) }
+{
     write!(out, "{words}")?;
     taking.counts.push_words(out, taking.numbering.count())?;
     writeln!(out)
 }
 
+/// Writes how much was read, and by which arguments, as a JSON object.
+fn push_total_object(out: &mut String, taking: &Taking, asked: ToldArguments<'_>) -> Result<(), AllocError>
+    ensures { OnOk result (string_bytes out.new ≡ string_bytes out.old
+        ++ line (total_of (counted_of taking.now) (arguments_of asked.entry))) }
+{
+    write!(out, "{{\"total\":")?;
+    taking.counts.push_object(out, taking.numbering.count())?;
+    write!(out, ",\"arguments\":")?;
+    push_arguments(out, asked)?;
+    writeln!(out, "}}")
+}
+
+/// Writes the arguments, as a JSON object.
+fn push_arguments(out: &mut String, asked: ToldArguments<'_>) -> Result<(), AllocError>
+    ensures { OnOk result (string_bytes out.new ≡ string_bytes out.old
+        ++ followed_object (arguments_of asked.entry)) }
+{
+    let (behind, margin) = (asked.behind, asked.margin);
+    write!(out, "{{\"follow\":{behind},\"margin\":{margin},\"by_key\":")?;
+    push_truth(out, asked.by_key)?;
+    write!(out, ",\"members\":[")?;
+    push_members(out, asked.columns)?;
+    write!(out, "]}}")
+}
+
 /// Writes the names of the members that are printed beside lines, with commas between them.
-fn push_members(out: &mut String, columns: &[Column]) -> Result<(), AllocError> {
-    for (place, column) in columns.iter().enumerate() {
-        if place > 0 {
-            write!(out, ",")?;
-        }
-        write!(out, "{}", column.member())?;
+fn push_members(out: &mut String, columns: &[Column]) -> Result<(), AllocError>
+    ensures { OnOk result
+        (string_bytes out.new ≡ string_bytes out.old ++ listed (members_of columns.now)) }
+{
+    let Some((first, more)) = columns.split_first() else {
+        return Ok(());
+    };
+    write!(out, "{}", first.member())?;
+    for column in more {
+        write!(out, ",{}", column.member())?;
     }
     Ok(())
 }

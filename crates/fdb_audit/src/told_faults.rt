@@ -1,5 +1,11 @@
 //! The faults that a watch has told, as they are counted in totals.
 
+ghost use Rattle.std.specs.Prelude.{◌≡◌, ◌++◌, ℕ, List, OnOk, string_bytes};
+ghost use Rattle.fdb_lines.specs.declared.reason.Finding.{Finding};
+ghost use Rattle.fdb_audit.specs.Groups.{groupings, AreMostOfEach};
+ghost use Rattle.fdb_audit.specs.Text.{line, PrintedLog};
+ghost use Rattle.fdb_audit.specs.Totals.{faults_line};
+
 use crate::beside::MemberBeside;
 use crate::grouped::push_most_of_each;
 use crate::totals::push_faults;
@@ -37,7 +43,9 @@ impl Column {
     }
 
     /// The name of the member, as it is printed.
-    pub(crate) fn member(&self) -> &str {
+    pub(crate) fn member(&self) -> &str
+        ensures { result.now ≡ string_bytes self.now.member }
+    {
         &self.member
     }
 
@@ -56,7 +64,9 @@ impl Column {
         if let Some(number) = self.places.get(text) {
             return Ok(*number);
         }
-        let number = self.texts.len() as u32;
+        let Ok(number) = u32::try_from(self.texts.len()) else {
+            return Err(AllocError);
+        };
         self.texts.push(String::from_str(alloc, text)?)?;
         self.places.insert(String::from_str(alloc, text)?, number)?;
         Ok(number)
@@ -97,7 +107,9 @@ impl ToldFaults {
         fault: Fault,
         place: u32,
     ) -> Result<(), AllocError> {
-        let line = self.log.lines().len() as u32;
+        let Ok(line) = u32::try_from(self.log.lines().len()) else {
+            return Err(AllocError);
+        };
         if self.log.push(view.line(place)).is_err() {
             return Err(AllocError);
         }
@@ -119,7 +131,12 @@ impl ToldFaults {
         out: &mut String,
         json: bool,
         names: &[String],
-    ) -> Result<(), AllocError> {
+    ) -> Result<(), AllocError>
+        ensures { OnOk result ((it : PrintedLog) × (found : List Finding) × (groups : List ℕ)
+            × AreMostOfEach json (groupings it) found groups
+            × (string_bytes out.new
+                ≡ string_bytes out.old ++ (line (faults_line json found) ++ groups))) }
+    {
         let (mut numbers, mut texts) = (Vec::new(alloc), Vec::new(alloc));
         for column in self.columns {
             numbers.push(column.numbers)?;
