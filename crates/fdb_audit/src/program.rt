@@ -1,6 +1,6 @@
 //! The program: its command, and what it prints of a log.
 
-ghost use Rattle.std.specs.Prelude.{◌≡◌, ◌≢◌, ◌++◌, ℕ, IfErr, IfOk, List, MatchResult};
+ghost use Rattle.std.specs.Prelude.{◌≡◌, ◌≢◌, ◌++◌, ℕ, [], IfErr, IfOk, List, MatchResult};
 ghost use Rattle.std.specs.Prelude.{MatchOption, None};
 ghost use Rattle.std.specs.Thread.{IsSync};
 ghost use Rattle.clap.specs.Words.{Text};
@@ -182,6 +182,7 @@ fn followed(
     match follower.finish() {
         Ok(it) => Ok(Answer {
             text: it.said.text.into_bytes(),
+            warnings: it.said.warnings.into_bytes(),
             found: it.found,
             refused: it.refused.map(|error| LogsRefused { error }),
         }),
@@ -200,7 +201,7 @@ fn judged<R: Threads + Sync>(
     ensures { (arguments : List Text) → (bytes : List ℕ) → IsAsked arguments asked.now
         → asked.now.follow ≡ None → HasRead asked.now reader bytes → MatchResult result
         (λ answer. Prints asked.now bytes answer.text.items answer.found
-        × (answer.refused ≡ None))
+        × (answer.refused ≡ None) × (answer.warnings.items ≡ []))
         (Stops audit arguments bytes) }
 {
     let named = match reader.finish() {
@@ -210,6 +211,7 @@ fn judged<R: Threads + Sync>(
     match judge_named_by(rt, alloc, &named, &asked.opts, asked.wanted) {
         Ok(Judgement { fault, text }) => Ok(Answer {
             text: text.into_bytes(),
+            warnings: Vec::new(alloc),
             found: told(fault),
             refused: None,
         }),
@@ -239,7 +241,8 @@ pub fn drive<R: Files + Clock + Threads + Sync, I: Read, O: Write, E: Write>(
         ensures { (arguments : List Text) → (bytes told : List ℕ) → IsAsked arguments asked
             → HasTaken asked intake bytes told → MatchResult result
             (λ answer. PrintsBy asked.follow asked bytes (told ++ answer.text.items) answer.found
-            answer.refused) (Stops audit arguments bytes) }
+            answer.refused × (asked.follow ≡ None → answer.warnings.items ≡ []))
+            (Stops audit arguments bytes) }
     {
         match intake {
             AuditIntake::Whole(reader) => judged(rt, alloc, &asked, reader),

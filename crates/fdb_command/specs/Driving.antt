@@ -1,5 +1,5 @@
 -- What a program does with its input, and what it has done when it ends. (this product's own)
-use Rattle.std.specs.Prelude.{◌≡◌, ◌≢◌, ◌⊎◌, ◌+◌, ◌++◌, ◌≤◌, ◌<◌, ⊤, Bool, true, ℕ, List, [], Option, None, Some}
+use Rattle.std.specs.Prelude.{◌≡◌, ◌≢◌, ◌⊎◌, ◌+◌, ◌++◌, ◌≤◌, ◌<◌, ⊤, Bool, true, false, ℕ, List, [], Option, None, Some}
 use Rattle.std.specs.Prelude.{Result, String, Vec, IfErr, IfOk, IfSome, IsOkAnd, MatchResult, OnErr, length, map, string_bytes}
 use Rattle.std.specs.IoError.{error_kind}
 use Rattle.std.specs.declared.io.Error.{Error}
@@ -40,12 +40,14 @@ Stops program arguments bytes (Found found) = program.finds arguments bytes foun
 Stops program arguments bytes Reading = ⊥
 Stops program arguments bytes Writing = ⊥
 
--- what a program may answer of these bytes, of which this text has been told
+-- What a program may answer of these bytes, of which this text has been told: it says what is left out
+-- only where it warns.
 abbrev pub MayAnswer : {O I E F : Type 0} → Promise O I E F → List Text → List ℕ → List ℕ
     → Answer E F → Type 0
 MayAnswer program arguments bytes told answer =
     program.prints arguments bytes (told ++ answer.text.items) answer.found answer.refused
     × IfSome answer.refused (program.refuses arguments bytes)
+    × (program.warns arguments ≡ false → answer.warnings.items ≡ [])
 
 -- The body of a program may be called on what its flags stand for and on an intake that has taken
 -- some bytes by these, of which some text has been told, by what it says of the calls that may be

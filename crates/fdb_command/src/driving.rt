@@ -1,6 +1,6 @@
 //! A program, over a reader and two writers.
 
-ghost use Rattle.std.specs.Prelude.{◌≡◌, ◌≢◌, ◌⊎◌, ◌+◌, ◌++◌, ℕ, List, IfOk, IfErr, OnOk, OnErr};
+ghost use Rattle.std.specs.Prelude.{◌≡◌, ◌≢◌, ◌⊎◌, ◌+◌, ◌++◌, ℕ, [], List, IfOk, IfErr, OnOk, OnErr};
 ghost use Rattle.std.specs.Prelude.{IsOkAnd, MatchResult, None, Some, map, string_bytes};
 ghost use Rattle.std.specs.IoError.{error_kind};
 ghost use Rattle.clap.specs.Words.{Text};
@@ -279,7 +279,7 @@ where
             (I.remaining input.old) (I.remaining input.new) }
     {
         match self.answer_of(matches, input, out, err) {
-            Ok(answer) => put(answer, out),
+            Ok(answer) => put(answer, out, err),
             Err(fault) => Err(fault),
         }
     }
@@ -308,6 +308,9 @@ where
             → IfErr result (λ fault. (found : P.Finding) → fault ≡ Fault.Found found
             → MayFind P.promise arguments (I.remaining input.old)) }
         ensures own { IfErr result (λ fault. fault ≢ Fault.Arguments) }
+        ensures unsaid { (arguments : List Text) → AreMatches P.promise.app arguments matches.now
+            → (Warns P.promise arguments → ⊥)
+            → IfOk result (λ answer. answer.warnings.items ≡ []) }
         ensures begun { (arguments : List Text) → AreMatches P.promise.app arguments matches.now
             → OnErr result (HasAtMostTold P.promise arguments
             (I.remaining input.old) O.contents out.old out.new) }

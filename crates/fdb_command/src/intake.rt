@@ -12,7 +12,7 @@ ghost use Rattle.fdb_command.specs.private.Taking.{TakesOn, TellsLast, TellsOn};
 
 use crate::fault::Fault;
 use crate::input::{InputFault, read_piece};
-use crate::output::write_flushed;
+use crate::output::{warn, write_flushed};
 use crate::program::{Program, Told};
 use std::alloc::Global;
 use std::fmt::{Debug, Display};
@@ -279,15 +279,6 @@ impl<P: Program, R: Files + Clock> Taker<'_, P, R> {
         if let Some(calls) = self.program.progress(self.options, intake) {
             let _ = writeln!(err, "{}: {read} bytes, {calls} calls read{next}", P::NAME);
         }
-    }
-}
-
-/// Writes lines, if there are some. Where they cannot be written, nothing changes.
-fn warn<W: Write>(lines: &[u8], err: &mut W)
-    ensures { lines.now ≡ [] → err.new ≡ err.old }
-{
-    if !lines.is_empty() {
-        let _ = write_flushed(err, lines);
     }
 }
 

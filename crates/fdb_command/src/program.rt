@@ -18,6 +18,9 @@ use std::time::Clock;
 pub struct Answer<E: Debug + Display + Drop, F: Debug + Display + Drop> {
     /// What is written to the output, whole, behind what was told, also where a fault was found.
     pub text: Vec<u8>,
+    /// Whole lines for standard error, in front of the text. Where they cannot be written, nothing
+    /// changes.
+    pub warnings: Vec<u8>,
     /// The fault that was found, if one was.
     pub found: Option<F>,
     /// Why a part of the input was refused, where the rest was read on.

@@ -1,6 +1,6 @@
 //! The program: its command, and what it prints of a script.
 
-ghost use Rattle.std.specs.Prelude.{◌≡◌, ◌≢◌, ◌⊎◌, ◌≤◌, List, IfOk, IsOkAnd, MatchResult, None};
+ghost use Rattle.std.specs.Prelude.{◌≡◌, ◌≢◌, ◌⊎◌, ◌≤◌, List, [], IfOk, IsOkAnd, MatchResult, None};
 ghost use Rattle.std.specs.Prelude.{codes, map, string_bytes};
 ghost use Rattle.clap.specs.Words.{Text, app_of};
 ghost use Rattle.fdb_client.specs.declared.cluster.TheConstants.{MAX_GRV_PROXIES};
@@ -132,6 +132,7 @@ pub fn drive<R: Threads + Wait + Sync + Files + Clock, I: Read, O: Write, E: Wri
         requires few_proxies { opts.proxies ≤ MAX_GRV_PROXIES }
         ensures { (arguments : List Text) → MatchResult result
             (λ answer. (answer.found ≡ None) × (answer.refused ≡ None)
+            × (answer.warnings.items ≡ [])
             × Replays script.items opts.with_history answer.text.items)
             (Stops replay arguments script.items) }
     { answer_of(rt, alloc, opts, &script) };
@@ -149,12 +150,14 @@ fn answer_of<R: Threads + Wait + Sync>(
     requires few_proxies { opts.proxies ≤ MAX_GRV_PROXIES }
     ensures { (arguments : List Text) → MatchResult result
         (λ answer. (answer.found ≡ None) × (answer.refused ≡ None)
+        × (answer.warnings.items ≡ [])
         × Replays script.now opts.with_history answer.text.items)
         (Stops replay arguments script.now) }
 {
     match replayed_text(rt, alloc, script, opts, &OpenGate) {
         Ok(text) => Ok(Answer {
             text,
+            warnings: Vec::new(alloc),
             found: None,
             refused: None,
         }),

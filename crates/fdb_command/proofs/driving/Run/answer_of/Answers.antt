@@ -5,7 +5,7 @@ use Rattle.fdb_command.specs.Input.{MayBeRead}
 use Rattle.fdb_command.specs.private.Taking.{IsFailure, MayStop}
 use Rattle.fdb_command.specs.Driving.{MayAnswer, TellsOf}
 use Rattle.fdb_command.specs.declared.fault.Fault.TheVariants.{Arguments, Refused, Found}
-use Rattle.fdb_command.proofs.Answered.{found_early, found_of, named_file, own_early, own_of, printed_of, refused_early, refused_of, told_after, told_early, untold, unwarned}
+use Rattle.fdb_command.proofs.Answered.{found_early, found_of, named_file, own_early, own_of, printed_of, refused_early, refused_of, told_after, told_early, unsaid_of, untold, unwarned}
 use Rattle.fdb_command.proofs.Pieces.{on_error, passed_on}
 use Rattle.fdb_command.proofs.driving.Run.answer_of.Goals as goal
 
@@ -76,6 +76,16 @@ returns-clause-own g c =
     let all = c.in_ok-intake.ensures.all in
     own_of g.P.Program.promise arguments all.bytes (MayAnswer g.P.Program.promise arguments all.bytes all.told) c.body.result
     (c.requires.promised arguments c.in-Ok.options c.in_ok-intake.intake all.bytes all.told c.body.result (c.in-Ok.ensures arguments matches) all.taken c.body.ensures)
+
+pub returns-clause-unsaid : goal.returns-clause-unsaid
+returns-clause-unsaid g c = λ arguments matches silent.
+    let promise = g.P.Program.promise in
+    let remaining = g.I.Read.remaining c.args.input.now in
+    let all = c.in_ok-intake.ensures.all in
+    let read = subst (λ (file : Option Text). MayBeRead file remaining all.bytes) (c.file_of.ensures promise.app arguments matches) all.read in
+    unsaid_of promise arguments c.in-Ok.options (c.in-Ok.ensures arguments matches) remaining matches.taken all.bytes all.told all.few read c.body.result
+    (c.requires.promised arguments c.in-Ok.options c.in_ok-intake.intake all.bytes all.told c.body.result (c.in-Ok.ensures arguments matches) all.taken c.body.ensures)
+    (unwarned promise arguments matches.taken silent)
 
 pub returns-clause-left : goal.returns-clause-left
 returns-clause-left g c = λ arguments matches unread.
