@@ -74,7 +74,12 @@ impl Program for Audit {
         })
     }
 
-    fn begin(&self, alloc: Global, asked: &AuditArguments) -> Result<AuditIntake, AllocError> {
+    fn begin<R: Files>(
+        &self,
+        _rt: &R,
+        alloc: Global,
+        asked: &AuditArguments,
+    ) -> Result<AuditIntake, Fault<LogsRefused, LogFault>> {
         match asked.follow {
             Some(behind) => Ok(AuditIntake::Followed(Follower::new(alloc, asked, behind)?)),
             None => {

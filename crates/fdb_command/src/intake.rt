@@ -137,9 +137,8 @@ impl<P: Program, R: Files + Clock> Taker<'_, P, R> {
         }
         let room = room.as_mut_slice();
         let most = self.program.most();
-        let Ok(mut intake) = self.program.begin(self.alloc, self.options) else {
-            return Err(Fault::Memory);
-        };
+        let begun = self.program.begin(self.rt, self.alloc, self.options)?;
+        let mut intake = begun;
         let mut read = 0;
         // A reader may be interrupted as often as it likes, but a loop has an end.
         for _ in 0..u64::MAX {

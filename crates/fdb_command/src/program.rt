@@ -75,9 +75,20 @@ pub trait Program {
         ensures { (arguments : List Text) → AreMatches promise.app arguments matches.now
             → IfOk result (promise.asks arguments) };
 
-    /// An intake that has taken no bytes yet, and that is to take them by what the flags say.
-    fn begin(&self, alloc: Global, options: &Self::Options) -> Result<Self::Intake, AllocError>
-        ensures { IfOk result (λ intake. promise.taken options.now intake [] []) };
+    /// An intake that has taken no bytes yet, and that is to take them by what the flags say. It is
+    /// asked for before anything of the input is read, and may read a file of the program's own. An
+    /// error is that such a file could not be read, or a refusal or a fault that holds whatever the
+    /// input is, or that memory was refused.
+    fn begin<R: Files>(
+        &self,
+        rt: &R,
+        alloc: Global,
+        options: &Self::Options,
+    ) -> Result<Self::Intake, Fault<Self::Refusal, Self::Finding>>
+        ensures taken { IfOk result (λ intake. promise.taken options.now intake [] []) }
+        ensures stops { IfErr result (λ fault. (fault ≡ Fault.Reading)
+            ⊎ ((arguments : List Text) (bytes : List ℕ) → promise.asks arguments options.now
+            → Stops promise arguments bytes fault)) };
 
     /// Takes the next bytes, by what the flags say that the intake was begun with. An error is a
     /// refusal or a fault that holds whatever bytes come after these, or that memory was refused.

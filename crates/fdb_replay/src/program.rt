@@ -87,7 +87,12 @@ impl Program for Replay {
         })
     }
 
-    fn begin(&self, alloc: Global, _opts: &ReplayOpts) -> Result<Vec<u8>, AllocError> {
+    fn begin<R: Files>(
+        &self,
+        _rt: &R,
+        alloc: Global,
+        _opts: &ReplayOpts,
+    ) -> Result<Vec<u8>, Fault<ScriptRefused, Infallible>> {
         Ok(Vec::new(alloc))
     }
 
