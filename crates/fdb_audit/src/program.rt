@@ -14,7 +14,7 @@ use crate::follower::{Follower, Said};
 use crate::judging::{Judgement, judge_named_by};
 use crate::refused::LogsRefused;
 use clap::{ArgMatches, Command};
-use fdb_command::{Answer, Fault, Program, Told, is_given, number};
+use fdb_command::{Answer, ArgumentsFault, Fault, Program, Told, is_given, number};
 use fdb_lines::AuditOpts;
 use fdb_log_reader::{LogReader, ReadError, Why};
 use std::alloc::{AllocError, Global};
@@ -60,14 +60,20 @@ impl Program for Audit {
         &self,
         alloc: Global,
         matches: &ArgMatches<'_>,
-    ) -> Result<AuditArguments, AllocError> {
+    ) -> Result<AuditArguments, ArgumentsFault> {
+        let complete = number(matches, "complete");
+        let follow = number(matches, "follow");
+        let wanted = wanted_of(matches);
+        if follow.is_some() && (complete.is_some() || wanted.history) {
+            return Err(ArgumentsFault::Refused);
+        }
         Ok(AuditArguments {
             opts: AuditOpts {
-                complete: number(matches, "complete"),
+                complete,
                 margin: number(matches, "margin").unwrap_or(0),
             },
-            follow: number(matches, "follow"),
-            wanted: wanted_of(matches),
+            follow,
+            wanted,
             key: owned(alloc, text(matches, "key"))?,
             shown: members(alloc, text(matches, "show"))?,
             progress: is_given(matches, "progress"),

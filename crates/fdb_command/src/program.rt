@@ -6,6 +6,7 @@ ghost use Rattle.clap.specs.Words.{Text, app_of};
 ghost use Rattle.fdb_command.specs.Arguments.{AreMatches};
 ghost use Rattle.fdb_command.specs.Driving.{Promise, Stops};
 
+use crate::arguments::ArgumentsFault;
 use crate::fault::Fault;
 use clap::{ArgMatches, Command};
 use std::alloc::{AllocError, Global};
@@ -69,11 +70,19 @@ pub trait Program {
     fn command<'a>(&self, alloc: Global) -> Result<Command<'a>, AllocError>
         ensures { IfOk result (λ command. app_of command ≡ promise.app) };
 
-    /// What its flags say, by the matches of its arguments.
-    fn options(&self, alloc: Global, matches: &ArgMatches<'_>) -> Result<Self::Options, AllocError>
+    /// What its flags say, by the matches of its arguments; or that they do not suit it, though the
+    /// command takes them.
+    fn options(
+        &self,
+        alloc: Global,
+        matches: &ArgMatches<'_>,
+    ) -> Result<Self::Options, ArgumentsFault>
         requires { (arguments : List Text) × AreMatches promise.app arguments matches.now }
-        ensures { (arguments : List Text) → AreMatches promise.app arguments matches.now
-            → IfOk result (promise.asks arguments) };
+        ensures said { (arguments : List Text) → AreMatches promise.app arguments matches.now
+            → IfOk result (promise.asks arguments) }
+        ensures refused { (arguments : List Text) → AreMatches promise.app arguments matches.now
+            → IfErr result (λ fault. fault ≡ ArgumentsFault.Refused
+            → promise.suits arguments ≡ false) };
 
     /// An intake that has taken no bytes yet, and that is to take them by what the flags say. It is
     /// asked for before anything of the input is read, and may read a file of the program's own. An

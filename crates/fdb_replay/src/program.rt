@@ -13,8 +13,8 @@ use crate::opts::ReplayOpts;
 use crate::replaying::{ReplayFault, replayed_text};
 use clap::{ArgMatches, Command};
 use fdb_command::{
-    Answer, Fault, Program, file_argument, flag_argument, is_given, new_command, number,
-    number_argument,
+    Answer, ArgumentsFault, Fault, Program, file_argument, flag_argument, is_given, new_command,
+    number, number_argument,
 };
 use fdb_history::OpenGate;
 use fdb_script::{MAX_SCRIPT_BYTES, ScriptError};
@@ -80,7 +80,11 @@ impl Program for Replay {
         command(alloc)
     }
 
-    fn options(&self, _alloc: Global, matches: &ArgMatches<'_>) -> Result<ReplayOpts, AllocError> {
+    fn options(
+        &self,
+        _alloc: Global,
+        matches: &ArgMatches<'_>,
+    ) -> Result<ReplayOpts, ArgumentsFault> {
         Ok(ReplayOpts {
             proxies: proxies_of(matches),
             with_history: wants_history(matches),
