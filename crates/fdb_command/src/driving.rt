@@ -1,7 +1,7 @@
 //! A program, over a reader and two writers.
 
-ghost use Rattle.std.specs.Prelude.{◌≡◌, ◌≢◌, ◌⊎◌, ◌+◌, ◌++◌, ℕ, [], List, IfOk, IfErr, OnOk, OnErr};
-ghost use Rattle.std.specs.Prelude.{IsOkAnd, MatchResult, None, Some, map, string_bytes};
+ghost use Rattle.std.specs.Prelude.{◌≡◌, ◌≢◌, ◌⊎◌, ◌+◌, ◌++◌, ℕ, [], List, IfOk, IfErr, OnOk};
+ghost use Rattle.std.specs.Prelude.{IsOkAnd, MatchResult, OnErr, None, Some, map, string_bytes};
 ghost use Rattle.std.specs.IoError.{error_kind};
 ghost use Rattle.clap.specs.Words.{Text};
 ghost use Rattle.fdb_command.specs.Arguments.{AreTaken, AreWrong, ReadsInput};

@@ -16,7 +16,7 @@ use std::fmt::{Debug, Display};
 pub enum Fault<E: Debug + Display + Drop, F: Debug + Display + Drop> {
     /// The input is refused, whole or in part, and why, with what the input is called.
     Refused(E),
-    /// The arguments of the command line are refused, by clap or by the program, or could not be had.
+    /// The arguments are refused, by clap or by the program, or could not be had.
     Arguments,
     /// Memory was refused, before anything was written to the output but what was told.
     Memory,
