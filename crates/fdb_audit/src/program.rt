@@ -1,6 +1,6 @@
 //! The program: its command, and what it prints of a log.
 
-ghost use Rattle.std.specs.Prelude.{◌≡◌, ◌≢◌, ◌++◌, ℕ, IfErr, IfOk, List, MatchResult};
+ghost use Rattle.std.specs.Prelude.{◌≡◌, ◌≢◌, ◌++◌, ℕ, [], IfErr, IfOk, List, MatchResult};
 ghost use Rattle.std.specs.Prelude.{MatchOption, None};
 ghost use Rattle.std.specs.Thread.{IsSync};
 ghost use Rattle.clap.specs.Words.{Text};
@@ -14,7 +14,7 @@ use crate::follower::{Follower, Said};
 use crate::judging::{Judgement, judge_named_by};
 use crate::refused::LogsRefused;
 use clap::{ArgMatches, Command};
-use fdb_command::{Answer, Fault, Program, Told, is_given, number};
+use fdb_command::{Answer, ArgumentsFault, Fault, Program, Told, is_given, number};
 use fdb_lines::AuditOpts;
 use fdb_log_reader::{LogReader, ReadError, Why};
 use std::alloc::{AllocError, Global};
@@ -60,21 +60,32 @@ impl Program for Audit {
         &self,
         alloc: Global,
         matches: &ArgMatches<'_>,
-    ) -> Result<AuditArguments, AllocError> {
+    ) -> Result<AuditArguments, ArgumentsFault> {
+        let complete = number(matches, "complete");
+        let follow = number(matches, "follow");
+        let wanted = wanted_of(matches);
+        if follow.is_some() && (complete.is_some() || wanted.history) {
+            return Err(ArgumentsFault::Refused);
+        }
         Ok(AuditArguments {
             opts: AuditOpts {
-                complete: number(matches, "complete"),
+                complete,
                 margin: number(matches, "margin").unwrap_or(0),
             },
-            follow: number(matches, "follow"),
-            wanted: wanted_of(matches),
+            follow,
+            wanted,
             key: owned(alloc, text(matches, "key"))?,
             shown: members(alloc, text(matches, "show"))?,
             progress: is_given(matches, "progress"),
         })
     }
 
-    fn begin(&self, alloc: Global, asked: &AuditArguments) -> Result<AuditIntake, AllocError> {
+    fn begin<R: Files>(
+        &self,
+        _rt: &R,
+        alloc: Global,
+        asked: &AuditArguments,
+    ) -> Result<AuditIntake, Fault<LogsRefused, LogFault>> {
         match asked.follow {
             Some(behind) => Ok(AuditIntake::Followed(Follower::new(alloc, asked, behind)?)),
             None => {
@@ -182,6 +193,7 @@ fn followed(
     match follower.finish() {
         Ok(it) => Ok(Answer {
             text: it.said.text.into_bytes(),
+            warnings: it.said.warnings.into_bytes(),
             found: it.found,
             refused: it.refused.map(|error| LogsRefused { error }),
         }),
@@ -200,7 +212,7 @@ fn judged<R: Threads + Sync>(
     ensures { (arguments : List Text) → (bytes : List ℕ) → IsAsked arguments asked.now
         → asked.now.follow ≡ None → HasRead asked.now reader bytes → MatchResult result
         (λ answer. Prints asked.now bytes answer.text.items answer.found
-        × (answer.refused ≡ None))
+        × (answer.refused ≡ None) × (answer.warnings.items ≡ []))
         (Stops audit arguments bytes) }
 {
     let named = match reader.finish() {
@@ -210,6 +222,7 @@ fn judged<R: Threads + Sync>(
     match judge_named_by(rt, alloc, &named, &asked.opts, asked.wanted) {
         Ok(Judgement { fault, text }) => Ok(Answer {
             text: text.into_bytes(),
+            warnings: Vec::new(alloc),
             found: told(fault),
             refused: None,
         }),
@@ -239,7 +252,8 @@ pub fn drive<R: Files + Clock + Threads + Sync, I: Read, O: Write, E: Write>(
         ensures { (arguments : List Text) → (bytes told : List ℕ) → IsAsked arguments asked
             → HasTaken asked intake bytes told → MatchResult result
             (λ answer. PrintsBy asked.follow asked bytes (told ++ answer.text.items) answer.found
-            answer.refused) (Stops audit arguments bytes) }
+            answer.refused × (asked.follow ≡ None → answer.warnings.items ≡ []))
+            (Stops audit arguments bytes) }
     {
         match intake {
             AuditIntake::Whole(reader) => judged(rt, alloc, &asked, reader),

@@ -71,6 +71,11 @@ module _ {O I E F : Type 0} (program : Promise O I E F) (arguments : List Text) 
     printed_of contents before after put (Ok answer) prints = (told, put, record { taken = taken; bytes = bytes; few = few; read = read; printed = prints.0; refuses = prints.1 })
     printed_of contents before after put (Err fault) stops = tt
 
+    pub unsaid_of : (r : Result (Answer E F) (Fault E F)) → MatchResult r (MayAnswer program arguments bytes told) (Stops program arguments bytes)
+        → program.warns arguments ≡ false → IfOk r (λ answer. answer.warnings.items ≡ [])
+    unsaid_of (Ok answer) prints silent = prints.2 silent
+    unsaid_of (Err fault) stops silent = tt
+
     pub told_after : (intake : I) → program.taken options intake bytes told → {W : Type 0} (contents : W → Option (List ℕ)) (before after : W) → IsPut contents told before after → HasAtMostTold program arguments remaining contents before after
     told_after intake took contents before after (inl none) = inl none.1
     told_after intake took contents before after (inr some) = inr (record {

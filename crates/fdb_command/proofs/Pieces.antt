@@ -94,6 +94,13 @@ pub stops_unread : {O I E F : Type 0} (program : Promise O I E F) (options : O) 
 stops_unread program options None = record { bytes = []; read = tt; stops = λ arguments asks. tt }
 stops_unread program options (Some all) = record { bytes = all; read = refl; stops = λ arguments asks. tt }
 
+-- a program that stops before it has taken any bytes stops at all of them, whatever they are
+pub stops_begun : {O I E F : Type 0} (program : Promise O I E F) (options : O) (first : Option (List ℕ)) (fault : Fault E F)
+    → (fault ≡ Reading) ⊎ ((arguments : List Text) (bytes : List ℕ) → program.asks arguments options → Stops program arguments bytes fault) → IsFailure fault ⊎ MayStop program options None first fault
+stops_begun program options first fault (inl reading) = inl (inl reading)
+stops_begun program options None fault (inr stops) = inr (record { bytes = []; read = tt; stops = λ arguments asks. stops arguments [] asks })
+stops_begun program options (Some all) fault (inr stops) = inr (record { bytes = all; read = refl; stops = λ arguments asks. stops arguments all asks })
+
 -- where a program stops whatever comes after, it stops at all bytes
 stops_whole : {O I E F : Type 0} (program : Promise O I E F) (options : O) (first last : Option (List ℕ)) (so_far bytes : List ℕ) (fault : Fault E F) → Consumes first last (so_far ++ bytes)
     → ((arguments : List Text) (rest : List ℕ) → program.asks arguments options → Stops program arguments (so_far ++ (bytes ++ rest)) fault) → MayStop program options None first fault

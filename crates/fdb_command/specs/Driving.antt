@@ -1,5 +1,5 @@
 -- What a program does with its input, and what it has done when it ends. (this product's own)
-use Rattle.std.specs.Prelude.{◌≡◌, ◌≢◌, ◌⊎◌, ◌+◌, ◌++◌, ◌≤◌, ◌<◌, ⊤, Bool, true, ℕ, List, [], Option, None, Some}
+use Rattle.std.specs.Prelude.{◌≡◌, ◌≢◌, ◌⊎◌, ◌+◌, ◌++◌, ◌≤◌, ◌<◌, ⊤, Bool, true, false, ℕ, List, [], Option, None, Some}
 use Rattle.std.specs.Prelude.{Result, String, Vec, IfErr, IfOk, IfSome, IsOkAnd, MatchResult, OnErr, length, map, string_bytes}
 use Rattle.std.specs.IoError.{error_kind}
 use Rattle.std.specs.declared.io.Error.{Error}
@@ -14,8 +14,8 @@ use Rattle.fdb_command.specs.declared.fault.Fault.{Fault}
 use Rattle.fdb_command.specs.declared.program.Answer.{Answer}
 use Rattle.fdb_command.specs.declared.fault.Fault.TheVariants.{Refused, Arguments, Memory, Found, Reading, Writing}
 
--- A program's own: its command, the most bytes that its input may have, what its flags may stand
--- for, where progress is told, and where it is said what is left out; which bytes an intake has
+-- A program's own: its command, the most bytes that its input may have, which of the arguments that
+-- its command takes suit it, what its flags may stand for, where progress is told, and where it is said what is left out; which bytes an intake has
 -- taken by what the flags stand for, and which text has been told of them; which texts, told parts
 -- and rest together, it may print at some arguments of some bytes, with a fault that it finds or
 -- none and a part that it refuses or none; which bytes it refuses there, whole or in part, and why;
@@ -23,6 +23,7 @@ use Rattle.fdb_command.specs.declared.fault.Fault.TheVariants.{Refused, Argument
 pub record Promise (O I E F : Type 0) : Type 1 where
   pub app : App
   pub most : ℕ
+  pub suits : List Text → Bool
   pub asks : List Text → O → Type 0
   pub tells : List Text → Bool
   pub warns : List Text → Bool
@@ -30,6 +31,11 @@ pub record Promise (O I E F : Type 0) : Type 1 where
   pub prints : List Text → List ℕ → List ℕ → Option F → Option E → Type 0
   pub refuses : List Text → List ℕ → E → Type 0
   pub finds : List Text → List ℕ → F → Type 0
+
+-- clap refuses the arguments, or takes them and they do not suit the program
+abbrev pub AreRefused : {O I E F : Type 0} → Promise O I E F → List Text → Type 0
+AreRefused program arguments = AreWrong program.app arguments
+    ⊎ ((fault_of program.app arguments ≡ []) × (program.suits arguments ≡ false))
 
 -- why a program prints nothing more of these bytes, at these arguments
 abbrev pub Stops : {O I E F : Type 0} → Promise O I E F → List Text → List ℕ → Fault E F → Type 0
@@ -40,12 +46,14 @@ Stops program arguments bytes (Found found) = program.finds arguments bytes foun
 Stops program arguments bytes Reading = ⊥
 Stops program arguments bytes Writing = ⊥
 
--- what a program may answer of these bytes, of which this text has been told
+-- What a program may answer of these bytes, of which this text has been told: it says what is left out
+-- only where it warns.
 abbrev pub MayAnswer : {O I E F : Type 0} → Promise O I E F → List Text → List ℕ → List ℕ
     → Answer E F → Type 0
 MayAnswer program arguments bytes told answer =
     program.prints arguments bytes (told ++ answer.text.items) answer.found answer.refused
     × IfSome answer.refused (program.refuses arguments bytes)
+    × (program.warns arguments ≡ false → answer.warnings.items ≡ [])
 
 -- The body of a program may be called on what its flags stand for and on an intake that has taken
 -- some bytes by these, of which some text has been told, by what it says of the calls that may be
@@ -197,7 +205,7 @@ pub record IsDriven {O I E F R W L : Type 0} (program : Promise O I E F)
       ⊎ IsFaulty program (map string_bytes list.items) (remaining input_before)
       (contents out_before) (contents out_after))
   pub wrong : status ≡ 2 → MatchResult arguments
-      (λ list. AreWrong program.app (map string_bytes list.items))
+      (λ list. AreRefused program (map string_bytes list.items))
       (λ error. error_kind error ≢ OutOfMemory)
   pub memory : status ≡ 3 → IfErr arguments (λ error. error_kind error ≡ OutOfMemory)
   pub unread : OnErr arguments (input_after ≡ input_before)
@@ -206,6 +214,7 @@ pub record IsDriven {O I E F R W L : Type 0} (program : Promise O I E F)
   pub quiet : status ≡ 0 → IfOk arguments (λ list.
       (TellsProgress program (map string_bytes list.items) → ⊥)
       → (Warns program (map string_bytes list.items) → ⊥) → err_after ≡ err_before)
+  pub untaken : status ≡ 2 → input_after ≡ input_before
   pub unwritten : status ≡ 2 → out_after ≡ out_before
   pub besides : status ≡ 1 → IsOkAnd arguments (λ list.
       HasAtMostTold program (map string_bytes list.items) (remaining input_before)

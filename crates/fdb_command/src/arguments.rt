@@ -12,16 +12,28 @@ ghost use Rattle.fdb_command.specs.private.Asked.{Ask};
 use clap::builder::ValueParser;
 use clap::error::ErrorKind;
 use clap::{Arg, ArgAction, ArgMatches, Command, Error, value_parser};
-use std::alloc::Global;
+use std::alloc::{AllocError, Global};
 use std::env::Env;
 use std::{env, io};
 
-/// Why arguments ask for nothing; the first ends a program with status 2, the second with 3.
+/// Why arguments ask for nothing.
 #[derive(Clone, Copy, Debug, PartialEq, Eq)]
-pub(crate) enum ArgumentsFault {
-    /// They are refused, or could not be had.
+pub enum ArgumentsFault {
+    /// They are refused, or could not be had: the program ends with status 2.
     Refused,
+    /// Memory was refused: it ends with status 3.
     Memory,
+}
+
+impl From<AllocError> for ArgumentsFault {
+    ghost use Rattle.std.specs.Prelude.{◌≡◌};
+    ghost use Rattle.fdb_command.specs.declared.arguments.ArgumentsFault.TheVariants as fault;
+
+    ghost from_gives = { λ _ made. made ≡ fault.Memory };
+
+    fn from(_refused: AllocError) -> Self {
+        ArgumentsFault::Memory
+    }
 }
 
 impl From<io::Error> for ArgumentsFault {

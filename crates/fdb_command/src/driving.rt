@@ -1,16 +1,16 @@
 //! A program, over a reader and two writers.
 
-ghost use Rattle.std.specs.Prelude.{◌≡◌, ◌≢◌, ◌⊎◌, ◌+◌, ◌++◌, ℕ, List, IfOk, IfErr, OnOk, OnErr};
-ghost use Rattle.std.specs.Prelude.{IsOkAnd, MatchResult, None, Some, map, string_bytes};
+ghost use Rattle.std.specs.Prelude.{◌≡◌, ◌≢◌, ◌⊎◌, ◌+◌, ◌++◌, ℕ, [], List, IfOk, IfErr, OnOk};
+ghost use Rattle.std.specs.Prelude.{IsOkAnd, MatchResult, OnErr, None, Some, map, string_bytes};
 ghost use Rattle.std.specs.IoError.{error_kind};
 ghost use Rattle.clap.specs.Words.{Text};
-ghost use Rattle.fdb_command.specs.Arguments.{AreMatches, AreTaken, AreWrong, ReadsInput};
+ghost use Rattle.fdb_command.specs.Arguments.{AreTaken, AreWrong, ReadsInput};
 ghost use Rattle.fdb_command.specs.Input.{TakesAtMost};
-ghost use Rattle.fdb_command.specs.private.Asked.{Ask};
+ghost use Rattle.fdb_command.specs.private.Asked.{Ask, AskBy, AskOf};
 ghost use Rattle.fdb_command.specs.Driving.{HasAtMostTold, HasTold, IsBegun, IsCallable, IsDone};
 ghost use Rattle.fdb_command.specs.Driving.{IsDriven, IsFaulty, IsPartial, IsPrinted, IsWritten};
-ghost use Rattle.fdb_command.specs.Driving.{KeepsPromise, MayFind, MayRefuse, RefusesWhole};
-ghost use Rattle.fdb_command.specs.Driving.{TellsNothing, TellsProgress, Warns};
+ghost use Rattle.fdb_command.specs.Driving.{AreRefused, KeepsPromise, MayFind, MayRefuse};
+ghost use Rattle.fdb_command.specs.Driving.{RefusesWhole, TellsNothing, TellsProgress, Warns};
 ghost use Rattle.fdb_command.specs.private.Taking.{IsPut};
 
 use crate::arguments::{ArgumentsFault, Invocation, file_of, parse};
@@ -138,7 +138,7 @@ where
             ⊎ IsFaulty P.promise (map string_bytes list.items)
             (I.remaining input.old) (O.contents out.old) (O.contents out.new))) }
         ensures wrong { IfErr result (λ fault. fault ≡ Fault.Arguments
-            → MatchResult arguments (λ list. AreWrong P.promise.app (map string_bytes list.items))
+            → MatchResult arguments (λ list. AreRefused P.promise (map string_bytes list.items))
             (λ error. error_kind error ≢ ErrorKind.OutOfMemory)) }
         ensures memory { IfErr result (λ fault. fault ≡ Fault.Memory
             → IfErr arguments (λ error. error_kind error ≡ ErrorKind.OutOfMemory)) }
@@ -148,6 +148,8 @@ where
         ensures quiet { IfOk arguments (λ list.
             (TellsProgress P.promise (map string_bytes list.items) → ⊥)
             → (Warns P.promise (map string_bytes list.items) → ⊥) → err.new ≡ err.old) }
+        ensures untaken { IfErr result (λ fault. fault ≡ Fault.Arguments
+            → input.new ≡ input.old) }
         ensures unwritten { IfErr result (λ fault. fault ≡ Fault.Arguments
             → out.new ≡ out.old) }
         ensures besides { IfErr result (λ fault. (error : P.Refusal)
@@ -200,11 +202,13 @@ where
             ⊎ IsFaulty P.promise (map string_bytes arguments.now)
             (I.remaining input.old) (O.contents out.old) (O.contents out.new)) }
         ensures wrong { IfErr result (λ fault. fault ≡ Fault.Arguments
-            → AreWrong P.promise.app (map string_bytes arguments.now)) }
+            → AreRefused P.promise (map string_bytes arguments.now)) }
         ensures left { (ReadsInput P.promise.app (map string_bytes arguments.now) → ⊥)
             → input.new ≡ input.old }
         ensures quiet { (TellsProgress P.promise (map string_bytes arguments.now) → ⊥)
             → (Warns P.promise (map string_bytes arguments.now) → ⊥) → err.new ≡ err.old }
+        ensures untaken { IfErr result (λ fault. fault ≡ Fault.Arguments
+            → input.new ≡ input.old) }
         ensures unwritten { IfErr result (λ fault. fault ≡ Fault.Arguments
             → out.new ≡ out.old) }
         ensures besides { IfErr result (λ fault. (error : P.Refusal)
@@ -225,8 +229,8 @@ where
             (I.remaining input.old) (I.remaining input.new) }
     {
         match asked(self.program, self.alloc, arguments)? {
-            Invocation::Help(help) => show(&help, out),
-            Invocation::Input(matches) => self.run_on(&matches, input, out, err),
+            Request::Help(help) => show(&help, out),
+            Request::Input(matches, options) => self.run_on(&matches, options, input, out, err),
         }
     }
 
@@ -234,6 +238,7 @@ where
     fn run_on<I: Read, O: Write, E: Write>(
         self,
         matches: &ArgMatches<'_>,
+        options: P::Options,
         input: &mut I,
         out: &mut O,
         err: &mut E,
@@ -241,14 +246,14 @@ where
         requires callable { IsCallable P.promise (B.pre self.body) }
         requires promised { KeepsPromise P.promise (B.post self.body) }
         requires matches { (arguments : List Text)
-            × AreMatches P.promise.app arguments matches.now }
-        ensures done { (arguments : List Text) → AreMatches P.promise.app arguments matches.now
+            × AskBy P.promise arguments matches.now options }
+        ensures done { (arguments : List Text) → AskBy P.promise arguments matches.now options
             → OnOk result (IsWritten P.promise arguments (I.remaining input.old) None None
             (O.contents out.old) (O.contents out.new)) }
-        ensures refused { (arguments : List Text) → AreMatches P.promise.app arguments matches.now
+        ensures refused { (arguments : List Text) → AskBy P.promise arguments matches.now options
             → IfErr result (λ fault. (error : P.Refusal) → fault ≡ Fault.Refused error
             → MayRefuse P.promise arguments (I.remaining input.old)) }
-        ensures faulty { (arguments : List Text) → AreMatches P.promise.app arguments matches.now
+        ensures faulty { (arguments : List Text) → AskBy P.promise arguments matches.now options
             → IfErr result (λ fault. (found : P.Finding) → fault ≡ Fault.Found found
             → (HasAtMostTold P.promise arguments
             (I.remaining input.old) O.contents out.old out.new
@@ -256,30 +261,30 @@ where
             ⊎ IsFaulty P.promise arguments
             (I.remaining input.old) (O.contents out.old) (O.contents out.new)) }
         ensures own { IfErr result (λ fault. fault ≢ Fault.Arguments) }
-        ensures besides { (arguments : List Text) → AreMatches P.promise.app arguments matches.now
+        ensures besides { (arguments : List Text) → AskBy P.promise arguments matches.now options
             → IfErr result (λ fault. (error : P.Refusal) → fault ≡ Fault.Refused error
             → HasAtMostTold P.promise arguments
             (I.remaining input.old) O.contents out.old out.new
             ⊎ IsPartial P.promise arguments
             (I.remaining input.old) (O.contents out.old) (O.contents out.new)) }
-        ensures short { (arguments : List Text) → AreMatches P.promise.app arguments matches.now
+        ensures short { (arguments : List Text) → AskBy P.promise arguments matches.now options
             → IfErr result (λ fault. fault ≡ Fault.Memory → HasAtMostTold P.promise arguments
             (I.remaining input.old) O.contents out.old out.new) }
-        ensures begun { (arguments : List Text) → AreMatches P.promise.app arguments matches.now
+        ensures begun { (arguments : List Text) → AskBy P.promise arguments matches.now options
             → OnErr result ((out.new ≡ out.old) ⊎ (HasTold P.promise arguments
             (I.remaining input.old) (O.contents out.old) (O.contents out.new)
             ⊎ IsBegun P.promise arguments
             (I.remaining input.old) (O.contents out.old) (O.contents out.new))) }
-        ensures left { (arguments : List Text) → AreMatches P.promise.app arguments matches.now
+        ensures left { (arguments : List Text) → AskBy P.promise arguments matches.now options
             → (ReadsInput P.promise.app arguments → ⊥) → input.new ≡ input.old }
-        ensures quiet { (arguments : List Text) → AreMatches P.promise.app arguments matches.now
+        ensures quiet { (arguments : List Text) → AskBy P.promise arguments matches.now options
             → (TellsProgress P.promise arguments → ⊥) → (Warns P.promise arguments → ⊥)
             → err.new ≡ err.old }
         ensures few { TakesAtMost (P.promise.most + 1)
             (I.remaining input.old) (I.remaining input.new) }
     {
-        match self.answer_of(matches, input, out, err) {
-            Ok(answer) => put(answer, out),
+        match self.answer_of(matches, options, input, out, err) {
+            Ok(answer) => put(answer, out, err),
             Err(fault) => Err(fault),
         }
     }
@@ -289,6 +294,7 @@ where
     fn answer_of<I: Read, O: Write, E: Write>(
         self,
         matches: &ArgMatches<'_>,
+        options: P::Options,
         input: &mut I,
         out: &mut O,
         err: &mut E,
@@ -296,24 +302,27 @@ where
         requires callable { IsCallable P.promise (B.pre self.body) }
         requires promised { KeepsPromise P.promise (B.post self.body) }
         requires matches { (arguments : List Text)
-            × AreMatches P.promise.app arguments matches.now }
-        ensures printed { (arguments : List Text) → AreMatches P.promise.app arguments matches.now
+            × AskBy P.promise arguments matches.now options }
+        ensures printed { (arguments : List Text) → AskBy P.promise arguments matches.now options
             → IfOk result (λ answer. (told : List ℕ) × IsPut O.contents told out.old out.new
             × IsPrinted P.promise arguments (I.remaining input.old)
             answer.found answer.refused (told ++ answer.text.items)) }
-        ensures refused { (arguments : List Text) → AreMatches P.promise.app arguments matches.now
+        ensures refused { (arguments : List Text) → AskBy P.promise arguments matches.now options
             → IfErr result (λ fault. (error : P.Refusal) → fault ≡ Fault.Refused error
             → MayRefuse P.promise arguments (I.remaining input.old)) }
-        ensures faulty { (arguments : List Text) → AreMatches P.promise.app arguments matches.now
+        ensures faulty { (arguments : List Text) → AskBy P.promise arguments matches.now options
             → IfErr result (λ fault. (found : P.Finding) → fault ≡ Fault.Found found
             → MayFind P.promise arguments (I.remaining input.old)) }
         ensures own { IfErr result (λ fault. fault ≢ Fault.Arguments) }
-        ensures begun { (arguments : List Text) → AreMatches P.promise.app arguments matches.now
+        ensures unsaid { (arguments : List Text) → AskBy P.promise arguments matches.now options
+            → (Warns P.promise arguments → ⊥)
+            → IfOk result (λ answer. answer.warnings.items ≡ []) }
+        ensures begun { (arguments : List Text) → AskBy P.promise arguments matches.now options
             → OnErr result (HasAtMostTold P.promise arguments
             (I.remaining input.old) O.contents out.old out.new) }
-        ensures left { (arguments : List Text) → AreMatches P.promise.app arguments matches.now
+        ensures left { (arguments : List Text) → AskBy P.promise arguments matches.now options
             → (ReadsInput P.promise.app arguments → ⊥) → input.new ≡ input.old }
-        ensures quiet { (arguments : List Text) → AreMatches P.promise.app arguments matches.now
+        ensures quiet { (arguments : List Text) → AskBy P.promise arguments matches.now options
             → (TellsProgress P.promise arguments → ⊥) → (Warns P.promise arguments → ⊥)
             → err.new ≡ err.old }
         ensures few { TakesAtMost (P.promise.most + 1)
@@ -325,9 +334,6 @@ where
             alloc,
             body,
         } = self;
-        let Ok(options) = program.options(alloc, matches) else {
-            return Err(Fault::Memory);
-        };
         let taker = Taker {
             program,
             rt,
@@ -339,8 +345,36 @@ where
     }
 }
 
-/// What the arguments of the program's command ask for.
+/// What a program is asked for.
+#[derive(Drop)]
+enum Request<'a, T: Drop> {
+    /// Its input, by these matches of the arguments, and what its flags say.
+    Input(ArgMatches<'a>, T),
+    /// The help, which is this error's text.
+    Help(Error),
+}
+
+/// What the arguments ask the program for.
 fn asked<'a, P: Program>(
+    program: &P,
+    alloc: Global,
+    arguments: &'a [String],
+) -> Result<Request<'a, P::Options>, ArgumentsFault>
+    ensures ok { IfOk result (AskOf P.promise (map string_bytes arguments.entry.now)) }
+    ensures err { IfErr result (λ fault. fault ≡ ArgumentsFault.Refused
+        → AreRefused P.promise (map string_bytes arguments.entry.now)) }
+{
+    match invoked(program, alloc, arguments)? {
+        Invocation::Help(help) => Ok(Request::Help(help)),
+        Invocation::Input(matches) => match program.options(alloc, &matches) {
+            Ok(options) => Ok(Request::Input(matches, options)),
+            Err(fault) => Err(fault),
+        },
+    }
+}
+
+/// What the arguments ask for, as the program's command takes them.
+fn invoked<'a, P: Program>(
     program: &P,
     alloc: Global,
     arguments: &'a [String],

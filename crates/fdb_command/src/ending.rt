@@ -1,20 +1,22 @@
 //! The text of an answer, and the fault that it tells of.
 
-ghost use Rattle.std.specs.Prelude.{◌≡◌, ◌≢◌, IfErr, None, OnErr, OnOk, Some};
+ghost use Rattle.std.specs.Prelude.{◌≡◌, ◌≢◌, [], IfErr, None, OnErr, OnOk, Some};
 ghost use Rattle.std.specs.Io.KnownBytes.{Appends};
 ghost use Rattle.fdb_command.specs.Output.{TakesAny};
 
 use crate::fault::Fault;
-use crate::output::write_flushed;
+use crate::output::{warn, write_flushed};
 use crate::program::Answer;
 use std::fmt::{Debug, Display};
 use std::io::Write;
 
-/// Writes an answer, and flushes it. Fails with the fault that it tells of, where it tells of one,
+/// Writes what an answer says is left out to `err`, and then its text to `out`, whole, which is
+/// flushed. Fails with the fault that it tells of, where it tells of one,
 /// and else as a part of the input was refused, if one was.
-pub(crate) fn put<E: Debug + Display + Drop, F: Debug + Display + Drop, W: Write>(
+pub(crate) fn put<E: Debug + Display + Drop, F: Debug + Display + Drop, W: Write, X: Write>(
     answer: Answer<E, F>,
     out: &mut W,
+    err: &mut X,
 ) -> Result<(), Fault<E, F>>
     ensures done { OnOk result ((answer.found ≡ None) × (answer.refused ≡ None)
         × Appends (W.contents out.old) (W.contents out.new) answer.text.items) }
@@ -27,12 +29,15 @@ pub(crate) fn put<E: Debug + Display + Drop, F: Debug + Display + Drop, W: Write
     ensures begun { OnErr result
         (TakesAny answer.text.items (W.contents out.old) (W.contents out.new)) }
     ensures kinds { IfErr result (λ fault. (fault ≢ Fault.Arguments) × (fault ≢ Fault.Memory)) }
+    ensures quiet { answer.warnings.items ≡ [] → err.new ≡ err.old }
 {
     let Answer {
         text,
+        warnings,
         found,
         refused,
     } = answer;
+    warn(&warnings, err);
     match write_flushed(out, &text) {
         Ok(()) => ended(found, refused),
         Err(_) => Err(Fault::Writing),

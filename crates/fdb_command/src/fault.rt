@@ -5,6 +5,7 @@ ghost use Rattle.std.specs.Prelude.{◌≡◌, ◌⊎◌, ◌<◌, ◌≤◌};
 use crate::arguments::ArgumentsFault;
 use crate::input::InputFault;
 use crate::output::OutputFault;
+use std::alloc::AllocError;
 use std::error::Error;
 use std::fmt;
 use std::fmt::{Debug, Display};
@@ -15,7 +16,7 @@ use std::fmt::{Debug, Display};
 pub enum Fault<E: Debug + Display + Drop, F: Debug + Display + Drop> {
     /// The input is refused, whole or in part, and why, with what the input is called.
     Refused(E),
-    /// The arguments of the command line are refused, or could not be had.
+    /// The arguments are refused, by clap or by the program, or could not be had.
     Arguments,
     /// Memory was refused, before anything was written to the output but what was told.
     Memory,
@@ -67,6 +68,16 @@ impl<E: Debug + Display + Drop, F: Debug + Display + Drop> Display for Fault<E, 
 }
 
 impl<E: Debug + Display + Drop, F: Debug + Display + Drop> Error for Fault<E, F> {}
+
+impl<E: Debug + Display + Drop, F: Debug + Display + Drop> From<AllocError> for Fault<E, F> {
+    ghost use Rattle.fdb_command.specs.declared.fault.Fault.TheVariants.{Memory};
+
+    ghost from_gives = { λ _ fault. fault ≡ Memory };
+
+    fn from(_refused: AllocError) -> Self {
+        Fault::Memory
+    }
+}
 
 impl<E: Debug + Display + Drop, F: Debug + Display + Drop> From<ArgumentsFault> for Fault<E, F> {
     ghost use Rattle.fdb_command.specs.declared.fault.Fault.TheVariants as made;

@@ -12,7 +12,7 @@ ghost use Rattle.fdb_command.specs.private.Taking.{TakesOn, TellsLast, TellsOn};
 
 use crate::fault::Fault;
 use crate::input::{InputFault, read_piece};
-use crate::output::write_flushed;
+use crate::output::{warn, write_flushed};
 use crate::program::{Program, Told};
 use std::alloc::Global;
 use std::fmt::{Debug, Display};
@@ -137,9 +137,8 @@ impl<P: Program, R: Files + Clock> Taker<'_, P, R> {
         }
         let room = room.as_mut_slice();
         let most = self.program.most();
-        let Ok(mut intake) = self.program.begin(self.alloc, self.options) else {
-            return Err(Fault::Memory);
-        };
+        let begun = self.program.begin(self.rt, self.alloc, self.options)?;
+        let mut intake = begun;
         let mut read = 0;
         // A reader may be interrupted as often as it likes, but a loop has an end.
         for _ in 0..u64::MAX {
@@ -279,15 +278,6 @@ impl<P: Program, R: Files + Clock> Taker<'_, P, R> {
         if let Some(calls) = self.program.progress(self.options, intake) {
             let _ = writeln!(err, "{}: {read} bytes, {calls} calls read{next}", P::NAME);
         }
-    }
-}
-
-/// Writes lines, if there are some. Where they cannot be written, nothing changes.
-fn warn<W: Write>(lines: &[u8], err: &mut W)
-    ensures { lines.now ≡ [] → err.new ≡ err.old }
-{
-    if !lines.is_empty() {
-        let _ = write_flushed(err, lines);
     }
 }
 

@@ -13,7 +13,8 @@ mod output;
 mod program;
 
 pub use arguments::{
-    command_line, file_argument, flag_argument, is_given, new_command, number, number_argument,
+    ArgumentsFault, command_line, file_argument, flag_argument, is_given, new_command, number,
+    number_argument,
 };
 pub use driving::drive;
 pub use fault::Fault;

@@ -1,6 +1,6 @@
 //! All of some bytes, to a writer that may take them in parts.
 
-ghost use Rattle.std.specs.Prelude.{◌≡◌, ◌≢◌, ◌<◌, ◌≤◌, OnOk, OnErr, IfOk, IfErr, Ok, Err};
+ghost use Rattle.std.specs.Prelude.{◌≡◌, ◌≢◌, ◌<◌, ◌≤◌, [], OnOk, OnErr, IfOk, IfErr, Ok, Err};
 ghost use Rattle.std.specs.Prelude.{length, take};
 ghost use Rattle.std.specs.Io.KnownBytes.{Appends, Keeps};
 ghost use Rattle.std.specs.IoError.{error_kind};
@@ -47,6 +47,15 @@ pub(crate) fn write_flushed<W: Write>(writer: &mut W, lines: &[u8]) -> Result<()
     match writer.flush() {
         Ok(()) => Ok(()),
         Err(_) => Err(OutputFault::Writing),
+    }
+}
+
+/// Writes lines, if there are some. Where they cannot be written, nothing changes.
+pub(crate) fn warn<W: Write>(lines: &[u8], err: &mut W)
+    ensures { lines.now ≡ [] → err.new ≡ err.old }
+{
+    if !lines.is_empty() {
+        let _ = write_flushed(err, lines);
     }
 }
 

@@ -6,6 +6,7 @@ ghost use Rattle.clap.specs.Words.{Text, app_of};
 ghost use Rattle.fdb_command.specs.Arguments.{AreMatches};
 ghost use Rattle.fdb_command.specs.Driving.{Promise, Stops};
 
+use crate::arguments::ArgumentsFault;
 use crate::fault::Fault;
 use clap::{ArgMatches, Command};
 use std::alloc::{AllocError, Global};
@@ -18,6 +19,9 @@ use std::time::Clock;
 pub struct Answer<E: Debug + Display + Drop, F: Debug + Display + Drop> {
     /// What is written to the output, whole, behind what was told, also where a fault was found.
     pub text: Vec<u8>,
+    /// Whole lines for standard error, in front of the text. Where they cannot be written, nothing
+    /// changes.
+    pub warnings: Vec<u8>,
     /// The fault that was found, if one was.
     pub found: Option<F>,
     /// Why a part of the input was refused, where the rest was read on.
@@ -66,15 +70,34 @@ pub trait Program {
     fn command<'a>(&self, alloc: Global) -> Result<Command<'a>, AllocError>
         ensures { IfOk result (λ command. app_of command ≡ promise.app) };
 
-    /// What its flags say, by the matches of its arguments.
-    fn options(&self, alloc: Global, matches: &ArgMatches<'_>) -> Result<Self::Options, AllocError>
+    /// What its flags say, by the matches of its arguments; or that they do not suit it, though the
+    /// command takes them.
+    fn options(
+        &self,
+        alloc: Global,
+        matches: &ArgMatches<'_>,
+    ) -> Result<Self::Options, ArgumentsFault>
         requires { (arguments : List Text) × AreMatches promise.app arguments matches.now }
-        ensures { (arguments : List Text) → AreMatches promise.app arguments matches.now
-            → IfOk result (promise.asks arguments) };
+        ensures said { (arguments : List Text) → AreMatches promise.app arguments matches.now
+            → IfOk result (promise.asks arguments) }
+        ensures refused { (arguments : List Text) → AreMatches promise.app arguments matches.now
+            → IfErr result (λ fault. fault ≡ ArgumentsFault.Refused
+            → promise.suits arguments ≡ false) };
 
-    /// An intake that has taken no bytes yet, and that is to take them by what the flags say.
-    fn begin(&self, alloc: Global, options: &Self::Options) -> Result<Self::Intake, AllocError>
-        ensures { IfOk result (λ intake. promise.taken options.now intake [] []) };
+    /// An intake that has taken no bytes yet, and that is to take them by what the flags say. It is
+    /// asked for before anything of the input is read, and may read a file of the program's own. An
+    /// error is that such a file could not be read, or a refusal or a fault that holds whatever the
+    /// input is, or that memory was refused.
+    fn begin<R: Files>(
+        &self,
+        rt: &R,
+        alloc: Global,
+        options: &Self::Options,
+    ) -> Result<Self::Intake, Fault<Self::Refusal, Self::Finding>>
+        ensures taken { IfOk result (λ intake. promise.taken options.now intake [] []) }
+        ensures stops { IfErr result (λ fault. (fault ≡ Fault.Reading)
+            ⊎ ((arguments : List Text) (bytes : List ℕ) → promise.asks arguments options.now
+            → Stops promise arguments bytes fault)) };
 
     /// Takes the next bytes, by what the flags say that the intake was begun with. An error is a
     /// refusal or a fault that holds whatever bytes come after these, or that memory was refused.

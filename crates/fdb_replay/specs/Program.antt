@@ -1,5 +1,5 @@
 -- What the program promises of itself. (this product's own)
-use Rattle.std.specs.Prelude.{◌≡◌, ◌≢◌, ◌≤◌, ℕ, List, [], ◌∷◌, Vec, None, Err, codes, false, pos}
+use Rattle.std.specs.Prelude.{◌≡◌, ◌≢◌, ◌≤◌, ℕ, List, [], ◌∷◌, Vec, None, Err, codes, false, pos, true}
 use Rattle.std.specs.Option.{option_map_or}
 use Rattle.std.specs.Str.Parse.{digits_value, without_leading_plus}
 use Rattle.std.specs.declared.alloc.Global.{Global}
@@ -35,7 +35,7 @@ pub record IsAsked (arguments : List Text) (opts : ReplayOpts) : Type 0 where
   pub few_proxies : opts.proxies ≤ MAX_GRV_PROXIES
   pub history : opts.with_history ≡ is_set (codes "history") command arguments
 
--- It takes all bytes as they come, and tells nothing while it reads, nor of progress. It prints the
+-- Whatever its command takes suits it. It takes all bytes as they come, and tells nothing while it reads, nor of progress. It prints the
 -- text of a run of the script that the bytes stand for, with the history where that is asked for. It
 -- refuses what stands for no script, whole; that memory was refused says nothing of the bytes. There
 -- is nothing to be found.
@@ -43,6 +43,7 @@ abbrev pub replay : Promise ReplayOpts (Vec ℕ Global) ScriptRefused Infallible
 replay = record {
   app = command;
   most = MAX_SCRIPT_BYTES;
+  suits = λ arguments. true;
   asks = IsAsked;
   tells = λ arguments. false;
   warns = λ arguments. false;

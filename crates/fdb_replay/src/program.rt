@@ -1,6 +1,6 @@
 //! The program: its command, and what it prints of a script.
 
-ghost use Rattle.std.specs.Prelude.{◌≡◌, ◌≢◌, ◌⊎◌, ◌≤◌, List, IfOk, IsOkAnd, MatchResult, None};
+ghost use Rattle.std.specs.Prelude.{◌≡◌, ◌≢◌, ◌⊎◌, ◌≤◌, List, [], IfOk, IsOkAnd, MatchResult, None};
 ghost use Rattle.std.specs.Prelude.{codes, map, string_bytes};
 ghost use Rattle.clap.specs.Words.{Text, app_of};
 ghost use Rattle.fdb_client.specs.declared.cluster.TheConstants.{MAX_GRV_PROXIES};
@@ -13,8 +13,8 @@ use crate::opts::ReplayOpts;
 use crate::replaying::{ReplayFault, replayed_text};
 use clap::{ArgMatches, Command};
 use fdb_command::{
-    Answer, Fault, Program, file_argument, flag_argument, is_given, new_command, number,
-    number_argument,
+    Answer, ArgumentsFault, Fault, Program, file_argument, flag_argument, is_given, new_command,
+    number, number_argument,
 };
 use fdb_history::OpenGate;
 use fdb_script::{MAX_SCRIPT_BYTES, ScriptError};
@@ -80,14 +80,23 @@ impl Program for Replay {
         command(alloc)
     }
 
-    fn options(&self, _alloc: Global, matches: &ArgMatches<'_>) -> Result<ReplayOpts, AllocError> {
+    fn options(
+        &self,
+        _alloc: Global,
+        matches: &ArgMatches<'_>,
+    ) -> Result<ReplayOpts, ArgumentsFault> {
         Ok(ReplayOpts {
             proxies: proxies_of(matches),
             with_history: wants_history(matches),
         })
     }
 
-    fn begin(&self, alloc: Global, _opts: &ReplayOpts) -> Result<Vec<u8>, AllocError> {
+    fn begin<R: Files>(
+        &self,
+        _rt: &R,
+        alloc: Global,
+        _opts: &ReplayOpts,
+    ) -> Result<Vec<u8>, Fault<ScriptRefused, Infallible>> {
         Ok(Vec::new(alloc))
     }
 
@@ -132,6 +141,7 @@ pub fn drive<R: Threads + Wait + Sync + Files + Clock, I: Read, O: Write, E: Wri
         requires few_proxies { opts.proxies ≤ MAX_GRV_PROXIES }
         ensures { (arguments : List Text) → MatchResult result
             (λ answer. (answer.found ≡ None) × (answer.refused ≡ None)
+            × (answer.warnings.items ≡ [])
             × Replays script.items opts.with_history answer.text.items)
             (Stops replay arguments script.items) }
     { answer_of(rt, alloc, opts, &script) };
@@ -149,12 +159,14 @@ fn answer_of<R: Threads + Wait + Sync>(
     requires few_proxies { opts.proxies ≤ MAX_GRV_PROXIES }
     ensures { (arguments : List Text) → MatchResult result
         (λ answer. (answer.found ≡ None) × (answer.refused ≡ None)
+        × (answer.warnings.items ≡ [])
         × Replays script.now opts.with_history answer.text.items)
         (Stops replay arguments script.now) }
 {
     match replayed_text(rt, alloc, script, opts, &OpenGate) {
         Ok(text) => Ok(Answer {
             text,
+            warnings: Vec::new(alloc),
             found: None,
             refused: None,
         }),

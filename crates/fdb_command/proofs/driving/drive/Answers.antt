@@ -14,6 +14,7 @@ returns-in-Err-clause-driven g c = record {
   unread = c.in-Err.ensures.unread;
   left = c.in-Err.ensures.left;
   quiet = λ is. absurd (omega (arith, is, c.status.ensures.range.0));
+  untaken = λ is. c.in-Err.ensures.untaken (c.status.ensures.only_arguments is);
   unwritten = λ is. c.in-Err.ensures.unwritten (c.status.ensures.only_arguments is);
   besides = λ is. let (error, why) = c.status.ensures.only_refused is in c.in-Err.ensures.besides error why;
   short = λ is. c.in-Err.ensures.short (c.status.ensures.only_memory is);

@@ -13,9 +13,9 @@ use Rattle.fdb_replay.proofs.program.drive.Goals as goal
 
 -- what a replay of these bytes prints, of which nothing was told, is what the program promises
 promised : (arguments : List Text) (bytes : List ℕ) (made : Result (Answer ScriptRefused Infallible) (Fault ScriptRefused Infallible))
-    → MatchResult made (λ answer. (answer.found ≡ None) × (answer.refused ≡ None) × Replays bytes (is_set (codes "history") command arguments) answer.text.items) (Stops replay arguments bytes)
+    → MatchResult made (λ answer. (answer.found ≡ None) × (answer.refused ≡ None) × (answer.warnings.items ≡ []) × Replays bytes (is_set (codes "history") command arguments) answer.text.items) (Stops replay arguments bytes)
     → MatchResult made (MayAnswer replay arguments bytes []) (Stops replay arguments bytes)
-promised arguments bytes (Ok answer) is = (is, rw is.1 tt)
+promised arguments bytes (Ok answer) is = ((is.0, is.1, is.3), rw is.1 tt, λ silent. is.2)
 promised arguments bytes (Err fault) stops = stops
 
 pub drive-requires-clause-promised : goal.drive-requires-clause-promised

@@ -27,6 +27,9 @@ returns-in-Ok-clause-quiet g c = rw c.in-Ok.is (rw c.deref.ensures.value at c.do
 pub returns-in-Ok-clause-begun : goal.returns-in-Ok-clause-begun
 returns-in-Ok-clause-begun g c = rw c.in-Ok.is (rw c.deref.ensures.value at c.do_asked.ensures.begun)
 
+pub returns-in-Ok-clause-untaken : goal.returns-in-Ok-clause-untaken
+returns-in-Ok-clause-untaken g c = c.do_asked.ensures.untaken
+
 pub returns-in-Ok-clause-unwritten : goal.returns-in-Ok-clause-unwritten
 returns-in-Ok-clause-unwritten g c = c.do_asked.ensures.unwritten
 
@@ -65,6 +68,9 @@ returns-in-Err-clause-left g c = rw c.in-Err.is tt
 
 pub returns-in-Err-clause-quiet : goal.returns-in-Err-clause-quiet
 returns-in-Err-clause-quiet g c = rw c.in-Err.is tt
+
+pub returns-in-Err-clause-untaken : goal.returns-in-Err-clause-untaken
+returns-in-Err-clause-untaken g c = λ stop. refl
 
 pub returns-in-Err-clause-unwritten : goal.returns-in-Err-clause-unwritten
 returns-in-Err-clause-unwritten g c = λ stop. refl

@@ -1,7 +1,7 @@
 use Rattle.std.proofs.Common.{[], arith, refl, map, string_bytes, Result, Ok, Err, inl, inr}
 use Rattle.std.specs.Prelude.{IfErr, MatchResult, OnErr, OnOk}
 use Rattle.std.proofs.lemmas.Result.{IfErr-weaker, on_ok_weaker}
-use Rattle.fdb_command.specs.Arguments.{AreMatches}
+use Rattle.fdb_command.specs.private.Asked.{AskBy}
 use Rattle.std.proofs.KnownBytes.{Consumes-nil}
 use Rattle.fdb_command.proofs.Answered.{failed, is_words, no_finding, no_refusal, told_as}
 use Rattle.fdb_command.proofs.driving.Run.do_asked.Goals as goal
@@ -24,44 +24,47 @@ on_any (Err e) P is = tt
 pub returns-in-Input-clause-done : goal.returns-in-Input-clause-done
 returns-in-Input-clause-done g c =
     let arguments = map string_bytes c.args.arguments.now in
-    let matches : AreMatches g.P.Program.promise.app arguments c.in-Input.matches = rw c.in-Input.is at c.in_ok-help.ensures.ok in
-    on_ok_weaker c.run_on.result (λ written. inr written) (c.run_on.ensures.done arguments matches)
+    let asked : AskBy g.P.Program.promise arguments c.in-Input.matches c.in-Input.options = rw c.in-Input.is at c.in_ok-help.ensures.ok in
+    on_ok_weaker c.run_on.result (λ written. inr written) (c.run_on.ensures.done arguments asked)
 
 pub returns-in-Input-clause-refused : goal.returns-in-Input-clause-refused
 returns-in-Input-clause-refused g c =
     let arguments = map string_bytes c.args.arguments.now in
-    let matches : AreMatches g.P.Program.promise.app arguments c.in-Input.matches = rw c.in-Input.is at c.in_ok-help.ensures.ok in
-    c.run_on.ensures.refused arguments matches
+    let asked : AskBy g.P.Program.promise arguments c.in-Input.matches c.in-Input.options = rw c.in-Input.is at c.in_ok-help.ensures.ok in
+    c.run_on.ensures.refused arguments asked
 
 pub returns-in-Input-clause-faulty : goal.returns-in-Input-clause-faulty
 returns-in-Input-clause-faulty g c =
     let arguments = map string_bytes c.args.arguments.now in
-    let matches : AreMatches g.P.Program.promise.app arguments c.in-Input.matches = rw c.in-Input.is at c.in_ok-help.ensures.ok in
-    c.run_on.ensures.faulty arguments matches
+    let asked : AskBy g.P.Program.promise arguments c.in-Input.matches c.in-Input.options = rw c.in-Input.is at c.in_ok-help.ensures.ok in
+    c.run_on.ensures.faulty arguments asked
 
 pub returns-in-Input-clause-left : goal.returns-in-Input-clause-left
 returns-in-Input-clause-left g c =
     let arguments = map string_bytes c.args.arguments.now in
-    let matches : AreMatches g.P.Program.promise.app arguments c.in-Input.matches = rw c.in-Input.is at c.in_ok-help.ensures.ok in
-    c.run_on.ensures.left arguments matches
+    let asked : AskBy g.P.Program.promise arguments c.in-Input.matches c.in-Input.options = rw c.in-Input.is at c.in_ok-help.ensures.ok in
+    c.run_on.ensures.left arguments asked
 
 pub returns-in-Input-clause-begun : goal.returns-in-Input-clause-begun
 returns-in-Input-clause-begun g c =
     let arguments = map string_bytes c.args.arguments.now in
-    let matches : AreMatches g.P.Program.promise.app arguments c.in-Input.matches = rw c.in-Input.is at c.in_ok-help.ensures.ok in
-    of_each c.run_on.result _ _ (c.run_on.ensures.begun arguments matches)
+    let asked : AskBy g.P.Program.promise arguments c.in-Input.matches c.in-Input.options = rw c.in-Input.is at c.in_ok-help.ensures.ok in
+    of_each c.run_on.result _ _ (c.run_on.ensures.begun arguments asked)
 
 pub returns-in-Input-clause-asked : goal.returns-in-Input-clause-asked
 returns-in-Input-clause-asked g c =
     let arguments = map string_bytes c.args.arguments.now in
-    let matches : AreMatches g.P.Program.promise.app arguments c.in-Input.matches = rw c.in-Input.is at c.in_ok-help.ensures.ok in
-    in_both c.run_on.result _ _ _ (inl matches.taken)
+    let asked : AskBy g.P.Program.promise arguments c.in-Input.matches c.in-Input.options = rw c.in-Input.is at c.in_ok-help.ensures.ok in
+    in_both c.run_on.result _ _ _ (inl asked.are.taken)
 
 pub returns-in-Input-clause-quiet : goal.returns-in-Input-clause-quiet
 returns-in-Input-clause-quiet g c =
     let arguments = map string_bytes c.args.arguments.now in
-    let matches : AreMatches g.P.Program.promise.app arguments c.in-Input.matches = rw c.in-Input.is at c.in_ok-help.ensures.ok in
-    c.run_on.ensures.quiet arguments matches
+    let asked : AskBy g.P.Program.promise arguments c.in-Input.matches c.in-Input.options = rw c.in-Input.is at c.in_ok-help.ensures.ok in
+    c.run_on.ensures.quiet arguments asked
+
+pub returns-in-Input-clause-untaken : goal.returns-in-Input-clause-untaken
+returns-in-Input-clause-untaken g c = IfErr-weaker c.run_on.result _ _ (λ fault own is. absurd (own is)) c.run_on.ensures.own
 
 pub returns-in-Input-clause-unwritten : goal.returns-in-Input-clause-unwritten
 returns-in-Input-clause-unwritten g c = IfErr-weaker c.run_on.result _ _ (λ fault own is. absurd (own is)) c.run_on.ensures.own
@@ -69,14 +72,14 @@ returns-in-Input-clause-unwritten g c = IfErr-weaker c.run_on.result _ _ (λ fau
 pub returns-in-Input-clause-besides : goal.returns-in-Input-clause-besides
 returns-in-Input-clause-besides g c =
     let arguments = map string_bytes c.args.arguments.now in
-    let matches : AreMatches g.P.Program.promise.app arguments c.in-Input.matches = rw c.in-Input.is at c.in_ok-help.ensures.ok in
-    c.run_on.ensures.besides arguments matches
+    let asked : AskBy g.P.Program.promise arguments c.in-Input.matches c.in-Input.options = rw c.in-Input.is at c.in_ok-help.ensures.ok in
+    c.run_on.ensures.besides arguments asked
 
 pub returns-in-Input-clause-short : goal.returns-in-Input-clause-short
 returns-in-Input-clause-short g c =
     let arguments = map string_bytes c.args.arguments.now in
-    let matches : AreMatches g.P.Program.promise.app arguments c.in-Input.matches = rw c.in-Input.is at c.in_ok-help.ensures.ok in
-    c.run_on.ensures.short arguments matches
+    let asked : AskBy g.P.Program.promise arguments c.in-Input.matches c.in-Input.options = rw c.in-Input.is at c.in_ok-help.ensures.ok in
+    c.run_on.ensures.short arguments asked
 
 pub returns-in-Input-clause-wrong : goal.returns-in-Input-clause-wrong
 returns-in-Input-clause-wrong g c = IfErr-weaker c.run_on.result _ _ (λ fault own is. absurd (own is)) c.run_on.ensures.own
@@ -111,6 +114,11 @@ pub returns-in_err-help-clause-wrong : goal.returns-in_err-help-clause-wrong
 returns-in_err-help-clause-wrong g c =
     let (made, is, told) = failed c.from_residual.result _ c.from_residual.ensures.1 in
     rw is (λ words. c.in_err-help.ensures.err (is_words c.in_err-help.field-0.0 made told words))
+
+pub returns-in_err-help-clause-untaken : goal.returns-in_err-help-clause-untaken
+returns-in_err-help-clause-untaken g c =
+    let (made, is, told) = failed c.from_residual.result _ c.from_residual.ensures.1 in
+    rw is (λ stop. refl)
 
 pub returns-in_err-help-clause-unwritten : goal.returns-in_err-help-clause-unwritten
 returns-in_err-help-clause-unwritten g c =
@@ -160,6 +168,9 @@ returns-in-Help-clause-faulty g c = IfErr-weaker c.show.result _ _ (λ fault wri
 
 pub returns-in-Help-clause-wrong : goal.returns-in-Help-clause-wrong
 returns-in-Help-clause-wrong g c = IfErr-weaker c.show.result _ _ (λ fault writing words. absurd (cc)) c.show.ensures
+
+pub returns-in-Help-clause-untaken : goal.returns-in-Help-clause-untaken
+returns-in-Help-clause-untaken g c = IfErr-weaker c.show.result _ _ (λ fault writing words. absurd (cc)) c.show.ensures
 
 pub returns-in-Help-clause-unwritten : goal.returns-in-Help-clause-unwritten
 returns-in-Help-clause-unwritten g c = IfErr-weaker c.show.result _ _ (λ fault writing words. absurd (cc)) c.show.ensures

@@ -1,4 +1,4 @@
-use Rattle.std.proofs.Common.{inl, inr, None, Some, refl}
+use Rattle.std.proofs.Common.{◌∙◌, inl, inr, None, Some, refl}
 use Rattle.std.proofs.lemmas.Result.{IfErr-weaker, on_err_weaker, on_ok_weaker}
 use Rattle.fdb_command.proofs.Answered.{begun, refused_besides, written}
 use Rattle.fdb_command.proofs.driving.Run.run_on.Goals as goal
@@ -53,7 +53,8 @@ pub returns-in-Ok-clause-left : goal.returns-in-Ok-clause-left
 returns-in-Ok-clause-left g c = c.answer_of.ensures.left
 
 pub returns-in-Ok-clause-quiet : goal.returns-in-Ok-clause-quiet
-returns-in-Ok-clause-quiet g c = c.answer_of.ensures.quiet
+returns-in-Ok-clause-quiet g c = λ arguments matches untold unsaid.
+    c.put.ensures.quiet (c.in-Ok.ensures.unsaid arguments matches unsaid) ∙ c.answer_of.ensures.quiet arguments matches untold unsaid
 
 pub returns-in-Ok-clause-few : goal.returns-in-Ok-clause-few
 returns-in-Ok-clause-few g c = c.answer_of.ensures.few

@@ -2,26 +2,29 @@ use Rattle.std.proofs.Common.{◌⊎◌, ◌+◌, ◌++◌, ◌∙◌, None, inr
 use Rattle.std.proofs.lemmas.List.{length-append, length-drop, length-take}
 use Rattle.std.proofs.KnownBytes.{Consumes-trans}
 use Rattle.fdb_command.specs.private.Taking.{IsFailure, MayStop}
-use Rattle.fdb_command.proofs.Pieces.{passed_on, put_on, stops_telling, stops_there, stops_unread, taken_whole, takes_more, told_last, told_so_far, on_error}
+use Rattle.fdb_command.proofs.Pieces.{passed_on, put_on, stops_begun, stops_telling, stops_there, stops_unread, taken_whole, takes_more, told_last, told_so_far, on_error}
 use Rattle.fdb_command.proofs.intake.Taker.take_all.Goals as goal
 
 pub returns-then-is_err-clause-stops : goal.returns-then-is_err-clause-stops
 returns-then-is_err-clause-stops g c = inr (stops_unread g.P.Program.promise c.args.self.now.options.now (g.I.Read.remaining c.args.input.now))
 
-pub returns-in_default-clause-stops : goal.returns-in_default-clause-stops
-returns-in_default-clause-stops g c = inr (stops_unread g.P.Program.promise c.args.self.now.options.now (g.I.Read.remaining c.args.input.now))
+pub returns-in_err-begun-clause-stops : goal.returns-in_err-begun-clause-stops
+returns-in_err-begun-clause-stops g c =
+    let fault = c.in_err-begun.field-0.0 in
+    passed_on c.from_residual.result fault (λ fault. IsFailure fault ⊎ MayStop g.P.Program.promise c.args.self.now.options.now None (g.I.Read.remaining c.args.input.now) fault) c.from_residual.ensures.1
+    (stops_begun g.P.Program.promise c.args.self.now.options.now (g.I.Read.remaining c.args.input.now) fault c.in_err-begun.ensures.stops)
 
 pub returns-in_err-piece-clause-stops : goal.returns-in_err-piece-clause-stops
 returns-in_err-piece-clause-stops g c =
     let (bytes, told, counted, gone, taken, put) = c.loop.invariant.taken in
     let fault = c.in_err-piece.field-0.0 in
-    passed_on c.from_residual.result fault (λ fault. IsFailure fault ⊎ MayStop g.P.Program.promise c.args.self.now.options.now None (g.I.Read.remaining c.args.input.now) fault) c.from_residual.ensures.1
+    passed_on c.from_residual-in_err-piece.result fault (λ fault. IsFailure fault ⊎ MayStop g.P.Program.promise c.args.self.now.options.now None (g.I.Read.remaining c.args.input.now) fault) c.from_residual-in_err-piece.ensures.1
     (stops_there g.P.Program.promise c.args.self.now.options.now (g.I.Read.remaining c.args.input.now) (g.I.Read.remaining c.loop.input) (g.I.Read.remaining c.take_piece.new.input) c.loop.intake bytes told _ fault gone taken c.in_err-piece.ensures.stops)
 
 pub returns-in_err-piece-clause-begun : goal.returns-in_err-piece-clause-begun
 returns-in_err-piece-clause-begun g c =
     let (bytes, told, counted, gone, taken, put) = c.loop.invariant.taken in
-    on_error c.from_residual.result
+    on_error c.from_residual-in_err-piece.result
     (told_so_far g.P.Program.promise c.args.self.now.options.now (g.I.Read.remaining c.args.input.now) (g.I.Read.remaining c.loop.input) g.O.Write.contents c.args.out.now c.loop.out c.loop.intake bytes told (omega (arith, counted, c.most-most.ensures)) gone taken put)
 
 pub returns-in_err-piece-clause-few : goal.returns-in_err-piece-clause-few

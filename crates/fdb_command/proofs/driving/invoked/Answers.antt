@@ -5,7 +5,7 @@ use Rattle.clap.specs.Words.{App}
 use Rattle.fdb_command.specs.Arguments.{AreWrong}
 use Rattle.fdb_command.specs.declared.arguments.ArgumentsFault.TheVariants.{Refused}
 use Rattle.fdb_command.specs.private.Asked.{Ask}
-use Rattle.fdb_command.proofs.driving.asked.Goals as goal
+use Rattle.fdb_command.proofs.driving.invoked.Goals as goal
 
 pub returns-in-Ok-clause-err : goal.returns-in-Ok-clause-err
 returns-in-Ok-clause-err g c = subst (λ (app : App). IfErr c.parse.result (λ fault. fault ≡ Refused → AreWrong app (map string_bytes c.args.arguments.now))) c.in-Ok.ensures c.parse.ensures.err
