@@ -237,7 +237,11 @@ fn push_line(out: &mut String, words: &str, taking: &Taking) -> Result<(), Alloc
 }
 
 /// Writes how much was read, and by which arguments, as a JSON object.
-fn push_total_object(out: &mut String, taking: &Taking, asked: ToldArguments<'_>) -> Result<(), AllocError>
+fn push_total_object(
+    out: &mut String,
+    taking: &Taking,
+    asked: ToldArguments<'_>,
+) -> Result<(), AllocError>
     ensures { OnOk result (string_bytes out.new ≡ string_bytes out.old
         ++ line (total_of (counted_of taking.now) (arguments_of asked.entry))) }
 {

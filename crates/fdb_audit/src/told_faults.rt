@@ -135,7 +135,7 @@ impl ToldFaults {
         ensures { OnOk result ((it : PrintedLog) × (found : List Finding) × (groups : List ℕ)
             × AreMostOfEach json (groupings it) found groups
             × (string_bytes out.new
-                ≡ string_bytes out.old ++ (line (faults_line json found) ++ groups))) }
+            ≡ string_bytes out.old ++ (line (faults_line json found) ++ groups))) }
     {
         let (mut numbers, mut texts) = (Vec::new(alloc), Vec::new(alloc));
         for column in self.columns {

@@ -17,4 +17,4 @@ returns c = λ read to part margin numbered same told.
     let numbers = c.in_ok-numbers.ensures read numbered.above numbered.few (kept_within to read entry part told) in
     let is = same_log (lines_of entry.settled.log).lines _ (map printed names) _ (map (number_in read) entry.settled.numbers.items) beside texts numbers in
     tells_of c.args.self c.add.new.self margin to read names entry part beside (shown_in view) same told is
-      c.in_ok-add.ensures.text c.in_ok-add.ensures.first c.in_ok-add.ensures.wanted
+    c.in_ok-add.ensures.text c.in_ok-add.ensures.first c.in_ok-add.ensures.wanted

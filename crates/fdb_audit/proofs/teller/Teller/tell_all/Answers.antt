@@ -13,5 +13,5 @@ loop-entry-preserved c = λ read to parts margin numbered same told.
     let entry = c.entry-item.result in
     let one = part_told margin to (lines_taken read) (keys_taken read) parts entries c.loop-entry.entry-index entry same told c.loop-entry-test.true (sym c.entry-item.is) in
     tells_yet c.args.self c.loop-entry.self c.tell.new.self margin read (line_names c.args.reader).clients
-      (c.loop-entry.invariant read to parts margin numbered same told)
-      (c.in_ok-tell.ensures read to one.0 margin numbered one.1 one.2)
+    (c.loop-entry.invariant read to parts margin numbered same told)
+    (c.in_ok-tell.ensures read to one.0 margin numbered one.1 one.2)
