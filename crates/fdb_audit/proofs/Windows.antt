@@ -183,7 +183,7 @@ found_in margin to read names entry part same told =
     (record { told = told.told.told; reasons = told.told.reasons; late = told.told.late })
 
 -- what is shown of lines
-abbrev log_with : List Line → List (List ℕ) → List ℕ → List Beside → PrintedLog
+abbrev pub log_with : List Line → List (List ℕ) → List ℕ → List Beside → PrintedLog
 log_with lines names numbers beside = record { lines = lines; names = names; numbers = numbers; beside = beside }
 
 pub same_log : (lines : List Line) (names other : List (List ℕ)) (numbers those : List ℕ) (beside : List Beside)
@@ -244,6 +244,22 @@ tells_of old new margin to read names entry part beside it same told is added fi
           ∙ ap (λ (those : List (Result SaidLine Why)). first_in those window) all)));
       wanted = wanted;
     }
+
+pub tells_for : (old new : Teller) (margin : ℕ) (to : Option ℕ) (read : List (Result SaidLine Why)) (names : List (List ℕ)) (entry : SettledKey) (part : KeyPart)
+    (texts : List (List ℕ)) (numbers : List ℕ) (beside : List Beside) (found : List Finding)
+    → texts ≡ map printed names → numbers ≡ map (number_in read) entry.settled.numbers.items → found ≡ entry.settled.found.items
+    → part.watch.margin ≡ margin → IsToldOf to (lines_taken read) (keys_taken read) entry part
+    → string_bytes new.text ≡ string_bytes old.text ++ told_text old.wanted (log_with (lines_of entry.settled.log).lines texts numbers beside) found
+    → new.first ≡ option_or old.first (first_of (log_with (lines_of entry.settled.log).lines texts numbers beside) found) → new.wanted ≡ old.wanted
+    → TellsOn old new margin read names
+tells_for old new margin to read names entry part texts numbers beside found named numbered is same told added first wanted =
+    let lines = (lines_of entry.settled.log).lines in
+    let it = log_with lines texts numbers beside in
+    tells_of old new margin to read names entry part beside it same told
+    (same_log lines texts (map printed names) numbers (map (number_in read) entry.settled.numbers.items) beside named numbered)
+    (added ∙ ap (λ (found : List Finding). string_bytes old.text ++ told_text old.wanted it found) is)
+    (first ∙ ap (λ (found : List Finding). option_or old.first (first_of it found)) is)
+    wanted
 
 -- ---- what is told of each key
 
