@@ -1,8 +1,8 @@
 -- What has been told of a text whose log is followed. (this product's own)
 use Rattle.std.specs.Prelude.{◌≡◌, ◌⊎◌, ℕ, ◌<◌, ◌++◌, List, [], Option, length, map, option_map, string_bytes, Result}
 use Rattle.fdb_log_reader.specs.declared.error.Why.{Why}
-use Rattle.fdb_log_reader.specs.LineReader.{line_names, lines_on}
-use Rattle.fdb_log_reader.specs.ReadLine.{SaidLine, lines_read, no_names}
+use Rattle.fdb_log_reader.specs.LineReader.{line_names, lines_on, names_on}
+use Rattle.fdb_log_reader.specs.ReadLine.{LineNames, SaidLine, lines_read, names_behind, no_names}
 use Rattle.fdb_log_reader.specs.Reading.{lines_in}
 use Rattle.fdb_audit.specs.declared.arguments.AuditArguments.{AuditArguments}
 use Rattle.fdb_audit.specs.declared.fault.LogFault.{LogFault}
@@ -13,6 +13,10 @@ use Rattle.fdb_audit.specs.private.Followed.{AreTaken}
 -- what becomes of the lines of a text, as it is asked for
 abbrev pub lines_asked : AuditArguments → List ℕ → List (Result SaidLine Why)
 lines_asked asked text = lines_read (map string_bytes asked.shown.items) (no_names (option_map string_bytes asked.key)) (lines_in text)
+
+-- the names of a text's clients and the keys
+abbrev pub names_asked : AuditArguments → List ℕ → LineNames
+names_asked asked text = names_behind (map string_bytes asked.shown.items) (no_names (option_map string_bytes asked.key)) (lines_in text)
 
 -- These lines were read, and this text has been told of them, but for what is told next.
 pub record IsTelling (asked : AuditArguments) (follower : Follower) (read : List (Result SaidLine Why)) (told : List ℕ) : Type 0 where
@@ -27,16 +31,16 @@ pub record IsTelling (asked : AuditArguments) (follower : Follower) (read : List
 pub record HasFollowed (asked : AuditArguments) (follower : Follower) (bytes told : List ℕ) : Type 0 where
   pub read : List (Result SaidLine Why)
   pub goes : (text : List ℕ) → lines_asked asked (bytes ++ text) ≡ read ++ lines_on follower.reader text
+  pub behind : (text : List ℕ) → names_asked asked (bytes ++ text) ≡ names_on follower.reader text
   pub telling : IsTelling asked follower read told
 
 -- What is told of all lines of a text, window by window, and at the end how much was read; and the first fault, if one was told.
 pub record IsFollowed (asked : AuditArguments) (bytes text : List ℕ) (found : Option LogFault) : Type 0 where
-  pub names : List (List ℕ)
   pub windows : List Window
   pub told : List ℕ
   pub end : List ℕ
   pub whole : text ≡ told ++ end
-  pub tells : AreWindows asked.opts.margin asked.wanted (lines_asked asked bytes) names windows told
+  pub tells : AreWindows asked.opts.margin asked.wanted (lines_asked asked bytes) (names_asked asked bytes).clients windows told
   pub first : found ≡ first_told (lines_asked asked bytes) windows
 
 -- lines of a text are refused, or it has none that is taken

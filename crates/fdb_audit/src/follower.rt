@@ -52,7 +52,9 @@ pub struct Followed {
 }
 
 impl Follower {
-    ghost use Rattle.fdb_audit.specs.Watched.{lines_asked, HasFollowed, HasToldAll, IsTelling};
+    ghost use Rattle.fdb_audit.specs.Watched.{lines_asked, names_asked, HasFollowed, HasToldAll};
+    ghost use Rattle.fdb_audit.specs.Watched.{IsTelling};
+    ghost use Rattle.fdb_log_reader.specs.LineReader.{line_names};
 
     /// An audit that has read no line, as the arguments ask for it. A line that comes may begin so far
     /// behind the newest end. It fails only where memory is refused.
@@ -81,7 +83,8 @@ impl Follower {
             → HasFollowed asked self.new (before ++ bytes.now) told) }
     {
         let lines = self.reader.feed(self.alloc, bytes)?;
-        self.taking.take_all(lines)
+        self.taking.take_all(lines)?;
+        Ok(())
     }
 
     /// What is to be said before more is read: what has become certain, once some thousand lines have
@@ -92,10 +95,21 @@ impl Follower {
             → HasFollowed asked self.new bytes (told ++ string_bytes said.text)) }
     {
         let unsettled = self.taking.unsettled;
-        if unsettled >= STRIDE || (is_idle && unsettled > 0) {
+        self.settle_if(unsettled >= STRIDE || (is_idle && unsettled > 0))?;
+        Ok(self.say())
+    }
+
+    /// Settles, if it is time to.
+    fn settle_if(&mut self, is_time: bool) -> Result<(), AllocError>
+        ensures reader { self.new.reader ≡ self.old.reader }
+        ensures told { OnOk result ((asked : AuditArguments)
+            → (read : List (Result SaidLine Why)) → (told : List ℕ)
+            → IsTelling asked self.old read told → IsTelling asked self.new read told) }
+    {
+        if is_time {
             self.settle()?;
         }
-        Ok(self.say())
+        Ok(())
     }
 
     /// Settles as far as lines that come may not begin any more.
@@ -153,19 +167,24 @@ impl Follower {
 
     /// Takes the line that has not ended, if there is one.
     fn take_last(&mut self) -> Result<(), AllocError>
-        ensures { OnOk result ((asked : AuditArguments) → (bytes told : List ℕ)
+        ensures told { OnOk result ((asked : AuditArguments) → (bytes told : List ℕ)
             → HasFollowed asked self.old bytes told
             → IsTelling asked self.new (lines_asked asked bytes) told) }
+        ensures names { OnOk result ((asked : AuditArguments) → (bytes told : List ℕ)
+            → HasFollowed asked self.old bytes told
+            → names_asked asked bytes ≡ line_names self.new.reader) }
     {
-        match self.reader.finish(self.alloc)? {
-            Some(last) => self.taking.take(last),
-            None => Ok(()),
+        let last = self.reader.finish(self.alloc)?;
+        if let Some(last) = last {
+            self.taking.take(last)?;
         }
+        Ok(())
     }
 
     /// Settles all.
     fn settle_for_good(&mut self) -> Result<(), AllocError>
-        ensures { OnOk result ((asked : AuditArguments)
+        ensures reader { self.new.reader ≡ self.old.reader }
+        ensures told { OnOk result ((asked : AuditArguments)
             → (read : List (Result SaidLine Why)) → (told : List ℕ)
             → IsTelling asked self.old read told → HasToldAll asked self.new read told) }
     {
@@ -173,6 +192,7 @@ impl Follower {
         let watch = replace(&mut self.taking.watch, none);
         let told = watch.finish(self.alloc)?;
         self.teller
-            .tell_all(self.alloc, &self.reader, &self.taking, &told)
+            .tell_all(self.alloc, &self.reader, &self.taking, &told)?;
+        Ok(())
     }
 }

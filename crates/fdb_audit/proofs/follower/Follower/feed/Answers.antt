@@ -1,6 +1,9 @@
-use Rattle.std.proofs.Common.{refl}
+use Rattle.std.proofs.Common.{map, refl}
+use Rattle.fdb_log_reader.specs.ReadLine.{said_in}
 use Rattle.fdb_audit.proofs.TellingOn.{fed}
 use Rattle.fdb_audit.proofs.follower.Follower.feed.Goals as goal
 
-pub returns-in-Ok : goal.returns-in-Ok
-returns-in-Ok c = refl
+pub returns : goal.returns
+returns c = λ asked before told has.
+    fed asked c.args.self.now _ before c.args.bytes.now told (map said_in c.in_ok-lines.lines.items) has
+    c.in_ok-lines.ensures.read c.in_ok-lines.ensures.behind c.in_ok-lines.ensures.names c.in_ok-take_all.ensures.taken c.take_all.ensures.margin refl
