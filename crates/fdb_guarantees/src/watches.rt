@@ -48,7 +48,8 @@ pub fn push_and_settle(
         (lines ++ line ∷ [])) }
 {
     watch.push(line)?;
-    watch
-        .settle(alloc, at)
-        .map_err(|_refused| WatchError::Line(LineError::Memory))
+    match watch.settle(alloc, at) {
+        Ok(settled) => Ok(settled),
+        Err(_refused) => Err(WatchError::Line(LineError::Memory)),
+    }
 }
