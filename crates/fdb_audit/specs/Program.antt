@@ -101,9 +101,9 @@ abbrev pub RefusesBy : Option ℕ → AuditArguments → List ℕ → LogsRefuse
 RefusesBy None asked bytes refused = (refused.error.why ≢ Memory) × (reading_with (key_asked asked) (shown_asked asked) bytes ≡ Err refused.error)
 RefusesBy (Some behind) asked bytes refused = AreLeftOut asked bytes
 
--- Neither --complete nor --history suits --follow. It prints what an audit of the log finds that the bytes stand for, and refuses what stands for none; that memory was
--- refused says nothing of the bytes. Whatever it finds, it prints. Of a log that is followed it says on standard error which
--- lines it leaves out.
+-- Neither --complete nor --history suits --follow. It prints what an audit of the log finds that the bytes stand for,
+-- and refuses what stands for none; that memory was refused says nothing of the bytes. Whatever it finds, it prints. Of
+-- a log that is followed it says on standard error which lines it leaves out.
 abbrev pub audit : Promise AuditArguments AuditIntake LogsRefused LogFault
 audit = record {
   app = command;

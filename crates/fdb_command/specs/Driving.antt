@@ -15,11 +15,12 @@ use Rattle.fdb_command.specs.declared.program.Answer.{Answer}
 use Rattle.fdb_command.specs.declared.fault.Fault.TheVariants.{Refused, Arguments, Memory, Found, Reading, Writing}
 
 -- A program's own: its command, the most bytes that its input may have, which of the arguments that
--- its command takes suit it, what its flags may stand for, where progress is told, and where it is said what is left out; which bytes an intake has
--- taken by what the flags stand for, and which text has been told of them; which texts, told parts
--- and rest together, it may print at some arguments of some bytes, with a fault that it finds or
--- none and a part that it refuses or none; which bytes it refuses there, whole or in part, and why;
--- and which faults it finds in bytes of which it prints nothing more.
+-- its command takes suit it, what its flags may stand for, where progress is told, and where it is
+-- said what is left out; which bytes an intake has taken by what the flags stand for, and which
+-- text has been told of them; which texts, told parts and rest together, it may print at some
+-- arguments of some bytes, with a fault that it finds or none and a part that it refuses or none;
+-- which bytes it refuses there, whole or in part, and why; and which faults it finds in bytes of
+-- which it prints nothing more.
 pub record Promise (O I E F : Type 0) : Type 1 where
   pub app : App
   pub most : ℕ
@@ -46,8 +47,8 @@ Stops program arguments bytes (Found found) = program.finds arguments bytes foun
 Stops program arguments bytes Reading = ⊥
 Stops program arguments bytes Writing = ⊥
 
--- What a program may answer of these bytes, of which this text has been told: it says what is left out
--- only where it warns.
+-- What a program may answer of these bytes, of which this text has been told: it says what is left
+-- out only where it warns.
 abbrev pub MayAnswer : {O I E F : Type 0} → Promise O I E F → List Text → List ℕ → List ℕ
     → Answer E F → Type 0
 MayAnswer program arguments bytes told answer =
