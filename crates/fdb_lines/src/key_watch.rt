@@ -76,7 +76,7 @@ impl KeyWatch {
         self.from
     }
 
-    /// The lines that it keeps, of each key in the order in which they came. Linear in them.
+    /// The lines that it keeps, of each key in the order in which they came.
     pub fn kept(&self, alloc: Global) -> Result<Vec<KeptLine>, AllocError>
         ensures { IfOk result (λ kept. (lines : List Line) → (keys : List (Option ℕ))
             → HasSeenByKey self.now lines keys
