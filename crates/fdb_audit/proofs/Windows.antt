@@ -144,7 +144,7 @@ place_more before n i true within = elim (cases_lt i (length before)) [
 place_more before n i false within = rw append-nil (omega arith)
 
 place_within : (keys : List (Option ℕ)) (key : Option ℕ) (n i : ℕ) → slice_index (places_below keys key n) i ≤ n
-place_within keys key zero i = rw (get_or_past [] i 0 (omega arith)) (omega arith)
+place_within keys key zero i = let past : slice_index (places_below keys key zero) i ≡ 0 = get_or_past {X = ℕ} [] i 0 (omega arith) in omega (arith, past)
 place_within keys key (suc n) i = place_more (places_below keys key n) n i (same_key (key_at keys n) key) (place_within keys key n i)
 
 -- ---- what is told of a key
@@ -222,7 +222,7 @@ tells_of old new margin to read names entry part beside it same told is added fi
     let shown : it ≡ log = is ∙ shown_is to read names entry part beside told in
     let text = told_text new.wanted log found in
     let all : take (length read) read ≡ read = take_all (length read) read (omega arith) in
-    let one : IsWindow margin new.wanted read window text = record { found = found_in margin to read names entry part same told; beside = beside; text = refl } in
+    let one : IsWindow margin new.wanted read window text = record { found = found_in margin to read names entry part same told; beside = beside; printed = refl } in
     let here : window.read ≤ length read = omega arith in
     record {
       windows = window ∷ [];

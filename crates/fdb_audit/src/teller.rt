@@ -9,7 +9,7 @@ ghost use Rattle.fdb_lines.specs.Reasons.{found_of};
 ghost use Rattle.fdb_log_reader.specs.LineReader.{line_names};
 ghost use Rattle.fdb_log_reader.specs.ReadLine.{SaidLine};
 ghost use Rattle.fdb_log_reader.specs.declared.error.Why.{Why};
-ghost use Rattle.fdb_audit.specs.Following.{counted_words, followed_object, keys_taken};
+ghost use Rattle.fdb_audit.specs.Following.{arguments_member, counted_words, followed_object, keys_taken};
 ghost use Rattle.fdb_audit.specs.Following.{lines_taken, listed, told_text, total_of};
 ghost use Rattle.fdb_audit.specs.Text.{fault_of, line};
 ghost use Rattle.fdb_audit.specs.private.{shown_in};
@@ -237,15 +237,34 @@ fn push_line(out: &mut String, words: &str, taking: &Taking) -> Result<(), Alloc
 }
 
 /// Writes how much was read, and by which arguments, as a JSON object.
-fn push_total_object(out: &mut String, taking: &Taking, asked: ToldArguments<'_>) -> Result<(), AllocError>
+fn push_total_object(
+    out: &mut String,
+    taking: &Taking,
+    asked: ToldArguments<'_>,
+) -> Result<(), AllocError>
     ensures { OnOk result (string_bytes out.new ≡ string_bytes out.old
         ++ line (total_of (counted_of taking.now) (arguments_of asked.entry))) }
 {
+    push_total(out, taking, asked)?;
+    writeln!(out)
+}
+
+fn push_total(out: &mut String, taking: &Taking, asked: ToldArguments<'_>) -> Result<(), AllocError>
+    ensures { OnOk result (string_bytes out.new ≡ string_bytes out.old
+        ++ total_of (counted_of taking.now) (arguments_of asked.entry)) }
+{
     write!(out, "{{\"total\":")?;
     taking.counts.push_object(out, taking.numbering.count())?;
+    push_arguments_member(out, asked)
+}
+
+fn push_arguments_member(out: &mut String, asked: ToldArguments<'_>) -> Result<(), AllocError>
+    ensures { OnOk result (string_bytes out.new ≡ string_bytes out.old
+        ++ arguments_member (arguments_of asked.entry)) }
+{
     write!(out, ",\"arguments\":")?;
     push_arguments(out, asked)?;
-    writeln!(out, "}}")
+    write!(out, "}}")
 }
 
 /// Writes the arguments, as a JSON object.
