@@ -201,19 +201,35 @@ impl Teller {
         let Some(told) = replace(&mut self.told, None) else {
             return Ok(());
         };
+        self.push_head(taking, behind, told.columns())?;
+        let names = reader.names().printed(alloc)?;
+        told.push(alloc, &mut self.text, self.wanted.json, &names)?;
+        Ok(())
+    }
+
+    /// Writes how much was read, in front of how many faults were told.
+    fn push_head(
+        &mut self,
+        taking: &Taking,
+        behind: u64,
+        columns: &[Column],
+    ) -> Result<(), AllocError>
+        ensures text { OnOk result ((more : List ℕ)
+            × (string_bytes self.new.text ≡ string_bytes self.old.text ++ more)) }
+        ensures first { self.new.first ≡ self.old.first }
+        ensures wanted { self.new.wanted ≡ self.old.wanted }
+    {
         if self.wanted.json {
             let asked = ToldArguments {
                 behind,
                 margin: self.margin,
                 by_key: self.key.is_some(),
-                columns: told.columns(),
+                columns,
             };
-            push_total_object(&mut self.text, taking, asked)?;
+            push_total_object(&mut self.text, taking, asked)
         } else {
-            push_line(&mut self.text, "audit total", taking)?;
+            push_line(&mut self.text, "audit total", taking)
         }
-        let names = reader.names().printed(alloc)?;
-        told.push(alloc, &mut self.text, self.wanted.json, &names)
     }
 }
 
