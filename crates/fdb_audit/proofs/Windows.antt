@@ -144,7 +144,7 @@ place_more before n i true within = elim (cases_lt i (length before)) [
 place_more before n i false within = rw append-nil (omega arith)
 
 place_within : (keys : List (Option ℕ)) (key : Option ℕ) (n i : ℕ) → slice_index (places_below keys key n) i ≤ n
-place_within keys key zero i = rw (get_or_past {X = ℕ} [] i 0 (omega arith)) (omega arith)
+place_within keys key zero i = let past : slice_index (places_below keys key zero) i ≡ 0 = get_or_past {X = ℕ} [] i 0 (omega arith) in omega (arith, past)
 place_within keys key (suc n) i = place_more (places_below keys key n) n i (same_key (key_at keys n) key) (place_within keys key n i)
 
 -- ---- what is told of a key

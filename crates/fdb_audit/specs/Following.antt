@@ -141,10 +141,13 @@ draws_members counts = codes ",\"asks\":" ++ decimal counts.asks ++ codes ",\"re
 abbrev pub came_members : Counted → List ℕ
 came_members counts = codes ",\"refused\":" ++ decimal counts.refused ++ codes ",\"early\":" ++ decimal counts.early ++ codes "}"
 
-abbrev pub counted_object : Counted → List ℕ
-counted_object counts =
+abbrev pub lines_members : Counted → List ℕ
+lines_members counts =
     codes "{\"lines\":" ++ decimal counts.lines ++ codes ",\"reads\":" ++ decimal counts.reads ++ codes ",\"commits\":"
-    ++ decimal counts.commits ++ draws_members counts ++ came_members counts
+    ++ decimal counts.commits
+
+abbrev pub counted_object : Counted → List ℕ
+counted_object counts = lines_members counts ++ draws_members counts ++ came_members counts
 
 -- the arguments: how far behind the newest end a line may begin, the margin, whether keys are kept, and what is printed beside lines
 pub record FollowArguments : Type 0 where
@@ -166,5 +169,8 @@ abbrev pub followed_object : FollowArguments → List ℕ
 followed_object asked = followed_members asked ++ truth asked.by_key ++ codes ",\"members\":[" ++ listed asked.members ++ codes "]}"
 
 -- how much was read, and by which arguments
+abbrev pub arguments_member : FollowArguments → List ℕ
+arguments_member asked = codes ",\"arguments\":" ++ followed_object asked ++ codes "}"
+
 abbrev pub total_of : Counted → FollowArguments → List ℕ
-total_of counts asked = codes "{\"total\":" ++ counted_object counts ++ codes ",\"arguments\":" ++ followed_object asked ++ codes "}"
+total_of counts asked = codes "{\"total\":" ++ counted_object counts ++ arguments_member asked

@@ -1,7 +1,8 @@
 //! How much of a log has been followed.
 
 ghost use Rattle.std.specs.Prelude.{◌≡◌, ◌+◌, ◌-◌, ◌^◌, ◌++◌, min, OnOk, string_bytes};
-ghost use Rattle.fdb_audit.specs.Following.{counted_object, counted_words};
+ghost use Rattle.fdb_audit.specs.Following.{came_members, counted_object, counted_words};
+ghost use Rattle.fdb_audit.specs.Following.{draws_members, lines_members};
 ghost use Rattle.fdb_audit.specs.private.Followed.{counted_in};
 
 use fdb_lines::{Call, Line};
@@ -71,14 +72,35 @@ impl Counts {
         ensures { OnOk result (string_bytes out.new
             ≡ string_bytes out.old ++ counted_object (counted_in self.now refused)) }
     {
+        self.push_lines(out, refused)?;
+        self.push_draws(out, refused)?;
+        self.push_came(out, refused)
+    }
+
+    fn push_lines(&self, out: &mut String, refused: u64) -> Result<(), AllocError>
+        ensures { OnOk result (string_bytes out.new
+            ≡ string_bytes out.old ++ lines_members (counted_in self.now refused)) }
+    {
         let (lines, reads, commits) = (self.lines, self.reads, self.commits);
-        let (asks, reports) = (self.asks, self.reports);
-        let early = self.early;
         write!(
             out,
             "{{\"lines\":{lines},\"reads\":{reads},\"commits\":{commits}"
-        )?;
-        write!(out, ",\"asks\":{asks},\"reports\":{reports}")?;
+        )
+    }
+
+    fn push_draws(&self, out: &mut String, refused: u64) -> Result<(), AllocError>
+        ensures { OnOk result (string_bytes out.new
+            ≡ string_bytes out.old ++ draws_members (counted_in self.now refused)) }
+    {
+        let (asks, reports) = (self.asks, self.reports);
+        write!(out, ",\"asks\":{asks},\"reports\":{reports}")
+    }
+
+    fn push_came(&self, out: &mut String, refused: u64) -> Result<(), AllocError>
+        ensures { OnOk result (string_bytes out.new
+            ≡ string_bytes out.old ++ came_members (counted_in self.now refused)) }
+    {
+        let early = self.early;
         write!(out, ",\"refused\":{refused},\"early\":{early}}}")
     }
 }

@@ -9,7 +9,7 @@ ghost use Rattle.fdb_lines.specs.Reasons.{found_of};
 ghost use Rattle.fdb_log_reader.specs.LineReader.{line_names};
 ghost use Rattle.fdb_log_reader.specs.ReadLine.{SaidLine};
 ghost use Rattle.fdb_log_reader.specs.declared.error.Why.{Why};
-ghost use Rattle.fdb_audit.specs.Following.{counted_words, followed_object, keys_taken};
+ghost use Rattle.fdb_audit.specs.Following.{arguments_member, counted_words, followed_object, keys_taken};
 ghost use Rattle.fdb_audit.specs.Following.{lines_taken, listed, told_text, total_of};
 ghost use Rattle.fdb_audit.specs.Text.{fault_of, line};
 ghost use Rattle.fdb_audit.specs.private.{shown_in};
@@ -201,19 +201,35 @@ impl Teller {
         let Some(told) = replace(&mut self.told, None) else {
             return Ok(());
         };
+        self.push_head(taking, behind, told.columns())?;
+        let names = reader.names().printed(alloc)?;
+        told.push(alloc, &mut self.text, self.wanted.json, &names)?;
+        Ok(())
+    }
+
+    /// Writes how much was read, in front of how many faults were told.
+    fn push_head(
+        &mut self,
+        taking: &Taking,
+        behind: u64,
+        columns: &[Column],
+    ) -> Result<(), AllocError>
+        ensures text { OnOk result ((more : List ℕ)
+            × (string_bytes self.new.text ≡ string_bytes self.old.text ++ more)) }
+        ensures first { self.new.first ≡ self.old.first }
+        ensures wanted { self.new.wanted ≡ self.old.wanted }
+    {
         if self.wanted.json {
             let asked = ToldArguments {
                 behind,
                 margin: self.margin,
                 by_key: self.key.is_some(),
-                columns: told.columns(),
+                columns,
             };
-            push_total_object(&mut self.text, taking, asked)?;
+            push_total_object(&mut self.text, taking, asked)
         } else {
-            push_line(&mut self.text, "audit total", taking)?;
+            push_line(&mut self.text, "audit total", taking)
         }
-        let names = reader.names().printed(alloc)?;
-        told.push(alloc, &mut self.text, self.wanted.json, &names)
     }
 }
 
@@ -245,11 +261,26 @@ fn push_total_object(
     ensures { OnOk result (string_bytes out.new ≡ string_bytes out.old
         ++ line (total_of (counted_of taking.now) (arguments_of asked.entry))) }
 {
+    push_total(out, taking, asked)?;
+    writeln!(out)
+}
+
+fn push_total(out: &mut String, taking: &Taking, asked: ToldArguments<'_>) -> Result<(), AllocError>
+    ensures { OnOk result (string_bytes out.new ≡ string_bytes out.old
+        ++ total_of (counted_of taking.now) (arguments_of asked.entry)) }
+{
     write!(out, "{{\"total\":")?;
     taking.counts.push_object(out, taking.numbering.count())?;
+    push_arguments_member(out, asked)
+}
+
+fn push_arguments_member(out: &mut String, asked: ToldArguments<'_>) -> Result<(), AllocError>
+    ensures { OnOk result (string_bytes out.new ≡ string_bytes out.old
+        ++ arguments_member (arguments_of asked.entry)) }
+{
     write!(out, ",\"arguments\":")?;
     push_arguments(out, asked)?;
-    writeln!(out, "}}")
+    write!(out, "}}")
 }
 
 /// Writes the arguments, as a JSON object.

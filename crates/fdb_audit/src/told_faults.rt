@@ -1,10 +1,10 @@
 //! The faults that a watch has told, as they are counted in totals.
 
 ghost use Rattle.std.specs.Prelude.{◌≡◌, ◌++◌, ℕ, List, OnOk, string_bytes};
-ghost use Rattle.fdb_lines.specs.declared.reason.Finding.{Finding};
 ghost use Rattle.fdb_audit.specs.Groups.{groupings, AreMostOfEach};
-ghost use Rattle.fdb_audit.specs.Text.{line, PrintedLog};
+ghost use Rattle.fdb_audit.specs.Text.{line};
 ghost use Rattle.fdb_audit.specs.Totals.{faults_line};
+ghost use Rattle.fdb_audit.specs.private.{shown_in};
 
 use crate::beside::MemberBeside;
 use crate::grouped::push_most_of_each;
@@ -132,10 +132,7 @@ impl ToldFaults {
         json: bool,
         names: &[String],
     ) -> Result<(), AllocError>
-        ensures { OnOk result ((it : PrintedLog) × (found : List Finding) × (groups : List ℕ)
-            × AreMostOfEach json (groupings it) found groups
-            × (string_bytes out.new
-            ≡ string_bytes out.old ++ (line (faults_line json found) ++ groups))) }
+        ensures { OnOk result ((more : List ℕ) × (string_bytes out.new ≡ string_bytes out.old ++ more)) }
     {
         let (mut numbers, mut texts) = (Vec::new(alloc), Vec::new(alloc));
         for column in self.columns {
@@ -156,7 +153,24 @@ impl ToldFaults {
             numbers: &[],
             beside: &beside,
         };
-        push_faults(out, json, &self.found)?;
-        push_most_of_each(alloc, out, json, view, &self.found)
+        push_totals(alloc, out, json, view, &self.found)?;
+        Ok(())
     }
+}
+
+/// Writes how many faults of a view there are, in all, of each kind, and of the groups with most.
+fn push_totals(
+    alloc: Global,
+    out: &mut String,
+    json: bool,
+    view: View<'_>,
+    found: &[Finding],
+) -> Result<(), AllocError>
+    ensures { OnOk result ((groups : List ℕ)
+        × AreMostOfEach json (groupings (shown_in view.entry)) found.now groups
+        × (string_bytes out.new
+        ≡ string_bytes out.old ++ line (faults_line json found.now) ++ groups)) }
+{
+    push_faults(out, json, found)?;
+    push_most_of_each(alloc, out, json, view, found)
 }
