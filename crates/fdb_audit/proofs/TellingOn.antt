@@ -1,5 +1,5 @@
 -- What a follower has told stays told while it reads on, and what it tells next comes behind it.
-use Rattle.std.proofs.Common.{◌≡◌, ◌∙◌, ℕ, zero, suc, ◌≤◌, List, [], ◌∷◌, ◌++◌, All, ap, append-nil, append_assoc, arith, length, map, string_bytes, subst, sym, Option, Result}
+use Rattle.std.proofs.Common.{◌≡◌, ◌∙◌, ℕ, List, [], ◌++◌, ap, append-nil, append_assoc, string_bytes, subst, sym, Option, Result}
 use Rattle.std.specs.Option.{option_or}
 use Rattle.fdb_log_reader.specs.declared.error.Why.{Why}
 use Rattle.fdb_log_reader.specs.LineReader.{AreMore, line_names, lines_on, names_on}
@@ -12,14 +12,7 @@ use Rattle.fdb_audit.specs.declared.teller.Teller.{Teller}
 use Rattle.fdb_audit.specs.Following.{AreWindows, Window, first_told}
 use Rattle.fdb_audit.specs.Watched.{HasFollowed, HasToldAll, IsFollowed, IsTelling, lines_asked, names_asked}
 use Rattle.fdb_audit.specs.private.Followed.{AreTaken, TellsOn}
-use Rattle.fdb_audit.proofs.Windows.{first_on, first_stays, windows_on, windows_stay}
-
--- each window is of lines that have been read
-pub windows_within : (margin : ℕ) (wanted : Wanted) (read : List (Result SaidLine Why)) (names : List (List ℕ)) (ws : List Window) (text : List ℕ)
-    → AreWindows margin wanted read names ws text → All (λ (w : Window). w.read ≤ length read) ws
-windows_within margin wanted read names [] text are k d lt = absurd (omega arith)
-windows_within margin wanted read names (w ∷ ws) text are zero d lt = are.3
-windows_within margin wanted read names (w ∷ ws) text are (suc k) d lt = windows_within margin wanted read names ws are.1 are.6 k d (omega arith)
+use Rattle.fdb_audit.proofs.Windows.{first_on, first_stays, windows_on, windows_stay, windows_within}
 
 -- with some lines more
 pub takes_on : (asked : AuditArguments) (old new : Follower) (read further : List (Result SaidLine Why)) (told : List ℕ) → IsTelling asked old read told

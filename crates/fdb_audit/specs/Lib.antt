@@ -5,6 +5,7 @@ pub mod Totals
 pub mod Groups
 pub mod Judged
 pub mod Following
+pub mod Taken
 pub mod Watched
 pub mod Program
 pub mod private

@@ -8,7 +8,7 @@ use Rattle.fdb_audit.specs.declared.arguments.AuditArguments.{AuditArguments}
 use Rattle.fdb_audit.specs.declared.fault.LogFault.{LogFault}
 use Rattle.fdb_audit.specs.declared.follower.Follower.{Follower}
 use Rattle.fdb_audit.specs.Following.{AreWindows, Window, first_told, taken, taken_above}
-use Rattle.fdb_audit.specs.private.Followed.{AreTaken}
+use Rattle.fdb_audit.specs.Taken.{AreTaken}
 
 -- what becomes of the lines of a text, as it is asked for
 abbrev pub lines_asked : AuditArguments → List ℕ → List (Result SaidLine Why)

@@ -58,7 +58,9 @@ impl Follower {
 
     /// An audit that has read no line, as the arguments ask for it. A line that comes may begin so far
     /// behind the newest end. It fails only where memory is refused.
-    pub fn new(alloc: Global, asked: &AuditArguments, behind: u64) -> Result<Self, AllocError> {
+    pub fn new(alloc: Global, asked: &AuditArguments, behind: u64) -> Result<Self, AllocError>
+        ensures { IfOk result (λ follower. HasFollowed asked.now follower [] []) }
+    {
         let reader = LineReader::new(alloc, asked.key.as_deref(), &asked.shown)?;
         let taking = Taking::new(alloc, asked.opts.margin, behind, &asked.shown)?;
         let teller = Teller::new(alloc, asked, taking.rows.members())?;

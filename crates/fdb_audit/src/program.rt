@@ -1,7 +1,7 @@
 //! The program: its command, and what it prints of a log.
 
 ghost use Rattle.std.specs.Prelude.{◌≡◌, ◌≢◌, ◌++◌, ℕ, [], IfErr, IfOk, List, MatchResult};
-ghost use Rattle.std.specs.Prelude.{MatchOption, None};
+ghost use Rattle.std.specs.Prelude.{◌&&◌, ◌||◌, is_some, MatchOption, None};
 ghost use Rattle.std.specs.Thread.{IsSync};
 ghost use Rattle.clap.specs.Words.{Text};
 ghost use Rattle.fdb_audit.specs.Program.{audit, HasRead, HasTaken, IsAsked, Prints, PrintsBy};
@@ -10,8 +10,8 @@ ghost use Rattle.fdb_command.specs.Driving.{IsDriven, Stops};
 
 use crate::arguments::{AuditArguments, command, members, owned, text, wanted_of};
 use crate::fault::{LogFault, told};
-use crate::follower::{Follower, Said};
-use crate::judging::{Judgement, judge_named_by};
+use crate::follower::Follower;
+use crate::judging::{Judgement, Wanted, judge_named_by};
 use crate::refused::LogsRefused;
 use clap::{ArgMatches, Command};
 use fdb_command::{Answer, ArgumentsFault, Fault, Program, Told, is_given, number};
@@ -64,7 +64,7 @@ impl Program for Audit {
         let complete = number(matches, "complete");
         let follow = number(matches, "follow");
         let wanted = wanted_of(matches);
-        if follow.is_some() && (complete.is_some() || wanted.history) {
+        if needs_all(follow, complete, wanted) {
             return Err(ArgumentsFault::Refused);
         }
         Ok(AuditArguments {
@@ -87,7 +87,10 @@ impl Program for Audit {
         asked: &AuditArguments,
     ) -> Result<AuditIntake, Fault<LogsRefused, LogFault>> {
         match asked.follow {
-            Some(behind) => Ok(AuditIntake::Followed(Follower::new(alloc, asked, behind)?)),
+            Some(behind) => match Follower::new(alloc, asked, behind) {
+                Ok(follower) => Ok(AuditIntake::Followed(follower)),
+                Err(_) => Err(Fault::Memory),
+            },
             None => {
                 let key = asked.key.as_deref();
                 Ok(AuditIntake::Whole(LogReader::with_columns(alloc, key, &asked.shown)?))
@@ -160,6 +163,13 @@ impl AuditIntake {
     }
 }
 
+/// Whether a log is to be followed, and what needs all of it is asked for.
+fn needs_all(follow: Option<u64>, complete: Option<u64>, wanted: Wanted) -> bool
+    ensures { result ≡ is_some follow && (is_some complete || wanted.history) }
+{
+    follow.is_some() && (complete.is_some() || wanted.history)
+}
+
 /// Tells what has become certain of a log that is followed.
 fn tell_of(
     mut follower: Follower,
@@ -171,10 +181,10 @@ fn tell_of(
     ensures stops { IfErr result (λ fault. fault ≡ Fault.Memory) }
 {
     match follower.tell(is_idle) {
-        Ok(Said { text, warnings }) => Ok(Told {
+        Ok(said) => Ok(Told {
             intake: AuditIntake::Followed(follower),
-            text: text.into_bytes(),
-            warnings: warnings.into_bytes(),
+            text: said.text.into_bytes(),
+            warnings: said.warnings.into_bytes(),
         }),
         Err(_) => Err(Fault::Memory),
     }
@@ -195,9 +205,19 @@ fn followed(
             text: it.said.text.into_bytes(),
             warnings: it.said.warnings.into_bytes(),
             found: it.found,
-            refused: it.refused.map(|error| LogsRefused { error }),
+            refused: refused_part(it.refused),
         }),
         Err(_) => Err(Fault::Memory),
+    }
+}
+
+/// Why a part of a log is refused.
+fn refused_part(refused: Option<ReadError>) -> Option<LogsRefused>
+    ensures { is_some result ≡ is_some refused }
+{
+    match refused {
+        Some(error) => Some(LogsRefused { error }),
+        None => None,
     }
 }
 

@@ -1,26 +1,15 @@
 -- What the parts of a follower hold of the lines that were read. (this product's own)
 use Rattle.std.specs.Prelude.{◌≡◌, ℕ, ◌+◌, ◌<◌, ◌^◌, ◌++◌, List, All, length, map, string_bytes, Option, Result}
 use Rattle.std.specs.Option.{option_or}
-use Rattle.fdb_lines.specs.KeyWatch.{HasSeenByKey}
 use Rattle.fdb_log_reader.specs.declared.error.Why.{Why}
 use Rattle.fdb_log_reader.specs.ReadLine.{SaidLine}
 use Rattle.fdb_audit.specs.declared.counts.Counts.{Counts}
 use Rattle.fdb_audit.specs.declared.taking.Taking.{Taking}
+pub use Rattle.fdb_audit.specs.Taken.{AreNumbered, AreTaken}
 use Rattle.fdb_audit.specs.declared.teller.Teller.{Teller}
 use Rattle.fdb_audit.specs.declared.teller.ToldArguments.{ToldArguments}
 use Rattle.fdb_audit.specs.declared.told_faults.Column.{Column}
 use Rattle.fdb_audit.specs.Following.{AreWindows, Counted, FollowArguments, Window, first_told, keys_taken, lines_taken, taken, taken_above}
-
--- how many lines were taken above each that was refused; and each line has a number, and the next one too
-pub record AreNumbered (taking : Taking) (read : List (Result SaidLine Why)) : Type 0 where
-  pub above : taking.numbering.above.items ≡ taken_above 0 read
-  pub few : length read + 1 < 2 ^ 64
-
--- the lines that were taken, of those that were read
-pub record AreTaken (taking : Taking) (read : List (Result SaidLine Why)) : Type 0 where
-  pub seen : HasSeenByKey taking.watch (lines_taken read) (keys_taken read)
-  pub numbered : AreNumbered taking read
-  pub count : taking.counts.lines ≡ length (taken read)
 
 -- What is told more, once these lines have been read, whose clients have these names.
 pub record TellsOn (old new : Teller) (margin : ℕ) (read : List (Result SaidLine Why)) (names : List (List ℕ)) : Type 0 where

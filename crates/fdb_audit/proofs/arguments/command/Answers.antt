@@ -9,11 +9,12 @@ returns c =
     let one = c.in_ok-arg.ensures.shape c.file_argument.ensures.own ∙ ap₂ with_rule c.new_command.ensures c.file_argument.ensures.rule in
     let two = c.in_ok-arg-2.ensures.shape c.number_argument.ensures.own ∙ ap₂ with_rule one c.number_argument.ensures.rule in
     let three = c.in_ok-arg-3.ensures.shape c.number_argument-2.ensures.own ∙ ap₂ with_rule two c.number_argument-2.ensures.rule in
-    let four = c.in_ok-arg-4.ensures.shape c.text_argument.ensures.own ∙ ap₂ with_rule three c.text_argument.ensures.rule in
-    let five = c.in_ok-arg-5.ensures.shape c.text_argument-2.ensures.own ∙ ap₂ with_rule four c.text_argument-2.ensures.rule in
-    let six = c.in_ok-arg-6.ensures.shape c.flag_argument.ensures.own ∙ ap₂ with_rule five c.flag_argument.ensures.rule in
-    let seven = c.in_ok-arg-7.ensures.shape c.flag_argument-2.ensures.own ∙ ap₂ with_rule six c.flag_argument-2.ensures.rule in
-    let eight = c.in_ok-arg-8.ensures.shape c.flag_argument-3.ensures.own ∙ ap₂ with_rule seven c.flag_argument-3.ensures.rule in
-    let nine = c.in_ok-arg-9.ensures.shape c.flag_argument-4.ensures.own ∙ ap₂ with_rule eight c.flag_argument-4.ensures.rule in
-    IfOk-weaker c.arg-10.result _ (λ made. app_of made ≡ command_read)
-    (λ made added. added.shape c.flag_argument-5.ensures.own ∙ ap₂ with_rule nine c.flag_argument-5.ensures.rule) c.arg-10.ensures
+    let four = c.in_ok-arg-4.ensures.shape c.number_argument-3.ensures.own ∙ ap₂ with_rule three c.number_argument-3.ensures.rule in
+    let five = c.in_ok-arg-5.ensures.shape c.text_argument.ensures.own ∙ ap₂ with_rule four c.text_argument.ensures.rule in
+    let six = c.in_ok-arg-6.ensures.shape c.text_argument-2.ensures.own ∙ ap₂ with_rule five c.text_argument-2.ensures.rule in
+    let seven = c.in_ok-arg-7.ensures.shape c.flag_argument.ensures.own ∙ ap₂ with_rule six c.flag_argument.ensures.rule in
+    let eight = c.in_ok-arg-8.ensures.shape c.flag_argument-2.ensures.own ∙ ap₂ with_rule seven c.flag_argument-2.ensures.rule in
+    let nine = c.in_ok-arg-9.ensures.shape c.flag_argument-3.ensures.own ∙ ap₂ with_rule eight c.flag_argument-3.ensures.rule in
+    let ten = c.in_ok-arg-10.ensures.shape c.flag_argument-4.ensures.own ∙ ap₂ with_rule nine c.flag_argument-4.ensures.rule in
+    IfOk-weaker c.arg-11.result _ (λ made. app_of made ≡ command_read)
+    (λ made added. added.shape c.flag_argument-5.ensures.own ∙ ap₂ with_rule ten c.flag_argument-5.ensures.rule) c.arg-11.ensures

@@ -1,20 +1,44 @@
-use Rattle.std.proofs.Common.{◌≡◌, ℕ, List, [], None, Ok, Err, Result, MatchResult}
+use Rattle.std.proofs.Common.{◌≡◌, ◌++◌, ◌∙◌, ℕ, false, List, [], IfSome, MatchResult, None, Option, Some, Ok, Err, Result, ap, is_some, refl, sym}
+use Rattle.std.proofs.lemmas.Bool.{false≢true}
 use Rattle.clap.specs.Words.{Text}
 use Rattle.fdb_command.specs.Driving.{MayAnswer, Stops}
 use Rattle.fdb_command.specs.declared.fault.Fault.{Fault}
 use Rattle.fdb_command.specs.declared.program.Answer.{Answer}
-use Rattle.fdb_lines.specs.declared.fault.Found.{Found}
-use Rattle.fdb_audit.specs.Program.{IsAsked, Prints, audit}
+use Rattle.fdb_audit.specs.Program.{IsAsked, PrintsBy, RefusesBy, audit}
 use Rattle.fdb_audit.specs.declared.arguments.AuditArguments.{AuditArguments}
+use Rattle.fdb_audit.specs.declared.fault.LogFault.{LogFault}
 use Rattle.fdb_audit.specs.declared.refused.LogsRefused.{LogsRefused}
 use Rattle.fdb_audit.proofs.program.drive.Goals as goal
 
--- what was judged as the flags say, of which nothing was told, is what the program promises to print
-promised : (arguments : List Text) (asked : AuditArguments) (bytes : List ℕ) (made : Result (Answer LogsRefused Found) (Fault LogsRefused Found)) → IsAsked arguments asked
-    → MatchResult made (λ answer. (answer.refused ≡ None) × Prints asked bytes answer.text.items answer.found) (Stops audit arguments bytes)
-    → MatchResult made (MayAnswer audit arguments bytes []) (Stops audit arguments bytes)
-promised arguments asked bytes (Ok answer) is judged = ((judged.0, asked, is, judged.1), rw judged.0 tt)
-promised arguments asked bytes (Err fault) is stops = stops
+is_none : {X : Type 0} (it : Option X) → is_some it ≡ false → it ≡ None
+is_none None is = refl
+is_none (Some x) is = absurd (false≢true (sym is))
+
+not_both : {X : Type 0} (x : X) → Some x ≡ None → ⊥
+not_both x is = false≢true (sym (ap is_some is))
+
+-- what is refused of what is printed so is refused so
+part_refused : (follow : Option ℕ) (asked : AuditArguments) (bytes text : List ℕ) (found : Option LogFault) (refused : Option LogsRefused)
+    → PrintsBy follow asked bytes text found refused → IfSome refused (RefusesBy follow asked bytes)
+part_refused follow asked bytes text found None is = tt
+part_refused None asked bytes text found (Some error) is = absurd (not_both error is.1)
+part_refused (Some behind) asked bytes text found (Some error) is = is.1
+
+refused_so : (arguments : List Text) (asked : AuditArguments) (bytes : List ℕ) (refused : Option LogsRefused) → IsAsked arguments asked
+    → IfSome refused (RefusesBy asked.follow asked bytes) → IfSome refused (audit.refuses arguments bytes)
+refused_so arguments asked bytes None is refuses = tt
+refused_so arguments asked bytes (Some error) is refuses = (asked, is, refuses)
+
+-- what was judged or told as the flags say is what the program promises to print
+promised : (arguments : List Text) (asked : AuditArguments) (bytes told : List ℕ) (made : Result (Answer LogsRefused LogFault) (Fault LogsRefused LogFault)) → IsAsked arguments asked
+    → MatchResult made (λ answer. PrintsBy asked.follow asked bytes (told ++ answer.text.items) answer.found answer.refused × (asked.follow ≡ None → answer.warnings.items ≡ [])) (Stops audit arguments bytes)
+    → MatchResult made (MayAnswer audit arguments bytes told) (Stops audit arguments bytes)
+promised arguments asked bytes told (Ok answer) is judged = (
+  (asked, is, judged.0),
+  refused_so arguments asked bytes answer.refused is (part_refused asked.follow asked bytes (told ++ answer.text.items) answer.found answer.refused judged.0),
+  λ quiet. judged.1 (is_none asked.follow (ap is_some is.follow ∙ quiet)),
+)
+promised arguments asked bytes told (Err fault) is stops = stops
 
 pub drive-requires-clause-promised : goal.drive-requires-clause-promised
-drive-requires-clause-promised g c = λ arguments asked intake bytes told made is has answers. rw has.1 (promised arguments asked bytes made is (answers arguments bytes is has.0))
+drive-requires-clause-promised g c = λ arguments asked intake bytes told made is has answers. promised arguments asked bytes told made is (answers arguments bytes told is has)

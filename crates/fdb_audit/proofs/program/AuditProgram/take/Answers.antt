@@ -1,9 +1,25 @@
-use Rattle.std.proofs.Common.{◌∙◌, ◌++◌, inl, inr, sym}
+use Rattle.std.proofs.Common.{◌≡◌, ◌∙◌, ◌++◌, ap, append_assoc, inl, inr, subst, sym}
+use Rattle.fdb_log_reader.specs.Reading.{reading_with}
+use Rattle.fdb_audit.specs.Program.{key_asked, shown_asked, HasTaken}
+use Rattle.fdb_audit.specs.declared.program.AuditIntake.{AuditIntake}
 use Rattle.fdb_audit.proofs.Refusing.{stops}
 use Rattle.fdb_audit.proofs.program.AuditProgram.take.Goals as goal
 
+pub returns-in-Ok-clause-taken : goal.returns-in-Ok-clause-taken
+returns-in-Ok-clause-taken c = λ options before told has.
+    let whole = subst (λ (it : AuditIntake). HasTaken options it before told) c.in-Whole.is has in
+    let bytes = c.args.bytes.now in
+    (whole.0, λ text. c.in-Ok.ensures text ∙ (whole.1 (bytes ++ text) ∙ ap (reading_with (key_asked options) (shown_asked options)) (sym (append_assoc before bytes text))), whole.2)
+
 pub returns-in-Err-clause-stops : goal.returns-in-Err-clause-stops
 returns-in-Err-clause-stops c = λ arguments options before told after is has.
-    stops arguments options (before ++ (c.args.bytes.now ++ after)) c.in-Err.error c.refusal.result is
-    (elim (c.in-Err.ensures) [ inl m ↦ inl m | inr h ↦ inr (sym (has.0 (c.args.bytes.now ++ after)) ∙ h after) ])
+    let whole = subst (λ (it : AuditIntake). HasTaken options it before told) c.in-Whole.is has in
+    let bytes = c.args.bytes.now in
+    stops arguments options (before ++ (bytes ++ after)) c.in-Err.error c.refusal.result is whole.0
+    (elim (c.in-Err.ensures) [ inl m ↦ inl m | inr h ↦ inr (sym (whole.1 (bytes ++ after)) ∙ h after) ])
     c.refusal.ensures.memory c.refusal.ensures.refused
+
+pub returns-in-Ok-feed-clause-taken : goal.returns-in-Ok-feed-clause-taken
+returns-in-Ok-feed-clause-taken c = λ options before told has.
+    let its = subst (λ (it : AuditIntake). HasTaken options it before told) c.in-Followed.is has in
+    (its.0, its.1, c.in-Ok-feed.ensures options before told its.2)

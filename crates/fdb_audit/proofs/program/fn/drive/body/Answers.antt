@@ -1,20 +1,29 @@
-use Rattle.std.proofs.Common.{◌≡◌, ◌∙◌, inl, inr, [], ℕ, Vec, Global, string_bytes, ap, refl, sym, append-nil}
-use Rattle.fdb_log_reader.specs.Reading.{reading_of, reading_with}
-use Rattle.fdb_audit.specs.Program.{key_asked, shown_asked}
-use Rattle.fdb_audit.proofs.Refusing.{stops}
+use Rattle.std.proofs.Common.{◌≡◌, ◌++◌, ℕ, List, [], MatchResult, None, Ok, Err, Result, subst, sym}
+use Rattle.clap.specs.Words.{Text}
+use Rattle.fdb_command.specs.Driving.{Stops}
+use Rattle.fdb_command.specs.declared.fault.Fault.{Fault}
+use Rattle.fdb_command.specs.declared.program.Answer.{Answer}
+use Rattle.fdb_audit.specs.Program.{HasTaken, Prints, PrintsBy, audit}
+use Rattle.fdb_audit.specs.declared.arguments.AuditArguments.{AuditArguments}
+use Rattle.fdb_audit.specs.declared.fault.LogFault.{LogFault}
+use Rattle.fdb_audit.specs.declared.program.AuditIntake.{AuditIntake}
+use Rattle.fdb_audit.specs.declared.refused.LogsRefused.{LogsRefused}
 use Rattle.fdb_audit.proofs.program.fn.drive.body.Goals as goal
 
--- what was read to its end is what the bytes stand for
-pub returns-in-Ok-judge_named_by : goal.returns-in-Ok-judge_named_by
-returns-in-Ok-judge_named_by g c = λ arguments bytes is has.
-    let same : c.into_bytes.result.items ≡ string_bytes c.in-Ok-judge_named_by.field-0.text = ap (λ (v : Vec ℕ Global). v.items) c.into_bytes.ensures.value in
-    (refl, reading_of c.in-Ok.named, ap (reading_with (key_asked c.args.asked) (shown_asked c.args.asked)) (sym (append-nil bytes)) ∙ (sym (has []) ∙ c.in-Ok.ensures.read), rw same c.in-Ok-judge_named_by.ensures)
+-- a log of which nothing was told is printed whole
+whole_printed : (arguments : List Text) (asked : AuditArguments) (bytes told : List ℕ) (made : Result (Answer LogsRefused LogFault) (Fault LogsRefused LogFault))
+    → asked.follow ≡ None → told ≡ []
+    → MatchResult made (λ answer. Prints asked bytes answer.text.items answer.found × (answer.refused ≡ None) × (answer.warnings.items ≡ [])) (Stops audit arguments bytes)
+    → MatchResult made (λ answer. PrintsBy asked.follow asked bytes (told ++ answer.text.items) answer.found answer.refused × (asked.follow ≡ None → answer.warnings.items ≡ [])) (Stops audit arguments bytes)
+whole_printed arguments asked bytes told (Ok answer) whole none judged = (
+  subst (λ follow. PrintsBy follow asked bytes (told ++ answer.text.items) answer.found answer.refused) (sym whole)
+      (subst (λ told. Prints asked bytes (told ++ answer.text.items) answer.found) (sym none) judged.0, judged.1),
+  λ _. judged.2,
+)
+whole_printed arguments asked bytes told (Err fault) whole none stops = stops
 
-pub returns-in-Err : goal.returns-in-Err
-returns-in-Err g c = λ arguments bytes is has.
-    stops arguments c.args.asked bytes c.in-Err.error c.refusal.result is
-    (elim (c.in-Err.ensures.read) [
-      | inl m ↦ inl m
-      | inr h ↦ inr (ap (reading_with (key_asked c.args.asked) (shown_asked c.args.asked)) (sym (append-nil bytes)) ∙ (sym (has []) ∙ h))
-    ])
-    c.refusal.ensures.memory c.refusal.ensures.refused
+pub returns-in-Whole : goal.returns-in-Whole
+returns-in-Whole g c = λ arguments bytes told is has.
+    let asked = c.args.asked in
+    let whole = subst (λ (it : AuditIntake). HasTaken asked it bytes told) c.in-Whole.is has in
+    whole_printed arguments asked bytes told c.judged.result whole.0 whole.2 (c.judged.ensures arguments bytes is whole.0 whole.1)

@@ -1,0 +1,28 @@
+use Rattle.std.proofs.Common.{◌≡◌, [], ◌∷◌, List, MatchOption, None, Option, Some, Result, append-nil, refl, subst, sym}
+use Rattle.fdb_log_reader.specs.declared.error.Why.{Why}
+use Rattle.fdb_log_reader.specs.declared.read_line.ReadLine.{ReadLine}
+use Rattle.fdb_log_reader.specs.ReadLine.{SaidLine, said_in}
+use Rattle.fdb_audit.specs.private.Followed.{AreTaken}
+use Rattle.fdb_audit.proofs.TellingOn.{ended}
+use Rattle.fdb_audit.proofs.follower.Follower.take_last.Goals as goal
+
+of_one : (left : List (Result SaidLine Why)) (last : Option (Result ReadLine Why)) (read : Result ReadLine Why) → last ≡ Some read
+    → MatchOption last (left ≡ []) (λ read. left ≡ said_in read ∷ []) → left ≡ said_in read ∷ []
+of_one left last read is found = subst (λ last. MatchOption last (left ≡ []) (λ read. left ≡ said_in read ∷ [])) is found
+
+pub returns-in_ok-take-clause-told : goal.returns-in_ok-take-clause-told
+returns-in_ok-take-clause-told c = λ asked bytes told has.
+    ended asked c.args.self.now _ bytes told (said_in c.in-Some.last ∷ []) has
+    (of_one _ c.in_ok-last.last c.in-Some.last c.in-Some.is c.in_ok-last.ensures.read)
+    c.in_ok-last.ensures.names c.in_ok-take.ensures.taken c.take.ensures.margin refl
+
+of_none : (left : List (Result SaidLine Why)) (last : Option (Result ReadLine Why)) → ((read : Result ReadLine Why) → last ≡ Some read → ⊥)
+    → MatchOption last (left ≡ []) (λ read. left ≡ said_in read ∷ []) → left ≡ []
+of_none left None not found = found
+of_none left (Some read) not found = absurd (not read refl)
+
+pub returns-in_default-clause-told : goal.returns-in_default-clause-told
+returns-in_default-clause-told c = λ asked bytes told has.
+    ended asked c.args.self.now _ bytes told [] has
+    (of_none _ c.in_ok-last.last c.in_default.not-Some c.in_ok-last.ensures.read)
+    c.in_ok-last.ensures.names (λ read is. subst (AreTaken c.args.self.now.taking) (sym (append-nil read)) is) refl refl
