@@ -190,19 +190,20 @@ class Case:
         drawers = self.others_that_drew(k) if fault == "Twice" else self.drawers(value)
         return [Reason("drawn", drawers[0]) if drawers else Reason("undrawn")]
 
-    def late(self, fault, k):
-        """The first line to end that outdates a call, and how late that is; or None.
+    def outdating(self, fault, k):
+        """The lines that outdate a call and whose ends are known, by these: end, rank and line.
 
         Of lines that ended together those that show a version come first.
         """
         kinds, least = {"Order": (SHOWING, 1), "NotAbove": (CALLS, 0)}.get(fault, ((), 0))
-        ends = [(it.ended, it.kind not in SHOWING, j) for j, it in enumerate(self.lines)
-                if it.kind in kinds and it.value >= self.lines[k].value + least
-                and it.ended is not None]
-        if not ends or min(ends)[2] == k:
-            return None
-        end, _, j = min(ends)
-        return j, max(0, self.lines[k].began - end)
+        return sorted((it.ended, it.kind not in SHOWING, j) for j, it in enumerate(self.lines)
+                      if it.kind in kinds and it.value >= self.lines[k].value + least
+                      and it.ended is not None)
+
+    def late(self, fault, k):
+        """The first line to end that outdates a call, and how late that is; or None."""
+        end, _, j = next(iter(self.outdating(fault, k)), (None, None, k))
+        return None if j == k else (j, max(0, self.lines[k].began - end))
 
     # ---- what is said of it, in sentences
 
