@@ -11,8 +11,9 @@ import time
 import clusters
 from audit_lines import CALLS, MOST_BYTES
 from audit_logs import FAULT, FAULTY, OK, PROGRAM, worked_cases
-from audit_model import printed
+from audit_model import TOLD, printed
 from audit_search import random_lines, text_of
+from audit_streams import MUCH, told_of
 from command_line import LINE, TEXTS, WHOLE, audit
 from follow_model import WATCHED, Followed, judged_as, name_in, why_wrong
 from harness import NO_STREAM, OTHER_ARGUMENTS, ROOT, Ran, fault_of, run, spent
@@ -318,7 +319,7 @@ def watch(path):
 
 
 def large(_program):
-    """A large log takes no more memory than a small one."""
+    """A large log takes no more memory than a small one, and it is told how far it is read."""
     with tempfile.TemporaryDirectory() as folder:
         log = f"{folder}/log"
         with open(log, "w", encoding="ascii") as file:
@@ -326,3 +327,7 @@ def large(_program):
         it = spent([PROGRAM, "--follow", "2000", log], 60, 2**30)
         is_so = it.status == OK and it.memory <= MOST_MEMORY
         yield f"{LARGE} lines", None if is_so else f"{it}, where {MOST_MEMORY} KiB are the most"
+    told = "".join(told_of(TOLD, 64, end) for end in ("", "; judging"))
+    said = b"audit ok lines 64 reads 64 commits 0 asks 0 reports 0 refused 0 early 0\n"
+    ran = run([PROGRAM, "--follow", "1", "--progress"], MUCH, 60)
+    yield "how far it is read", fault_of(ran, Ran(OK, said, told.encode()))

@@ -101,7 +101,8 @@ def rows_of(given, member):
 
 def asked_of(words):
     """What is asked for, and how far lines may be behind."""
-    parts = [part for word in words for part in word.split("=", 1)]
+    parts = (it.split("=", 1) if it.startswith("--") else [it] for it in words)
+    parts = [part for its in parts for part in its]
     at = parts.index("--follow")
     return options_of([*parts[:at], *parts[at + 2:]]), int(parts[at + 1])
 
