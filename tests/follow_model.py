@@ -123,6 +123,9 @@ def why_wrong(given, words, ran, most_early=0):
     may be missing.
     """
     log, said = Followed(given, words), ran.out.decode().split("\n")[:-1]
+    for case in log.cases if most_early else ():
+        # What was settled may be later than where a line begins.
+        case.behind = 0
     names = [name_in(it) for it in map(FAULT.match, ran.out.split(b"\n")) if it]
     for name, line in zip(names, said):
         case, *it = log.told.get(name, [None])

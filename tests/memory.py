@@ -234,11 +234,11 @@ def audited(_program):
         for name, words, given, step in audits():
             audit = [AUDIT, *words]
             ended = exactly(run(audit, given))
-            if "--follow" in words:
-                # What was told before is told.
-                starved = starved._replace(out=None, err=None)
+            # What a watch told before it is refused is told.
+            left = {"out": None, "err": None} if "--follow" in words else {}
+            short = starved._replace(**left)
             for goes_on in (False, True):
-                for it in swept(audit, preloaded, given, starved, ended, goes_on, step, ()):
+                for it in swept(audit, preloaded, given, short, ended, goes_on, step, ()):
                     yield f"{name}, {'from ' if goes_on else ''}allocation {it.number}", it.fault
 
 
