@@ -389,11 +389,16 @@ class Log:
         groups = (self.most(at, found) for at in range(len(owners_of(self.lines[0], self.options))))
         return [self.total(), said, *(line for lines in groups for line in lines)]
 
+    def ranking(self, _at, _found):
+        """The lines whose order ranks groups with as many faults."""
+        return self.lines
+
     def most(self, at, found):
         """A line for each of the ten clients, keys or shown texts with most faults, by how many."""
         owner = lambda line: owners_of(line, self.options)[at]
         first = [(it[0], None) for it in [owner(self.lines[0])]]
-        numbers = {it: at for at, it in enumerate(dict.fromkeys([*first, *map(owner, self.lines)]))}
+        ranked = dict.fromkeys([*first, *map(owner, self.ranking(at, found))])
+        numbers = {it: at for at, it in enumerate(ranked)}
         of = defaultdict(list)
         for case, fault, k in found:
             of[owner(case.lines[k])].append(fault)

@@ -76,6 +76,10 @@ class Followed(Log):
             "follow": self.behind, "margin": asked.margin, "by_key": asked.key is not None,
             "members": members}})
 
+    def ranking(self, at, found):
+        """Of keys and shown texts nothing is kept but those of faults, as they are told."""
+        return [case.lines[k] for case, _, k in found] if at else self.lines
+
     def ended(self, said, first):
         """How the program ends that told these lines, and this fault first, if any."""
         said = [*said, *([] if self.is_empty else self.totals() if self.told else self.head())]
@@ -134,8 +138,8 @@ def why_wrong(given, words, ran, most_early=0):
     missing = set(log.told) - set(names) if log.is_listed else set()
     if len(set(names)) < len(names) or missing and not most_early:
         return f"it tells {sorted(names)} of {sorted(log.told)}"
-    for name in missing:
-        del log.told[name]
+    if log.is_listed:
+        log.told = {name: log.told[name] for name in names}
     early = EARLY.search(ran.out)
     log.early = int(early[1]) if early else 0
     if log.early > most_early:
@@ -143,7 +147,17 @@ def why_wrong(given, words, ran, most_early=0):
     # With totals alone standard error tells which fault was the first.
     first = names[0] if names else tuple(ran.err.decode().split()[-2:])
     is_known = names or not log.told or first in [(it, str(number)) for it, number in log.told]
-    return fault_of(ran, log.ended(said[:len(names)], first)) if is_known else f"{first} is told"
+    if not is_known:
+        return f"{first} is told"
+    ended = log.ended(said[:len(names)], first)
+    if log.refused and not log.told and ran.err + ended.err.splitlines(True)[-1] == ended.err:
+        # The last line of all may be refused as it ends.
+        ran = ran._replace(err=ended.err)
+    if not log.is_listed:
+        # In which order faults were told it is not said.
+        ran, ended = (it._replace(out=sorted(it.out.splitlines())) for it in (ran, ended))
+        return None if ran == ended else f"{ran} in place of {ended}"
+    return fault_of(ran, ended)
 
 
 def name_in(match):
