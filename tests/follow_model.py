@@ -82,7 +82,7 @@ class Followed(Log):
 
     def ended(self, said, first):
         """How the program ends that told these lines, and this fault first, if any."""
-        said = [*said, *([] if self.is_empty else self.totals() if self.told else self.head())]
+        said = [*said, *(self.totals() if self.told else self.head())]
         refused = [f"logs refused: {it}" for it in self.refused]
         last = [f"logs refused: {refusal(0, 'Empty')}"] if self.is_empty else refused[-1:]
         last = [f"audit fault: {first[0]} {first[1]}"] if self.told else last
