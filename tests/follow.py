@@ -10,12 +10,12 @@ import time
 
 import clusters
 from audit_lines import CALLS, MOST_BYTES
-from audit_logs import FAULT, FAULTY, OK, PROGRAM, worked_cases
+from audit_logs import FAULTY, OK, PROGRAM, worked_cases
 from audit_model import TOLD, printed
 from audit_search import random_lines, text_of
 from audit_streams import MUCH, told_of
 from command_line import LINE, TEXTS, WHOLE, audit
-from follow_model import WATCHED, Followed, judged_as, name_in, why_wrong
+from follow_model import WATCHED, Followed, judged_as, why_wrong
 from harness import NO_STREAM, OTHER_ARGUMENTS, ROOT, Ran, fault_of, run, spent
 from reader import HIGHEST
 from shapes import repeated, text_of_lines, timed
@@ -236,9 +236,9 @@ def told_soon(_program):
             # It ends more than 5 after it began, so nothing that comes began before.
             growing.write(timed("read", at, 10 * at + 10, 10 * at + 16, "b"))
             begun = time.monotonic()
-            name = name_in(FAULT.match(growing.told()))
+            wanted = b'{"fault":"Order","at":{"line":%d,' % (at + 2)
+            yield f"fault {at}", began_with(growing.told(), wanted)
             waits.append(time.monotonic() - begun)
-            yield f"fault {at}", None if name == ("Order", at + 2) else f"it tells {name}"
         growing.started.stdin.close()
         yield "what is told", why_wrong(growing.given, words, growing.end())
     # (a busy machine may hold up one of them)
