@@ -16,7 +16,7 @@ from audit_search import random_lines, text_of
 from audit_streams import MUCH, told_of
 from command_line import LINE, TEXTS, WHOLE, audit
 from follow_model import WATCHED, Followed, judged_as, why_wrong
-from harness import NO_STREAM, OTHER_ARGUMENTS, ROOT, Ran, fault_of, run, spent
+from harness import NO_STREAM, ROOT, Ran, fault_of, run, spent
 from reader import HIGHEST
 from shapes import repeated, text_of_lines, timed
 
@@ -296,7 +296,7 @@ def no_output(_program):
 
 def unfit(_program):
     """Words that are refused beside it, and logs of which lines are refused, or all."""
-    wanted = Ran(OTHER_ARGUMENTS, b"", b"fdb_audit: words refused: see --help\n")
+    wanted = audit(None).words_refused()
     for words in (["--complete", "0"], ["--history"], ["--complete=1", "--history", "--json"]):
         for all_words in ([*words, "--follow", "5"], ["--follow=5", *words]):
             yield f"the arguments {all_words}", fault_of(run([PROGRAM, *all_words], LINE), wanted)
