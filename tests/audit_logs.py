@@ -44,12 +44,12 @@ def judged_as(given, words):
 # ---- worked by hand
 
 
-def worked_cases():
-    """The cases of audit_worked.txt: a name, the log, the arguments, and what is printed.
+def worked_cases(file=f"{ROOT}/tests/audit_worked.txt"):
+    """The cases of a file: a name, the log, the arguments, and what is printed.
 
     There, a line `# NAME` stands before a log, a line `=> ARGUMENTS` parts it from what is printed.
     """
-    for case in read(f"{ROOT}/tests/audit_worked.txt").decode().split("\n# "):
+    for case in read(file).decode().split("\n# "):
         name, _, rest = case.removeprefix("# ").partition("\n")
         given, _, rest = f"\n{rest}".partition("\n=>")
         words, _, out = rest.partition("\n")

@@ -190,19 +190,20 @@ class Case:
         drawers = self.others_that_drew(k) if fault == "Twice" else self.drawers(value)
         return [Reason("drawn", drawers[0]) if drawers else Reason("undrawn")]
 
-    def late(self, fault, k):
-        """The first line to end that outdates a call, and how late that is; or None.
+    def outdating(self, fault, k):
+        """The lines that outdate a call and whose ends are known, by these: end, rank and line.
 
         Of lines that ended together those that show a version come first.
         """
         kinds, least = {"Order": (SHOWING, 1), "NotAbove": (CALLS, 0)}.get(fault, ((), 0))
-        ends = [(it.ended, it.kind not in SHOWING, j) for j, it in enumerate(self.lines)
-                if it.kind in kinds and it.value >= self.lines[k].value + least
-                and it.ended is not None]
-        if not ends or min(ends)[2] == k:
-            return None
-        end, _, j = min(ends)
-        return j, max(0, self.lines[k].began - end)
+        return sorted((it.ended, it.kind not in SHOWING, j) for j, it in enumerate(self.lines)
+                      if it.kind in kinds and it.value >= self.lines[k].value + least
+                      and it.ended is not None)
+
+    def late(self, fault, k):
+        """The first line to end that outdates a call, and how late that is; or None."""
+        end, _, j = next(iter(self.outdating(fault, k)), (None, None, k))
+        return None if j == k else (j, max(0, self.lines[k].began - end))
 
     # ---- what is said of it, in sentences
 
@@ -388,11 +389,16 @@ class Log:
         groups = (self.most(at, found) for at in range(len(owners_of(self.lines[0], self.options))))
         return [self.total(), said, *(line for lines in groups for line in lines)]
 
+    def ranking(self, _at, _found):
+        """The lines whose order ranks groups with as many faults."""
+        return self.lines
+
     def most(self, at, found):
         """A line for each of the ten clients, keys or shown texts with most faults, by how many."""
         owner = lambda line: owners_of(line, self.options)[at]
         first = [(it[0], None) for it in [owner(self.lines[0])]]
-        numbers = {it: at for at, it in enumerate(dict.fromkeys([*first, *map(owner, self.lines)]))}
+        ranked = dict.fromkeys([*first, *map(owner, self.ranking(at, found))])
+        numbers = {it: at for at, it in enumerate(ranked)}
         of = defaultdict(list)
         for case, fault, k in found:
             of[owner(case.lines[k])].append(fault)

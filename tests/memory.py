@@ -218,6 +218,9 @@ def audits():
     yield "JSON by key", ["--json", "--history", "--key", "client"], large_log(400)[0], further
     yield "totals", ["--summary"], large_log(400)[0], further
     yield "a chain of learns", ["--history"], learnt_log(60), further
+    keys, many = read(f"{EXAMPLES}/logs/keys.jsonl"), large_log(400)[0]
+    yield "a log that grows", ["--follow", "9", "--key", "key", "--all"], keys + b"{}\n", each
+    yield "a larger one", ["--follow", "9", "--json", "--show", "note"], many, further
 
 
 def audited(_program):
@@ -231,8 +234,11 @@ def audited(_program):
         for name, words, given, step in audits():
             audit = [AUDIT, *words]
             ended = exactly(run(audit, given))
+            # What a watch told before it is refused is told.
+            left = {"out": None, "err": None} if "--follow" in words else {}
+            short = starved._replace(**left)
             for goes_on in (False, True):
-                for it in swept(audit, preloaded, given, starved, ended, goes_on, step, ()):
+                for it in swept(audit, preloaded, given, short, ended, goes_on, step, ()):
                     yield f"{name}, {'from ' if goes_on else ''}allocation {it.number}", it.fault
 
 

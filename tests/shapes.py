@@ -43,6 +43,20 @@ def overlapping(draw, count=LINES, names=64):
         yield timed("read" if is_read else "commit", got[at], began, moment, f"c{client}")
 
 
+def repeated(count, part=20_000):
+    """The text of so many such lines, of which a part comes again and again, later and above."""
+    lines = list(overlapping(random.Random(1), part))
+    far = max(line["ended"] for line in lines) + 1
+    above = max(line.get("commit", 0) for line in lines)
+    rows = [(line["client"], *next((it, line[it]) for it in ("read", "commit") if it in line),
+             line["began"], line["ended"]) for line in lines]
+    for at in range(0, count, part):
+        by, up = at // part * far, at // part * above
+        yield "".join(f'{{"client":"{client}","{kind}":{version + up},"began":{began + by},'
+                      f'"ended":{ended + by}}}\n'
+                      for client, kind, version, began, ended in rows[:count - at])
+
+
 def any_calls(draw):
     """Calls of any kind, with few versions and times: most lines have faults."""
     for at in range(LINES):

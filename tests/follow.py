@@ -1,0 +1,335 @@
+"""What fdb_audit tells with --follow of logs that grow: in pieces, slowly, out of order, large."""
+import json
+import os
+import queue
+import random
+import subprocess
+import tempfile
+import threading
+import time
+
+import clusters
+from audit_lines import CALLS, MOST_BYTES
+from audit_logs import FAULTY, OK, PROGRAM, worked_cases
+from audit_model import TOLD, printed
+from audit_search import random_lines, text_of
+from audit_streams import MUCH, told_of
+from command_line import LINE, TEXTS, WHOLE, audit
+from follow_model import WATCHED, Followed, judged_as, why_wrong
+from harness import NO_STREAM, ROOT, Ran, fault_of, run, spent
+from reader import HIGHEST
+from shapes import repeated, text_of_lines, timed
+
+WORKED = f"{ROOT}/tests/follow_worked.txt"
+# How many random logs, and how many simulated clusters of each kind.
+RANDOM, SEEDS = 600, 2
+# Seconds between two pieces, and how soon a fault is told.
+PAUSE, SOON = 0.0015, 1
+# The lines of a large log, and the most memory that it may take, in KiB.
+LARGE, MOST_MEMORY = 1_000_000, 30_000_000 // 1024
+# What is asked for besides, in turn.
+ASKED = (["--json"], ["--json"], [], ["--all"], ["--json", "--summary"], ["--summary"])
+# Lines that are refused.
+NO_LINES = (
+    b"", b"{", b"nil", b"[1]", b"{}", b'{"client":"a","read":1}', b'{"client":"a","learn":"a"}',
+    b'{"client":"a","learn":"a","began":1,"ended":2}', b'{"read":1,"began":3,"ended":2}',
+    b'{"client":"a","read":1,"commit":1,"began":1,"ended":2}', b'{"read":-1,"began":1,"ended":2}',
+    b'{"client":null,"read":9,"began":1,"ended":2}', b'{"commit":9,"ended":2}', b"\xff\r",
+)
+STALE = (timed("commit", 5, 0, 10, "a"), timed("read", 1, 20, 30, "b"))
+
+
+def worked(_program):
+    """The program tells of a whole log what a hand calculation gives."""
+    for name, given, words, out in worked_cases(WORKED):
+        wanted = judged_as(given, words)._replace(out=out)
+        yield name, fault_of(run([PROGRAM, *words], given), wanted)
+
+
+def worked_by_model(_program):
+    """So does the model."""
+    for name, given, words, out in worked_cases(WORKED):
+        ran = judged_as(given, words)
+        yield name, fault_of(ran, ran._replace(out=out)) or why_wrong(given, words, ran)
+
+
+# ---- logs that come in pieces
+
+
+def grown(dice):
+    """Lines with times of several random logs, the later ones later and mostly above."""
+    lines, now, version = [], dice.choice((0, 0, 0, 2**63, HIGHEST - 2_000)), 0
+    for _ in range(dice.randint(1, 12)):
+        drawn = random_lines(dice)
+        while "began" not in drawn[0]:
+            drawn = random_lines(dice)
+        for line in drawn:
+            kind = next(it for it in CALLS if it in line)
+            ended = None if line["ended"] is None else line["ended"] + now
+            lines.append({**line, kind: line[kind] + version, "began": line["began"] + now,
+                          "ended": ended})
+        now, version = now + dice.randint(0, 12), version + dice.choice((0, 0, 1, 4))
+    return lines
+
+
+def disordered(lines, by, dice):
+    """Lines in the order of their ends, but for so much."""
+    end = lambda line: line["began"] if line["ended"] is None else line["ended"]
+    return sorted(lines, key=lambda line: end(line) + dice.randint(0, by))
+
+
+def behind_ends(lines):
+    """How far each line begins behind the newest end above it."""
+    newest = 0
+    for line in lines:
+        yield max(0, newest - line["began"])
+        newest = max(newest, line["ended"] or 0)
+
+
+def random_words(dice):
+    """Arguments that only say what is judged and what is printed beside it."""
+    words = ["--key", dice.choice(("key", "client"))] if dice.random() < 0.3 else []
+    words += ["--show", dice.choice(("note", "none,note"))] * (dice.random() < 0.3)
+    return words + ["--margin", str(dice.choice((0, 1, 2, 5)))] * (dice.random() < 0.5)
+
+
+def with_refused(given, dice):
+    """A text with lines in between that are refused, and perhaps half of one at the end."""
+    lines = given.splitlines(keepends=True)
+    for _ in range(dice.randint(1, 3)):
+        lines.insert(dice.randint(0, len(lines) - 1), dice.choice(NO_LINES) + b"\n")
+    half = dice.random() < 0.3 and lines[-1].endswith(b"\n")
+    return b"".join(lines) + LINE[:dice.randrange(1, len(LINE) - 1)] * half
+
+
+def fed(words, given, dice):
+    """Runs the program on a text that comes in pieces, between which it may settle."""
+    cuts = sorted(dice.randint(0, len(given)) for _ in range(dice.randint(0, 4)))
+    with tempfile.TemporaryFile() as out, tempfile.TemporaryFile() as err:
+        with subprocess.Popen(
+            [PROGRAM, *words], bufsize=0, stdin=subprocess.PIPE, stdout=out, stderr=err
+        ) as started:
+            for at, to in zip([0, *cuts], [*cuts, len(given)]):
+                started.stdin.write(given[at:to])
+                time.sleep(PAUSE)
+        for it in (out, err):
+            it.seek(0)
+        return Ran(started.returncode, out.read(), err.read())
+
+
+def random_logs(_program):
+    """Of random logs in pieces that is told which the audit of all lines tells, each once.
+
+    Of every fifth log some lines are refused; of every fifth some may begin before what is settled,
+    and nothing is told that the audit would not tell.
+    """
+    for number in range(RANDOM):
+        dice, is_spoilt, is_early = random.Random(f"grown {number}"), *(
+            number % 5 == it for it in (3, 4))
+        lines = disordered(grown(dice), 30 if is_early else dice.choice((0, 0, 2, 10)), dice)
+        most = max(behind_ends(lines))
+        behind = dice.choice((most, most, most + 1, 2 * most + 3, HIGHEST // 2))
+        behind = dice.randint(0, most // 2) if is_early else behind
+        words = [*random_words(dice), *ASKED[number % (4 if is_early else 6)]]
+        words += ["--follow", str(behind)]
+        given = text_of(lines, dice)
+        given = with_refused(given, dice) if is_spoilt else given
+        ran = fed(words, given, dice)
+        fault = why_wrong(given, words, ran, sum(it > behind for it in behind_ends(lines)))
+        if not is_spoilt and not is_early and "--json" in words and "--summary" not in words:
+            fault = fault or beside_audit(given, words, ran)
+        yield f"log {number}", fault and f"{fault}, of {given} with {words}"
+
+
+def clustered(_program):
+    """So it is of simulated clusters, with stale reads and without."""
+    for kind, setting in clusters.KINDS.items():
+        for seed, made in enumerate((clusters.with_stale_reads, clusters.simulated) * SEEDS):
+            dice = random.Random(f"{kind} {seed}")
+            lines = disordered(made(seed, setting)[0], 1_000, dice)
+            words = ["--margin", str(clusters.margin_of(setting)), "--json",
+                     "--follow", str(max(behind_ends(lines)))]
+            given = text_of(lines)
+            ran = fed(words, given, dice)
+            fault = why_wrong(given, words, ran) or beside_audit(given, words, ran)
+            yield f"{kind}, seed {seed}", fault
+
+
+def beside_audit(given, words, ran):
+    """How the faults and groups differ from those that the audit of all lines tells, or None."""
+    at = words.index("--follow")
+    audited = run([PROGRAM, *words[:at], *words[at + 2:]], given)
+    (told, totals), (known, all_totals) = map(objects_of, (ran.out, audited.out))
+    watched = [it for it in known if it["fault"] in WATCHED]
+    told, wanted = (sorted(printed([it["fault"], it["at"]]) for it in its)
+                    for its in (told, watched))
+    if told != wanted:
+        return f"it tells {told}, and the audit {wanted}"
+    # (groups with as many faults may stand in another order)
+    totals, all_totals = (sorted(map(printed, its[1:])) for its in (totals, all_totals))
+    is_same = len(watched) < len(known) or totals == all_totals
+    return None if is_same else f"{totals} in place of {all_totals}"
+
+
+def objects_of(out):
+    """The objects of faults, and the others."""
+    objects = list(map(json.loads, out.splitlines()))
+    is_fault = lambda it: type(it.get("fault")) is str
+    return list(filter(is_fault, objects)), [it for it in objects if not is_fault(it)]
+
+
+# ---- while the log grows
+
+
+class Growing:
+    """The program while its log grows."""
+
+    def __init__(self, *words, out=subprocess.PIPE):
+        self.started = subprocess.Popen([PROGRAM, *words], bufsize=0, stdin=subprocess.PIPE,
+                                        stdout=out, stderr=subprocess.PIPE)
+        self.said, self.given, self.out = queue.Queue(), b"", b""
+        self.listener = threading.Thread(target=self.listen, daemon=True)
+        self.listener.start()
+
+    def listen(self):
+        for line in self.started.stdout or ():
+            self.said.put(line)
+
+    def write(self, *lines):
+        text = text_of_lines(lines).encode()
+        self.given += text
+        self.started.stdin.write(text)
+
+    def told(self):
+        """The next line that it tells, or nothing where none comes in time."""
+        try:
+            line = self.said.get(timeout=20)
+        except queue.Empty:
+            line = b""
+        self.out += line
+        return line
+
+    def end(self):
+        """How it ends once the log ends, or where it ends by itself, and all that it told."""
+        try:
+            self.started.wait(20)
+        except subprocess.TimeoutExpired:
+            self.started.kill()
+        self.listener.join(20)
+        self.out += b"".join(self.said.get() for _ in range(self.said.qsize()))
+        return Ran(self.started.wait(), self.out, self.started.stderr.read())
+
+    def __enter__(self):
+        return self
+
+    def __exit__(self, *_):
+        self.started.kill()
+        self.started.wait()
+
+
+def told_soon(_program):
+    """A fault is told as soon as no line that comes can change it, while the log goes on."""
+    words, waits = ["--follow", "5", "--json"], []
+    with Growing(*words) as growing:
+        growing.write(timed("commit", 9, 0, 1, "a"))
+        for at in range(5):
+            # It ends more than 5 after it began, so nothing that comes began before.
+            growing.write(timed("read", at, 10 * at + 10, 10 * at + 16, "b"))
+            begun = time.monotonic()
+            wanted = b'{"fault":"Order","at":{"line":%d,' % (at + 2)
+            yield f"fault {at}", began_with(growing.told(), wanted)
+            waits.append(time.monotonic() - begun)
+        growing.started.stdin.close()
+        yield "what is told", why_wrong(growing.given, words, growing.end())
+    # (a busy machine may hold up one of them)
+    yield "each within a second", None if sorted(waits)[2] < SOON else f"they took {waits}"
+
+
+def too_early(_program):
+    """A line that begins before what was settled is counted; it is judged, if not too late."""
+    words = ["--follow", "5"]
+    with Growing(*words) as growing:
+        growing.write(*STALE, timed("commit", 6, 90, 110, "c"))
+        yield "settled up to 105", began_with(growing.told(), b"audit fault: Order 2: ")
+        growing.write(timed("read", 2, 101, 102, "d"))
+        yield "4 before, and judged", began_with(growing.told(), b"audit fault: Order 4: ")
+        # One is not judged, and nothing of it is told; one is known to others.
+        growing.write(timed("read", 3, 50, 60, "e"), timed("commit", 9, 40, 41, "f"),
+                      timed("read", 8, 120, 130, "g"))
+        last = growing.told()
+        yield "55 and 65 before", began_with(last, b"audit fault: Order 7: ")
+        case, *it = Followed(growing.given, words).told["Order", 7]
+        yield "for a true reason", None if last.decode()[:-1] in case.texts(*it) else f"{last}"
+        growing.started.stdin.close()
+        wanted = Ran(FAULTY, growing.out, b"fdb_audit: audit fault: Order 2\n")
+        yield "nothing more is told", fault_of(growing.end(), wanted)
+    with Growing("--all", *words) as growing:
+        growing.write(*STALE)
+        growing.told()
+        growing.write(timed("read", 5, 25, 40, "a"), timed("read", 5, 24, 25, "a"))
+        growing.started.stdin.close()
+        total = b"audit total lines 4 reads 3 commits 1 asks 0 reports 0 refused 0 early 1\n"
+        yield "one is counted", began_with(growing.end().out.partition(b"\n")[2], total)
+
+
+def began_with(out, wanted):
+    return None if out.startswith(wanted) else f"{out} in place of {wanted}"
+
+
+# ---- what ends it
+
+
+def no_output(_program):
+    """Where its output is closed it ends at once, while its log goes on; and so with no fault."""
+    failed = Ran(NO_STREAM, b"", b"fdb_audit: writing failed\n")
+    reader, writer = os.pipe()
+    os.close(reader)
+    with open("/dev/full", "wb") as full:
+        for name, out in (("nobody reads it", writer), ("it is full", full)):
+            with Growing("--follow", "0", out=out) as growing:
+                growing.write(*STALE)
+                yield f"a fault, and {name}", fault_of(growing.end(), failed)
+            ran = run([PROGRAM, "--follow", "0"], LINE, stdout=out)
+            yield f"no fault, and {name}", fault_of(ran, failed)
+    os.close(writer)
+
+
+def unfit(_program):
+    """Words that are refused beside it, and logs of which lines are refused, or all."""
+    wanted = audit(None).words_refused()
+    for words in (["--complete", "0"], ["--history"], ["--complete=1", "--history", "--json"]):
+        for all_words in ([*words, "--follow", "5"], ["--follow=5", *words]):
+            yield f"the arguments {all_words}", fault_of(run([PROGRAM, *all_words], LINE), wanted)
+    long, stale = b"x" * (MOST_BYTES + 1), text_of_lines(STALE).encode()
+    for name, given in (
+        ("no byte", b""), ("one line feed", b"\n"), ("no JSON", b"{\n"), ("half a line", LINE[:9]),
+        ("a line that is too long", long), ("a long one below a line", LINE + long + b"\n"),
+        ("two long ones, and a fault", long + b"\n" + stale + long),
+        ("each refused line", stale + b"\n".join(NO_LINES)),
+        ("no times", b'{"client":"b","read":1}\n' + LINE),
+    ):
+        for words in (["--follow", "0"], ["--json", "--follow", "9"], ["--follow=3", "--summary"]):
+            yield f"{name}, {words}", why_wrong(given, words, run([PROGRAM, *words], given))
+
+
+def watch(path):
+    """The program with what may be asked for beside --follow."""
+    return audit(path)._replace(
+        flags=("--all", "--summary", "--json", "--progress"),
+        numbers={"--follow": WHOLE, "--margin": WHOLE, "--key": TEXTS}, ends=judged_as,
+    )
+
+
+def large(_program):
+    """A large log takes no more memory than a small one, and it is told how far it is read."""
+    with tempfile.TemporaryDirectory() as folder:
+        log = f"{folder}/log"
+        with open(log, "w", encoding="ascii") as file:
+            file.writelines(repeated(LARGE))
+        it = spent([PROGRAM, "--follow", "2000", log], 60, 2**30)
+        is_so = it.status == OK and it.memory <= MOST_MEMORY
+        yield f"{LARGE} lines", None if is_so else f"{it}, where {MOST_MEMORY} KiB are the most"
+    told = "".join(told_of(TOLD, 64, end) for end in ("", "; judging"))
+    said = b"audit ok lines 64 reads 64 commits 0 asks 0 reports 0 refused 0 early 0\n"
+    ran = run([PROGRAM, "--follow", "1", "--progress"], MUCH, 60)
+    yield "how far it is read", fault_of(ran, Ran(OK, said, told.encode()))

@@ -1,0 +1,166 @@
+"""What fdb_audit has to tell with --follow of a log that grows, by the audit's model."""
+import re
+from collections import defaultdict
+
+import audit_logs
+from audit_lines import CALLS, line_of, refusal
+from audit_logs import FAULT, FAULTY, OK, REFUSED
+from audit_model import Case, Log, options_of, printed
+from harness import Ran, fault_of
+from reader import Refused
+
+# The kinds of faults that are told.
+WATCHED = ("Order", "NotAbove")
+# How many lines began before what was settled, as it is printed.
+EARLY = re.compile(rb'\bearly"?[: ](\d+)')
+
+
+class Grown(Case):
+    """The lines of a log that grows, or of a key, with what is asked of them."""
+
+    def __init__(self, rows, options, at, behind):
+        self.behind, self.told = behind, None
+        super().__init__(rows, options, at)
+
+    def lates(self, fault, k):
+        """How late a call may be said to be: exactly; or, where that is more than lines may be
+        behind, by any line that outdates it and had ended so long before it began."""
+        exact, began = super().late(fault, k), self.lines[k].began
+        yield exact
+        for end, _, j in self.outdating(fault, k) if exact and exact[1] > self.behind else ():
+            if j != k and began - end > self.behind:
+                yield j, began - end
+
+    def late(self, fault, k):
+        return self.told
+
+    def texts(self, fault, k):
+        """All lines that may be written of a fault."""
+        for self.told in self.lates(fault, k):
+            yield from super().texts(fault, k)
+
+
+class Followed(Log):
+    """What is told of a text that grows, of which lines begin so far behind the newest end."""
+
+    def __init__(self, given, words):
+        self.options, self.behind = asked_of(words)
+        rows, places, refused = list(rows_of(given, self.options.key)), defaultdict(list), []
+        for place, row in enumerate(rows):
+            if type(row) is str:
+                refused.append(refusal(place + 1, row))
+            else:
+                places[row.key].append(place)
+        self.lines, self.refused = [row for row in rows if type(row) is not str], refused
+        self.cases = [Grown(rows, self.options, at, self.behind) for at in places.values()]
+        self.early, self.is_empty = 0, not rows
+        found = [it for it in super().faults() if it[1] in WATCHED]
+        # By kind and number of the line.
+        self.told = {(fault, case.at[k] + 1): (case, fault, k) for case, fault, k in found}
+        self.is_listed = self.options.all or not self.options.totals
+
+    def faults(self):
+        return list(self.told.values())
+
+    def counts(self):
+        kinds = [line.kind for line in self.lines]
+        counts = {"lines": len(kinds), **{f"{it}s": kinds.count(it) for it in CALLS}}
+        return {**counts, "refused": len(self.refused), "early": self.early}
+
+    def total(self):
+        asked = self.options
+        if not asked.json:
+            return super().total()
+        members = [*([] if asked.key is None else [asked.key]), *asked.show]
+        return printed({"total": self.counts(), "arguments": {
+            "follow": self.behind, "margin": asked.margin, "by_key": asked.key is not None,
+            "members": members}})
+
+    def ranking(self, at, found):
+        """Of keys and shown texts nothing is kept but those of faults, as they are told."""
+        return [case.lines[k] for case, _, k in found] if at else self.lines
+
+    def ended(self, said, first):
+        """How the program ends that told these lines, and this fault first, if any."""
+        said = [*said, *(self.totals() if self.told else self.head())]
+        refused = [f"logs refused: {it}" for it in self.refused]
+        last = [f"logs refused: {refusal(0, 'Empty')}"] if self.is_empty else refused[-1:]
+        last = [f"audit fault: {first[0]} {first[1]}"] if self.told else last
+        err = "".join(f"fdb_audit: {it}\n" for it in [*refused, *last])
+        status = FAULTY if self.told else REFUSED if last else OK
+        return Ran(status, "".join(f"{it}\n" for it in said).encode(), err.encode())
+
+
+def rows_of(given, member):
+    """Each line of a text that is read by itself, or why it is refused."""
+    texts, names = given.split(b"\n"), set()
+    for text in texts if texts[-1] else texts[:-1]:
+        try:
+            line = line_of(text, names, True, member)
+            names.add(line.client)
+            yield line
+        except Refused as why:
+            yield str(why)
+
+
+def asked_of(words):
+    """What is asked for, and how far lines may be behind."""
+    parts = (it.split("=", 1) if it.startswith("--") else [it] for it in words)
+    parts = [part for its in parts for part in its]
+    at = parts.index("--follow")
+    return options_of([*parts[:at], *parts[at + 2:]]), int(parts[at + 1])
+
+
+def judged_as(given, words):
+    """How the program ends, where it has one sentence for each fault and tells them by line."""
+    if not any(word.startswith("--follow") for word in words):
+        return audit_logs.judged_as(given, words)
+    log = Followed(given, words)
+    said = [next(case.texts(*it)) for case, *it in log.faults() if log.is_listed]
+    return log.ended(said, next(iter(log.told), None))
+
+
+def why_wrong(given, words, ran, most_early=0):
+    """What is wrong with how a run ended, or None.
+
+    Where lines may have begun before what was settled, at most so many did, and of the faults any
+    may be missing.
+    """
+    log, said = Followed(given, words), ran.out.decode().split("\n")[:-1]
+    for case in log.cases if most_early else ():
+        # What was settled may be later than where a line begins.
+        case.behind = 0
+    names = [name_in(it) for it in map(FAULT.match, ran.out.split(b"\n")) if it]
+    for name, line in zip(names, said):
+        case, *it = log.told.get(name, [None])
+        if case is None or line not in case.texts(*it):
+            return f"{line!r} is not among {case and list(case.texts(*it))}"
+    missing = set(log.told) - set(names) if log.is_listed else set()
+    if len(set(names)) < len(names) or missing and not most_early:
+        return f"it tells {sorted(names)} of {sorted(log.told)}"
+    if log.is_listed:
+        log.told = {name: log.told[name] for name in names}
+    early = EARLY.search(ran.out)
+    log.early = int(early[1]) if early else 0
+    if log.early > most_early:
+        return f"{log.early} lines came early, where {most_early} are the most"
+    # With totals alone standard error tells which fault was the first.
+    first = names[0] if names else tuple(ran.err.decode().split()[-2:])
+    is_known = names or not log.told or first in [(it, str(number)) for it, number in log.told]
+    if not is_known:
+        return f"{first} is told"
+    ended = log.ended(said[:len(names)], first)
+    if log.refused and not log.told and ran.err + ended.err.splitlines(True)[-1] == ended.err:
+        # The last line of all may be refused as it ends.
+        ran = ran._replace(err=ended.err)
+    if not log.is_listed:
+        # In which order faults were told it is not said.
+        ran, ended = (it._replace(out=sorted(it.out.splitlines())) for it in (ran, ended))
+        return None if ran == ended else f"{ran} in place of {ended}"
+    return fault_of(ran, ended)
+
+
+def name_in(match):
+    """The kind of a fault, and the number of its line."""
+    fault, line = b" ".join(it for it in match.groups() if it).decode().split()
+    return fault, int(line)
