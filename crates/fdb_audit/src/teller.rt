@@ -9,11 +9,13 @@ ghost use Rattle.fdb_lines.specs.Reasons.{found_of};
 ghost use Rattle.fdb_log_reader.specs.LineReader.{line_names};
 ghost use Rattle.fdb_log_reader.specs.ReadLine.{SaidLine};
 ghost use Rattle.fdb_log_reader.specs.declared.error.Why.{Why};
-ghost use Rattle.fdb_audit.specs.Following.{arguments_member, counted_words, followed_object, keys_taken};
+ghost use Rattle.fdb_audit.specs.Following.{arguments_member, counted_words, followed_object};
+ghost use Rattle.fdb_audit.specs.Following.{keys_taken};
 ghost use Rattle.fdb_audit.specs.Following.{lines_taken, listed, told_text, total_of};
 ghost use Rattle.fdb_audit.specs.Text.{fault_of, line};
 ghost use Rattle.fdb_audit.specs.private.{shown_in};
-ghost use Rattle.fdb_audit.specs.private.Followed.{arguments_of, counted_of, members_of, AreNumbered, TellsOn};
+ghost use Rattle.fdb_audit.specs.private.Followed.{arguments_of, counted_of, members_of};
+ghost use Rattle.fdb_audit.specs.private.Followed.{AreNumbered, TellsOn};
 
 use crate::arguments::AuditArguments;
 use crate::beside::MemberBeside;
