@@ -67,6 +67,10 @@ pub record IsAsked (arguments : List Text) (asked : AuditArguments) : Type 0 whe
   pub shown : map string_bytes asked.shown.items ≡ members_named (first_of (codes "show") (matches_of command arguments))
   pub progress : asked.progress ≡ is_given (codes "progress") arguments
 
+-- a log is audited as a whole, and not followed as it grows
+abbrev pub IsWhole : List Text → Type 0
+IsWhole arguments = number_named (codes "follow") arguments ≡ None
+
 -- the member that has the keys, if they are asked for
 abbrev pub key_asked : AuditArguments → Option (List ℕ)
 key_asked asked = option_map string_bytes asked.key

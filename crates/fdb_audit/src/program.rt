@@ -1,12 +1,14 @@
 //! The program: its command, and what it prints of a log.
 
 ghost use Rattle.std.specs.Prelude.{◌≡◌, ◌≢◌, ◌++◌, ℕ, [], IfErr, IfOk, List, MatchResult};
-ghost use Rattle.std.specs.Prelude.{◌&&◌, ◌||◌, is_some, MatchOption, None};
+ghost use Rattle.std.specs.Prelude.{◌⊎◌, ◌&&◌, ◌||◌, is_some, map, string_bytes, IsOkAnd};
+ghost use Rattle.std.specs.Prelude.{MatchOption, None};
 ghost use Rattle.std.specs.Thread.{IsSync};
 ghost use Rattle.clap.specs.Words.{Text};
-ghost use Rattle.fdb_audit.specs.Program.{audit, HasRead, HasTaken, IsAsked, Prints, PrintsBy};
+ghost use Rattle.fdb_audit.specs.Program.{audit, HasRead, HasTaken, IsAsked, IsWhole, Prints};
+ghost use Rattle.fdb_audit.specs.Program.{PrintsBy};
 ghost use Rattle.fdb_audit.specs.Watched.{AreAllTaken, AreLeftOut, HasFollowed, IsFollowed};
-ghost use Rattle.fdb_command.specs.Driving.{IsDriven, Stops};
+ghost use Rattle.fdb_command.specs.Driving.{IsBegun, IsDriven, Stops};
 
 use crate::arguments::{AuditArguments, command, members, owned, text, wanted_of};
 use crate::fault::{LogFault, told};
@@ -252,7 +254,7 @@ fn judged<R: Threads + Sync>(
 
 /// Audits the log of the file that the arguments name or else of the input, and writes what is
 /// found to `out`; or writes the help there. Answers the status of the program, as
-/// [`fdb_command::drive`] says.
+/// [`fdb_command::drive`] says. Unless the log is followed, nothing is written where it is refused.
 pub fn drive<R: Files + Clock + Threads + Sync, I: Read, O: Write, E: Write>(
     rt: &R,
     alloc: Global,
@@ -261,8 +263,14 @@ pub fn drive<R: Files + Clock + Threads + Sync, I: Read, O: Write, E: Write>(
     out: &mut O,
     err: &mut E,
 ) -> u8
-    ensures { IsDriven audit I.remaining O.contents arguments
+    ensures driven { IsDriven audit I.remaining O.contents arguments
         input.old input.new out.old out.new err.old err.new result }
+    ensures unwritten { IfOk arguments (λ list. IsWhole (map string_bytes list.items))
+        → (result ≡ 1) ⊎ ((result ≡ 2) ⊎ (result ≡ 3)) → out.new ≡ out.old }
+    ensures begun { IfOk arguments (λ list. IsWhole (map string_bytes list.items))
+        → result ≡ 5 → (out.new ≡ out.old) ⊎ IsOkAnd arguments (λ list.
+        IsBegun audit (map string_bytes list.items) (I.remaining input.old)
+        (O.contents out.old) (O.contents out.new)) }
 {
     let body = move |asked: AuditArguments, intake: AuditIntake| -> Result<
         Answer<LogsRefused, LogFault>,

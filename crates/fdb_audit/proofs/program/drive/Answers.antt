@@ -1,12 +1,15 @@
-use Rattle.std.proofs.Common.{◌≡◌, ◌++◌, ◌∙◌, ℕ, false, List, [], IfSome, MatchResult, None, Option, Some, Ok, Err, Result, ap, is_some, refl, sym}
+use Rattle.std.proofs.Common.{◌≡◌, ◌++◌, ◌∙◌, ℕ, false, List, [], IfSome, MatchResult, None, Option, Some, Ok, Err, Result, ap, is_some, map, refl, string_bytes, subst, sym}
 use Rattle.std.proofs.lemmas.Bool.{false≢true}
+use Rattle.std.proofs.lemmas.Result.{IfOk-weaker}
 use Rattle.clap.specs.Words.{Text}
-use Rattle.fdb_command.specs.Driving.{MayAnswer, Stops}
+use Rattle.fdb_command.specs.Driving.{MayAnswer, RefusesWhole, Stops, TellsNothing}
 use Rattle.fdb_command.specs.declared.fault.Fault.{Fault}
 use Rattle.fdb_command.specs.declared.program.Answer.{Answer}
-use Rattle.fdb_audit.specs.Program.{IsAsked, PrintsBy, RefusesBy, audit}
+use Rattle.fdb_audit.specs.Program.{HasTaken, IsAsked, IsWhole, PrintsBy, RefusesBy, audit}
 use Rattle.fdb_audit.specs.declared.arguments.AuditArguments.{AuditArguments}
 use Rattle.fdb_audit.specs.declared.fault.LogFault.{LogFault}
+use Rattle.fdb_audit.specs.declared.program.AuditIntake.{AuditIntake}
+use Rattle.fdb_audit.specs.declared.program.AuditIntake.TheVariants.{Followed, Whole}
 use Rattle.fdb_audit.specs.declared.refused.LogsRefused.{LogsRefused}
 use Rattle.fdb_audit.proofs.program.drive.Goals as goal
 
@@ -42,3 +45,23 @@ promised arguments asked bytes told (Err fault) is stops = stops
 
 pub drive-requires-clause-promised : goal.drive-requires-clause-promised
 drive-requires-clause-promised g c = λ arguments asked intake bytes told made is has answers. promised arguments asked bytes told made is (answers arguments bytes told is has)
+
+-- of a log that is not followed nothing is told before its end, and it is refused whole
+nothing_told : (asked : AuditArguments) (intake : AuditIntake) (bytes told : List ℕ) → asked.follow ≡ None → HasTaken asked intake bytes told → told ≡ []
+nothing_told asked (Whole reader) bytes told whole taken = taken.2
+nothing_told asked (Followed follower) bytes told whole taken = absurd (not_both taken.0 (sym taken.1 ∙ whole))
+
+tells_nothing : (arguments : List Text) → IsWhole arguments → TellsNothing audit arguments
+tells_nothing arguments whole = λ asked intake bytes told is taken. nothing_told asked intake bytes told (is.follow ∙ whole) taken
+
+refuses_whole : (arguments : List Text) → IsWhole arguments → RefusesWhole audit arguments
+refuses_whole arguments whole = λ bytes text found error prints.
+    not_both error (subst (λ follow. PrintsBy follow prints.0 bytes text found (Some error)) (prints.1.follow ∙ whole) prints.2).1
+
+pub returns-clause-unwritten : goal.returns-clause-unwritten
+returns-clause-unwritten g c = λ plain.
+    c.drive.ensures.unwritten (IfOk-weaker c.args.arguments _ _ (λ list whole. (tells_nothing (map string_bytes list.items) whole, refuses_whole (map string_bytes list.items) whole)) plain)
+
+pub returns-clause-begun : goal.returns-clause-begun
+returns-clause-begun g c = λ plain.
+    c.drive.ensures.begun (IfOk-weaker c.args.arguments _ _ (λ list whole. tells_nothing (map string_bytes list.items) whole) plain)
