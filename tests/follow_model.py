@@ -133,7 +133,8 @@ def why_wrong(given, words, ran, most_early=0):
     names = [name_in(it) for it in map(FAULT.match, ran.out.split(b"\n")) if it]
     for name, line in zip(names, said):
         case, *it = log.told.get(name, [None])
-        if case is None or line not in case.texts(*it):
+        is_so = case and line in case.texts(*it)
+        if not is_so and not (most_early and was_told(given, words, name, line)):
             return f"{line!r} is not among {case and list(case.texts(*it))}"
     missing = set(log.told) - set(names) if log.is_listed else set()
     if len(set(names)) < len(names) or missing and not most_early:
@@ -158,6 +159,19 @@ def why_wrong(given, words, ran, most_early=0):
         ran, ended = (it._replace(out=sorted(it.out.splitlines())) for it in (ran, ended))
         return None if ran == ended else f"{ran} in place of {ended}"
     return fault_of(ran, ended)
+
+
+def was_told(given, words, name, line):
+    """Whether a line may be written of a fault before more comes, which may begin too early."""
+    rows = given.splitlines(keepends=True)
+    for count in range(name[1], len(rows)):
+        log = Followed(b"".join(rows[:count]), words)
+        for it in log.cases:
+            it.behind = 0
+        case, *it = log.told.get(name, [None])
+        if case and line in case.texts(*it):
+            return True
+    return False
 
 
 def name_in(match):
