@@ -1,6 +1,6 @@
 /* What calls from C cost, in nanoseconds of processor time: the least of some runs; and what a chain
  * takes whose proxies process all, as it goes on: kilobytes, and the processor time of the longest single ask.
- *     cc -O2 -Iinclude bench/from_c.c crates/fdb_c/out/libfdb_c.a crates/fdb_c/out/liblibc_c.a */
+ *     cc -O2 -Iinclude bench/from_c.c crates/fdb_c/out/libfdb_read_version.a crates/fdb_c/out/liblibc_c.a */
 #define _POSIX_C_SOURCE 200809L
 #include "fdb_read_version.h"
 #include <inttypes.h>

@@ -2,7 +2,8 @@
 
 Beside the README.md of each system a script says how its servers are started, and how a client of
 them reads and commits. This runs them in a folder, logs each call that is answered, with its times,
-and stops them; then it audits the log, and compares that with what README.md says.
+and stops them, while a watch is given each call as it is logged; then it audits the log, and
+compares both with what README.md says.
 """
 import collections
 import contextlib
@@ -120,8 +121,32 @@ def free_ports(count):
     return free
 
 
-def run_client(client, name, log, end):
-    """Reads, or reads and commits, and logs the calls that are answered."""
+class Watch:
+    """An audit that follows the calls while the clients run."""
+
+    def __init__(self, folder):
+        # Where it is not built yet, this builds it.
+        subprocess.run([AUDIT, "--help"], stdout=subprocess.DEVNULL, check=True)
+        reader, self.calls = os.pipe()
+        self.said = f"{folder}/told"
+        with open(self.said, "w") as out:
+            words = [AUDIT, "--follow", str(round(SECONDS * 1_000_000 / 8)), "--json"]
+            self.started = subprocess.Popen(words, stdin=reader, stdout=out,
+                                            stderr=subprocess.DEVNULL)
+        os.close(reader)
+
+    def told(self):
+        """The objects that it has told."""
+        with open(self.said) as said:
+            return [json.loads(line) for line in said if line.endswith("\n")]
+
+    def end(self):
+        os.close(self.calls)
+        self.started.wait(20)
+
+
+def run_client(client, name, log, calls, end):
+    """Reads, or reads and commits, and logs the calls that are answered, to a watch too."""
     signal.signal(signal.SIGINT, signal.SIG_IGN)
     dice = random.Random(name)
     with open(log, "w") as out:
@@ -135,37 +160,52 @@ def run_client(client, name, log, end):
                 time.sleep(0.05)
                 continue
             line = {"client": name, call: version, "began": began, "ended": ended}
-            out.write(json.dumps({**line, "node": client.node}) + "\n")
+            line = json.dumps({**line, "node": client.node}) + "\n"
+            out.write(line)
+            # (so short a line is written as one)
+            os.write(calls, line.encode())
 
 
 def run_clients(system, folder):
-    """Runs them side by side, each a process of its own, and gives the log of all."""
+    """Runs them side by side, each a process of its own, and gives the log of all, how many faults
+    the watch had told when they ended, and all that it told."""
     logs = [f"{folder}/{name}.jsonl" for name in CLIENTS]
     clients = [system.client(name, ALL_RIGHT or name != READER) for name in CLIENTS]
+    watch = Watch(folder)
     end = time.monotonic() + SECONDS
     run = multiprocessing.get_context("fork").Process
-    running = [run(target=run_client, args=(*it, end)) for it in zip(clients, CLIENTS, logs)]
+    given = zip(clients, CLIENTS, logs, [watch.calls] * len(CLIENTS))
+    running = [run(target=run_client, args=(*it, end)) for it in given]
     try:
         for it in running:
             it.start()
         system.meanwhile(end)
+        time.sleep(max(0, end - time.monotonic()))
+        soon = len(watch.told())
         for it in running:
             it.join()
     finally:
         for it in running:
             if it.pid:
                 it.kill()
+        watch.end()
     if any(it.exitcode for it in running):
         sys.exit("a client failed")
     with open(f"{folder}/log.jsonl", "w") as out:
         for it in logs:
             with open(it) as log:
                 shutil.copyfileobj(log, out)
-    return out.name
+    return out.name, soon, watch.told()
 
 
-def is_as_said(log):
-    """Audits a log, prints what comes of it, and gives whether README.md says that."""
+def place_of(fault):
+    """A fault by the call at which it stands; the watch read the lines in another order."""
+    at = fault["at"]
+    return fault["fault"], at["client"], at["began"]
+
+
+def is_as_said(log, soon, told):
+    """Audits a log, prints what comes of it and of a watch, and gives if README.md says that."""
     with open(log) as it:
         lines = [json.loads(line) for line in it]
     reads = collections.Counter(it["client"] for it in lines if "read" in it)
@@ -173,8 +213,8 @@ def is_as_said(log):
     ran = subprocess.run([AUDIT, log, "--all"], stdout=subprocess.PIPE)
     if ran.returncode not in (0, 4):
         return False
-    told = ran.stdout.decode().splitlines()
-    print(*[it for it in told if " total " not in it][:2], sep="\n")
+    sentences = ran.stdout.decode().splitlines()
+    print(*[it for it in sentences if " total " not in it][:2], sep="\n")
     with open(os.path.join(os.path.dirname(log), "said"), "w+") as said:
         subprocess.run([AUDIT, log, "--json"], stdout=said, stderr=subprocess.DEVNULL)
         said.seek(0)
@@ -184,7 +224,13 @@ def is_as_said(log):
     others = f"{sum(stale.values())} of {sum(reads.values())} by the others"
     print(f"stale reads: {by} of {of} by client {READER}, {others}")
     compared = 0 < of and 0 < sum(reads.values()) < len(lines) - of
-    return compared and len(faults) == by and (by == 0) == ALL_RIGHT
+    watched = [it for it in told if "fault" in it and "at" in it]
+    print(f"told while they ran: {soon} of {len(watched)}")
+    early = sum(it["total"]["early"] for it in told if "total" in it)
+    places, all = ({place_of(it) for it in its} for its in (watched, faults))
+    # What comes later than the watch was told may not be judged.
+    is_watched = places <= all and (early or places == all) and (soon > 0 or by < 10)
+    return compared and is_watched and len(faults) == by and (by == 0) == ALL_RIGHT
 
 
 def main(start, about):
@@ -203,8 +249,8 @@ def main(start, about):
             system = start(servers)
             way = system.RIGHT if ALL_RIGHT else system.WRONG
             print(f"{folder}: eight clients run for {SECONDS:g} s; {way}", flush=True)
-            log = run_clients(system, folder)
-        sys.exit(0 if is_as_said(log) else 1)
+            run = run_clients(system, folder)
+        sys.exit(0 if is_as_said(*run) else 1)
     finally:
         if not kept:
             shutil.rmtree(folder, ignore_errors=True)

@@ -4,20 +4,29 @@
  * any system. Each function answers what the library's answers; that is proved, but for this
  * header, which a person wrote.
  *
- *     cc prog.c libfdb_c.a liblibc_c.a
+ *     cc prog.c libfdb_read_version.a liblibc_c.a
  *
- * Versions and moments are numbers of 64 bits; but in a log, a version is at most
- * 9,223,372,036,854,775,807, and a moment is in microseconds. Nothing here locks, keeps a global or
- * a pointer of the caller's. Memory comes from the program's malloc, realloc and free.
+ * A chain's versions end at 2^63 - 1, and its moments are in microseconds. A log's versions and
+ * times are below 2^64, the times in any one unit. Nothing here locks, keeps a global or a pointer of
+ * the caller's.
+ *
+ * Memory comes from the program's malloc, realloc and free, which have to be of one allocator, and
+ * to align blocks for any type. What grows: a chain by each answer, until its proxy has processed
+ * it; a queue by each request that waits, and by each throttle until it is forgotten. What a handle
+ * has its `..._free` frees, and all else the function that took it. An audit takes up to 73 KB of
+ * stack, where a line is nested as deep as it may be. The code is for x86-64-v2, and does not look
+ * whether the processor is.
  *
  * Nothing checks what C passes. What a comment says of an argument is the caller's to keep:
  *
  * - A pointer is not null, also where its length is 0, and what it points to is readable, or
  *   writable where it is not `const`. What is written overlaps with no other argument.
  * - A `bool` is 0 or 1.
- * - A handle is one that stands here, written by these functions alone. It is copied nowhere, and
- *   is used by one call at a time. Each may be used, and freed, on another thread than the one that
- *   made it, where a lock, a join or the like orders the calls. One that is not freed leaks.
+ * - A handle is one that stands here, of the kind that a function takes, written by these functions
+ *   alone, and none exactly where its `at` is NULL. It is copied nowhere, and is used by one call at a
+ *   time. Each may be used, and freed, on another thread than the one that made it, where a lock, a
+ *   join or the like orders the calls. One that is not freed leaks; one that was freed is none. One
+ *   that is none may be opened, or freed, which does nothing, and else not be used.
  * - No function is called from a signal handler, nor in the forked child of a program with threads.
  */
 #ifndef FDB_READ_VERSION_H
@@ -31,11 +40,15 @@
 extern "C" {
 #endif
 
-/* What a function answers: FDB_OK, or why it refuses. No function gives the name of a number: these
- * are the names. */
+/* The version of this header, and that of the library which is linked: 10,000 for a major one, 100
+ * for a minor one, 1 for a patch. */
+#define FDB_READ_VERSION_VERSION 100
+uint32_t fdb_read_version_version(void);
+
+/* What a function answers: FDB_OK, or why it refuses. */
 enum {
     FDB_OK = 0,
-    FDB_BAD_EPOCH = 1,        /* the recovery version is not above the epoch's end, or too great */
+    FDB_BAD_EPOCH = 1,        /* the recovery version is at most the epoch's end, or 2^63 or more */
     FDB_NO_PROXY = 2,         /* not 1 to 64 commit proxies */
     FDB_UNKNOWN_PROXY = 3,    /* no such commit proxy */
     FDB_EARLY = 4,            /* the number is beyond the proxy's next one */
@@ -57,8 +70,41 @@ enum {
     FDB_TWO_CALLS = 37,       /* a line names more than one */
     FDB_SOME_TIMES = 38,      /* some lines have times, and some have none */
     FDB_BAD_MEMBER = 39,      /* a member is missing, of another kind, or may not stand there */
-    FDB_EMPTY = 40            /* a text has no line */
+    FDB_EMPTY = 40,           /* a text has no line */
+    FDB_OVER = 41             /* a log has ended or was refused before, or memory was */
 };
+
+/* The name of what a function answers, without FDB_, or NULL where there is no such answer. */
+static inline const char *fdb_status_name(uint8_t status) {
+    switch (status) {
+    case FDB_OK: return "OK";
+    case FDB_BAD_EPOCH: return "BAD_EPOCH";
+    case FDB_NO_PROXY: return "NO_PROXY";
+    case FDB_UNKNOWN_PROXY: return "UNKNOWN_PROXY";
+    case FDB_EARLY: return "EARLY";
+    case FDB_FORGOTTEN: return "FORGOTTEN";
+    case FDB_EXHAUSTED: return "EXHAUSTED";
+    case FDB_MEMORY: return "MEMORY";
+    case FDB_ROOM: return "ROOM";
+    case FDB_BAD_OP: return "BAD_OP";
+    case FDB_BAD_CONFIG: return "BAD_CONFIG";
+    case FDB_BAD_COUNT: return "BAD_COUNT";
+    case FDB_BATCH_THROTTLED: return "BATCH_THROTTLED";
+    case FDB_FULL: return "FULL";
+    case FDB_TAG_TOO_LONG: return "TAG_TOO_LONG";
+    case FDB_FAULT: return "FAULT";
+    case FDB_TOO_LONG: return "TOO_LONG";
+    case FDB_TOO_MANY: return "TOO_MANY";
+    case FDB_NOT_JSON: return "NOT_JSON";
+    case FDB_NO_CALL: return "NO_CALL";
+    case FDB_TWO_CALLS: return "TWO_CALLS";
+    case FDB_SOME_TIMES: return "SOME_TIMES";
+    case FDB_BAD_MEMBER: return "BAD_MEMBER";
+    case FDB_EMPTY: return "EMPTY";
+    case FDB_OVER: return "OVER";
+    default: return NULL;
+    }
+}
 
 /* -------------------------------------------------------------- the chain of commit versions -- */
 
@@ -116,16 +162,16 @@ uint8_t fdb_chain_new(uint64_t epoch_end, uint64_t recovery, uint32_t proxies, f
  */
 uint8_t fdb_chain_ask(fdb_chain *chain, const fdb_ask *ask, fdb_answer *answer);
 
-/* Frees a chain; the handle is then none. `*chain` must be a chain. */
+/* Frees a chain; the handle is then none. Of FDB_CHAIN_NONE nothing is done. */
 void fdb_chain_free(fdb_chain *chain);
 
 /*
  * Opens a chain as fdb_chain_new does, answers `asks` to it in their order, and frees it.
  *
- * FDB_OK, and answers[i] is the answer to asks[i]; what stands behind these is as it was. FDB_ROOM
- * where `answers` is shorter than `asks`, else as fdb_chain_new: then nothing is written.
- * FDB_MEMORY also where a request was refused for memory: of what `answers` then has, nothing is
- * said.
+ * FDB_OK, and answers[i] is the answer to asks[i]; what stands behind these is as it was. Else
+ * FDB_ROOM where `answers` is shorter than `asks`, FDB_BAD_EPOCH or FDB_NO_PROXY, the first that
+ * stands: then nothing is written. Else FDB_MEMORY, also where a request was refused for memory: of
+ * what `answers` then has, nothing is said.
  */
 uint8_t fdb_chain_answers(uint64_t epoch_end, uint64_t recovery, uint32_t proxies,
                           const fdb_ask *asks, size_t asks_length,
@@ -219,9 +265,9 @@ uint8_t fdb_queue_offer(fdb_queue *queue, const fdb_request *request, fdb_outcom
  * system and default requests. It is never below 0, and at most 100,000 transactions, or 10 where
  * nothing is left that it pays for.
  *
- * FDB_OK, or FDB_BAD_CONFIG for a time out of range, which leaves the queue as it was; and
- * `outcome->status` is the same. FDB_ROOM, and FDB_MEMORY, leave queue, outcome and `started` as
- * they were. Linear in what it starts.
+ * FDB_ROOM, else FDB_BAD_CONFIG for a time out of range, else FDB_MEMORY or FDB_OK. Of FDB_OK and
+ * FDB_BAD_CONFIG `outcome->status` is the same, and the latter leaves the queue as it was. FDB_ROOM,
+ * and FDB_MEMORY, leave queue, outcome and `started` as they were. Linear in what it starts.
  */
 uint8_t fdb_queue_window(fdb_queue *queue, uint64_t elapsed, fdb_outcome *outcome,
                          fdb_request *started, size_t started_length);
@@ -255,14 +301,16 @@ uint8_t fdb_queue_set_rates(fdb_queue *queue, uint64_t normal, uint64_t batch,
 /*
  * Whether the first of the row waits for its own rate alone; then `*windows` is how many windows of
  * `elapsed` microseconds start nothing before one starts it, with no offer and no new rates between
- * them. It does not in an empty row, for a system request, for a batch one that the normal rate may hold or whose
- * own limit is 0, and for a time out of range. `*queue` must be a queue. Constant time, no memory.
+ * them. It does not in an empty row, for a system request, for a batch one that the normal rate may
+ * hold or whose own limit is 0, and for a time out of range. `*queue` must be a queue. Constant
+ * time, no memory.
  */
 bool fdb_queue_waits(fdb_queue *queue, uint64_t elapsed, uint64_t *windows);
 
 /*
  * Sets the throttle of a tag, of at most 16 bytes, at a priority, in the place of an older one:
- * `rate` transactions per second, until the moment `expires`. `*queue` must be a queue.
+ * `rate` transactions per second, until the moment `expires`. It is kept to be asked for: no
+ * throttle changes what a queue lets in or starts. `*queue` must be a queue.
  *
  * FDB_OK, else FDB_BAD_OP (no such priority), FDB_TAG_TOO_LONG or FDB_MEMORY, the first that
  * stands; the queue is then as it was. Logarithmic time.
@@ -279,7 +327,8 @@ typedef struct fdb_limit {
 } fdb_limit;
 
 /*
- * Tells the throttle of a tag at a priority and the moment `at`. `*queue` must be a queue.
+ * Tells the throttle of a tag at a priority and the moment `at`; a tag that is too long has none.
+ * `*queue` must be a queue.
  *
  * FDB_OK, else FDB_BAD_OP (no such priority) or FDB_MEMORY; `*limit` is then as it was. Logarithmic
  * time.
@@ -293,7 +342,7 @@ uint8_t fdb_queue_throttle(fdb_queue *queue, uint8_t priority,
  * memory. */
 void fdb_queue_forget_throttles(fdb_queue *queue, uint64_t at);
 
-/* Frees a queue; the handle is then none. `*queue` must be a queue. */
+/* Frees a queue; the handle is then none. Of FDB_QUEUE_NONE nothing is done. */
 void fdb_queue_free(fdb_queue *queue);
 
 /* An operation, for fdb_queue_outcomes. */
@@ -309,10 +358,11 @@ typedef struct fdb_op {
  * Opens a queue as fdb_queue_new does, carries out `ops` on it in their order, and frees it.
  *
  * FDB_OK, and outcomes[i] is the outcome of ops[i] (FDB_BAD_OP for one that is none); `started` has
- * at its start all requests that were started, in order, and `*size` is how many. FDB_BAD_CONFIG
- * where the configuration is out of range, or FDB_ROOM where `outcomes` is shorter than `ops`:
- * then nothing is written. FDB_ROOM also where `started` is too short: `*size` is then the length
- * that it needs, and nothing is written to it. FDB_MEMORY: nothing is said of what was written.
+ * at its start all requests that were started, in order, and `*size` is how many. Else FDB_ROOM
+ * where `outcomes` is shorter than `ops`, or FDB_BAD_CONFIG where the configuration is out of range,
+ * the first that stands: then nothing is written. Else FDB_MEMORY: nothing is said of what was written.
+ * Else FDB_ROOM where `started` is too short: `outcomes` are written, `*size` is the length that it
+ * needs, and nothing is written to it.
  */
 uint8_t fdb_queue_outcomes(const fdb_queue_config *config,
                            const fdb_op *ops, size_t ops_length,
@@ -342,7 +392,7 @@ typedef struct fdb_call {
     uint64_t began;   /* with `has_times`, when the call began, in any one unit */
     uint64_t ended;   /* with `has_ended` too, when it ended: not before it began */
     uint32_t client;  /* with `has_client`, whose call it was, by any number */
-    uint32_t teller;  /* of FDB_LEARN, from whom the client has learnt */
+    uint32_t teller;  /* of FDB_LEARN, from whom the client has learnt: one of a call above */
     uint8_t kind;     /* FDB_READ, FDB_COMMIT, FDB_ASK, FDB_REPORT or, without times, FDB_LEARN */
     bool has_client;  /* whether it is known whose call it was; without times it has to be */
     bool has_times;   /* whether the log has times */
@@ -408,14 +458,14 @@ typedef struct fdb_fault {
  * to the start of `text`, with no NUL: the counts of a log without a fault, with `history` an order
  * that explains it; or the first fault, with `all` each, and why it stands.
  *
- * FDB_OK where some history explains the log, else FDB_FAULT; `*size` is how long the text is.
- * FDB_ROOM where `text` is too short: `*size` is then the length that it needs, and nothing is
- * written to it. FDB_EMPTY where the log has no line. For the first line that is wrong
- * FDB_TOO_LONG, FDB_TOO_MANY, FDB_NOT_JSON, FDB_BAD_MEMBER (client), FDB_NO_CALL, FDB_TWO_CALLS,
- * FDB_BAD_MEMBER (the call, began, ended), FDB_SOME_TIMES, FDB_BAD_MEMBER (learn with times; no
- * client without), the first that stands: `*refused` says which line and member. FDB_MEMORY comes
- * anywhere. Where the log or memory is refused nothing else is written, and else `*refused` is as
- * it was. `n log n` in the lines, and linear in the bytes.
+ * FDB_OK where some history explains the log, else FDB_FAULT; `*size` is how long the text is. Where
+ * `text` is too short, FDB_ROOM goes before both: `*size` is then the length that it needs, and
+ * nothing is written to it. Before all goes a refusal of the log: FDB_EMPTY where it has no line, and
+ * for the first line that is wrong FDB_TOO_LONG, FDB_TOO_MANY, FDB_NOT_JSON, FDB_BAD_MEMBER (client),
+ * FDB_NO_CALL, FDB_TWO_CALLS, FDB_BAD_MEMBER (the call, began, ended), FDB_SOME_TIMES, FDB_BAD_MEMBER
+ * (learn with times; no client without), the first that stands: `*refused` says which line and
+ * member. FDB_MEMORY comes anywhere. Where the log or memory is refused nothing else is written, and
+ * else `*refused` is as it was. `n log n` in the lines, and linear in the bytes.
  */
 uint8_t fdb_audit_log_text(const uint8_t *log, size_t log_length,
                            const fdb_audit_options *options,
@@ -439,8 +489,9 @@ uint8_t fdb_audit_log_faults(const uint8_t *log, size_t log_length,
  * client by its number: `client 2`.
  *
  * As fdb_audit_log_text, but of the first call that is wrong FDB_NO_CALL (`kind`), FDB_BAD_MEMBER
- * (FDB_ENDED: it ended before it began), FDB_TOO_MANY, FDB_SOME_TIMES, FDB_BAD_MEMBER (FDB_LEARN
- * with times; FDB_CLIENT: none, and no times), the first that stands. No call at all is no fault.
+ * (FDB_LEARN: no call above is the teller's; FDB_ENDED: it ended before it began), FDB_TOO_MANY,
+ * FDB_SOME_TIMES, FDB_BAD_MEMBER (FDB_LEARN with times; FDB_CLIENT: none, and no times), the first
+ * that stands. No call at all is no fault. `n log n` in the calls, and in the clients.
  */
 uint8_t fdb_audit_calls_text(const fdb_call *calls, size_t calls_length,
                              const fdb_audit_options *options,
@@ -453,6 +504,130 @@ uint8_t fdb_audit_calls_faults(const fdb_call *calls, size_t calls_length,
                                const fdb_audit_options *options,
                                fdb_fault *faults, size_t faults_length, uint64_t *size,
                                fdb_refused *refused);
+
+/* An audit of a log that comes piece by piece, and then what it found; or none. */
+typedef struct fdb_audit {
+    void *at;
+} fdb_audit;
+#define FDB_AUDIT_NONE {NULL}
+
+/*
+ * Opens an audit of a text of JSON Lines of which nothing has come. `*audit` must be FDB_AUDIT_NONE.
+ *
+ * FDB_OK, or FDB_MEMORY; `*audit` is then still none.
+ */
+uint8_t fdb_audit_new(const fdb_audit_options *options, fdb_audit *audit);
+
+/*
+ * Takes the next bytes of the text, cut anywhere. It keeps the log's lines and not their bytes.
+ * `*audit` must be an audit.
+ *
+ * FDB_OK. Where a line is wrong it is refused as by fdb_audit_log_text, whatever may come after it;
+ * that, as FDB_MEMORY, ends the audit, and what it kept of the log is freed. FDB_OVER where it was
+ * over before; nothing has changed then. Linear in the bytes.
+ */
+uint8_t fdb_audit_push(fdb_audit *audit, const uint8_t *bytes, size_t bytes_length,
+                       fdb_refused *refused);
+
+/*
+ * Audits the log, which ends here, with half a line that has come last; what it kept of the log is
+ * freed, and what it found stays. The audit is then over. `*audit` must be an audit.
+ *
+ * FDB_OK, FDB_FAULT or the refusal, as by fdb_audit_log_text for all bytes that have come; FDB_OVER
+ * where it was over before. FDB_MEMORY and a refusal find nothing. `n log n` in the lines, twice.
+ */
+uint8_t fdb_audit_end(fdb_audit *audit, fdb_refused *refused);
+
+/*
+ * Writes the text of what was found to the start of `text`, with no NUL: that of fdb_audit_log_text;
+ * nothing where nothing was found yet. It may be asked for as often as one likes. `*audit` must be
+ * an audit.
+ *
+ * FDB_OK, and `*size` is how long it is; or FDB_ROOM where `text` is shorter: `*size` is then the
+ * length that it needs, and nothing is written to it. No memory.
+ */
+uint8_t fdb_audit_text(fdb_audit *audit, uint8_t *text, size_t text_length, uint64_t *size);
+
+/* Writes all faults that were found, by line, as fdb_audit_text the text; `*size` is how many. */
+uint8_t fdb_audit_faults(fdb_audit *audit, fdb_fault *faults, size_t faults_length,
+                         uint64_t *size);
+
+/* Frees an audit, over or not; the handle is then none. Of FDB_AUDIT_NONE nothing is done. */
+void fdb_audit_free(fdb_audit *audit);
+
+/* -------------------------------------------------------------- the watch of a log that grows -- */
+
+/* How a log is watched, and what is told of it. */
+typedef struct fdb_watch_options {
+    uint64_t behind; /* how far behind the newest end a line may begin, in the times' unit */
+    uint64_t margin; /* how far the clocks of two clients may be apart, in that unit */
+    bool totals;     /* whether the end tells how much was read, and how many faults of each kind */
+    bool json;       /* whether JSON objects are told, and not sentences */
+} fdb_watch_options;
+
+/* A watch, or none. It keeps the lines that may yet come to matter, and no others. */
+typedef struct fdb_watch {
+    void *at;
+} fdb_watch;
+#define FDB_WATCH_NONE {NULL}
+
+/*
+ * Opens a watch of a log of which nothing has come: what `fdb_audit --follow` is (docs/FORMATS.md).
+ * `key` is the name, in UTF-8, of the member that has a line's key, and each key is then watched by
+ * itself; where it is empty there are no keys. `*watch` must be FDB_WATCH_NONE.
+ *
+ * FDB_OK, else FDB_BAD_MEMBER (`key` is no UTF-8) or FDB_MEMORY; `*watch` is then still none.
+ */
+uint8_t fdb_watch_new(const fdb_watch_options *options, const uint8_t *key, size_t key_length,
+                      fdb_watch *watch);
+
+/*
+ * Takes the next bytes of a text of JSON Lines, cut anywhere. A line that is refused is left out,
+ * and told among the warnings. `*watch` must be a watch.
+ *
+ * FDB_OK. FDB_MEMORY ends the watch: what it kept of the log is freed, what was said last stays.
+ * FDB_OVER where it was over before; nothing has changed then. Linear in the bytes.
+ */
+uint8_t fdb_watch_push(fdb_watch *watch, const uint8_t *bytes, size_t bytes_length);
+
+/*
+ * Says what has become certain since it said so last: each stale read, and each version that was
+ * drawn and is not above what its caller knew, once. It looks for them once 8,192 lines have come,
+ * or with `is_idle`, which says that no more may come for a while. That, be it nothing, is then the
+ * text, and the warnings have a line for each line that was refused since; what they were before is
+ * gone. `*watch` must be a watch.
+ *
+ * FDB_OK, else FDB_OVER or FDB_MEMORY, as fdb_watch_push; text and warnings are then as they were.
+ * `n log n` in the lines that are kept.
+ */
+uint8_t fdb_watch_tell(fdb_watch *watch, bool is_idle);
+
+/*
+ * Says what is left where the log ends, with half a line that has come last: the text and the
+ * warnings are that, as by fdb_watch_tell, and the watch is over. `*watch` must be a watch.
+ *
+ * FDB_FAULT where a fault was told, at any time. Else why the last line that was refused was, from
+ * FDB_TOO_LONG to FDB_BAD_MEMBER, as fdb_audit_log_text (with `member` 0 where the key is no name),
+ * and `*refused` says which; FDB_EMPTY where no line came. Else FDB_OK. FDB_OVER and FDB_MEMORY
+ * leave text and warnings as they were. But for a refusal `*refused` is as it was.
+ */
+uint8_t fdb_watch_end(fdb_watch *watch, fdb_refused *refused);
+
+/*
+ * Writes what was said last to the start of `text`, with no NUL: nothing where nothing was. It may
+ * be asked for as often as one likes, also when the watch is over. `*watch` must be a watch.
+ *
+ * FDB_OK, and `*size` is how long it is; or FDB_ROOM where `text` is shorter: `*size` is then the
+ * length that it needs, and nothing is written to it. No memory.
+ */
+uint8_t fdb_watch_text(fdb_watch *watch, uint8_t *text, size_t text_length, uint64_t *size);
+
+/* Writes the warnings that came with it, as fdb_watch_text the text: a line for each line that was
+ * refused, with its number and why. */
+uint8_t fdb_watch_warnings(fdb_watch *watch, uint8_t *text, size_t text_length, uint64_t *size);
+
+/* Frees a watch, over or not; the handle is then none. Of FDB_WATCH_NONE nothing is done. */
+void fdb_watch_free(fdb_watch *watch);
 
 #ifdef __cplusplus
 }

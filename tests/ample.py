@@ -1,31 +1,37 @@
 """Each public call of a library that may be refused memory stands in a table of tests.
 
-The tables are those of `ample_memory` in the crates of tests, which make the calls with ample
-memory. No clause says that a call is not refused then.
+The tables are those of `ample_memory` in the crates of tests, and those of what the programs and
+the library for C reach, which make the calls with ample memory. No clause says that a call is not
+refused then.
 """
 import os
 import re
 
+import ample_audits
+import ample_bindings
+import ample_watches
 from edits import crates
 from harness import ROOT
 
 LIBRARIES = (
     "fdb_history", "fdb_chain", "fdb_live", "fdb_queue", "fdb_proxy", "fdb_client", "fdb_command",
-    "fdb_script", "fdb_replay",
+    "fdb_script", "fdb_replay", "fdb_lines", "fdb_log_reader", "fdb_audit", "fdb_c",
 )
 # The errors of the standard library for memory, and those of a library that may be for memory.
 ALLOC = {"AllocError", "AllocFailed"}
 OF_MEMORY = re.compile(
     r"^pub enum (\w+) \{\n(?:(?!\}).*\n)*? +(?:Memory,|\w+\(\w+(?:Error|Fault)\),)", re.MULTILINE
 )
+# A struct with its fields, of which one may be such an error.
+STRUCT = re.compile(r"^pub struct (\w+) \{\n((?:(?!\}).*\n)*)", re.MULTILINE)
 # The clause by which a call is not refused memory, though the type of its errors has one for it.
 NOT_REFUSED = {
     "GrvQueue::new": "bad_config", "LiveRecord::report": "refused",
 }
-# The call that answers a status.
-BY_STATUS = {"drive"}
+# The calls that answer a status: that of the programs, and those that C makes.
+BY_STATUS = re.compile(r"(?:fn drive\b|extern \"C\" fn)(?s:.*)-> u8\b")
 IMPL = re.compile(r"impl(?:<.*?>)? (?:([\w:]+)(?:<.*>)? for )?(\w+)")
-FUNCTION = re.compile(r"^ *(pub )?fn (\w+)", re.MULTILINE)
+FUNCTION = re.compile(r'^ *(pub )?(?:extern "C" )?fn (\w+)', re.MULTILINE)
 # What ends a function's signature.
 ENDS = re.compile(r"\n *(?:requires|ensures|ghost)\b|\{")
 DERIVED = re.compile(r"^#\[derive\(([^)]*)\)\]\npub (?:struct|enum) (\w+)", re.MULTILINE)
@@ -65,13 +71,17 @@ def refusable():
     """The calls that may be refused memory, and what is wrong with those that never are."""
     files = [file for library in LIBRARIES for file in sources(f"crates/{library}/src")]
     errors = ALLOC.union(*map(OF_MEMORY.findall, files))
+    of_fields = lambda fields: re.findall(r"^ +pub \w+: (\w+),", fields, re.MULTILINE)
+    errors |= {name for file in files for name, fields in STRUCT.findall(file)
+               if errors.intersection(of_fields(fields))}
     found, faults = set(), []
     for call, code in (it for file in files for it in calls_of(file)):
-        answer = ENDS.split(code)[0].partition("->")[2]
+        head = ENDS.split(code)[0]
+        answer = head.partition("->")[2]
         if call in NOT_REFUSED:
             clause = f"ensures {NOT_REFUSED[call]} "
             faults += [f"{call} has no {clause}"] * (clause not in code)
-        elif call in BY_STATUS or errors & set(re.findall(r"\w+", answer)):
+        elif BY_STATUS.search(head) or errors & set(re.findall(r"\w+", answer)):
             found.add(call)
     return found, faults
 
@@ -87,7 +97,9 @@ def tabled():
     by_line = {call for code in plain for it in LINE.findall(code) for call in it.split(", ")}
     by_table = {call for code in tables for it in NAMED.findall(code)
                 for call in re.findall(r"`([\w:]+)`", it)}
-    return by_line | by_table
+    of_python = (*ample_audits.TABLES, *ample_watches.TABLES, *ample_bindings.TABLES)
+    by_row = {call for table in of_python for it in table for call in it.calls.split(", ")}
+    return by_line | by_table | by_row
 
 
 def tables(_program):

@@ -12,10 +12,12 @@ import types
 
 import header
 import model
-from harness import ROOT, Ran, done, fault_of, run
+from harness import ROOT, Ran, done, fault_of, files_below, run
 
 OUT = f"{ROOT}/crates/fdb_c/out"
-SHARED, STATIC, OF_C = (f"{OUT}/{it}" for it in ("libfdb_c.so", "libfdb_c.a", "liblibc_c.a"))
+SHARED, STATIC, OF_C = (
+    f"{OUT}/{it}" for it in ("libfdb_read_version.so", "libfdb_read_version.a", "liblibc_c.a")
+)
 # (tools/bindings makes it last)
 NEEDED = [SHARED]
 PACKAGE = f"{ROOT}/bindings/python/src"
@@ -44,6 +46,20 @@ FIRST_OF_RUST = b"""\
 Issued { ordinal: 0, proxy: 0, num: 1, processed: 0, prev: 100, version: 200, at: 5, fresh: true }
 Err(Early { expected: 1 })
 [Request { priority: Default, count: 3, payload: 17 }]
+"""
+INSTALLED = """
+import fdb_read_version, importlib.metadata
+said = importlib.metadata.metadata("fdb-read-version")
+for name in ("Version", "Summary", "Author-email", "Requires-Python"):
+    print(said[name])
+print(fdb_read_version.Chain(100, 200, 1).ask(0, 1, 5).version, len(fdb_read_version.__all__))
+"""
+METADATA = b"""\
+0.1.0
+The read-version path of FoundationDB 7.1, proved, and an audit of logs, from Python
+Joskleme maintainers <maintainers@users.noreply.joskleme.example>
+>=3.9
+200 30
 """
 AUDIT_OF_RUST = b"""\
 Fault { line: 1, kind: Order, reason: Known { version: 200, means: Ended(0) } }
@@ -79,6 +95,8 @@ def of_c(_program):
             ("tests/c/calls.c", SANITIZED, b"ok\n"),
             ("tests/c/audit.c", [], b"ok\n"),
             ("tests/c/audit.c", SANITIZED, b"ok\n"),
+            ("tests/c/watch.c", [], b"ok\n"),
+            ("tests/c/watch.c", SANITIZED, b"ok\n"),
             ("tests/c/memory.c", WRAPPED, b"ok\n"),
             ("tests/c/threads.c", [*SANITIZED, "-pthread"], b"ok\n"),
         ):
@@ -116,7 +134,7 @@ def python(words):
 
 
 def of_python(_program):
-    """The examples of Python, the differential example, and a library that is missing."""
+    """The examples of Python, and the differential example."""
     for name, wanted in (("first", FIRST_OF_PYTHON), ("first_audit", AUDIT_OF_PYTHON)):
         yield name, fault_of(python([f"{ROOT}/bindings/python/{name}.py"]), done(wanted))
     found = python([DIFFERENTIAL, "1000", "5"])
@@ -132,12 +150,46 @@ def of_python(_program):
         line = next((it for it in lines if it.startswith(f"{kind}: ")), "")
         fault = None if line and ("step " in line) == has_bug else f"it says {line!r}"
         yield f"the differential example at {kind}", fault
-    words = "from fdb_read_version import *; print(Status.EARLY, f'{Priority.BATCH:>6}')"
-    yield "names that are printed", fault_of(python(["-c", words]), done(b"EARLY  BATCH\n"))
-    env = {**os.environ, "PYTHONPATH": PACKAGE, "FDB_READ_VERSION_LIB": "/nowhere.so"}
-    ran = run([sys.executable, "-c", "import fdb_read_version"], env=env)
-    said = b"/nowhere.so is missing: make it with tools/bindings" in ran.err
-    yield "a library that is missing", None if ran.status == 1 and said else f"{ran.err[-200:]!r}"
+
+
+def of_package(_program):
+    """What the package for Python has: its tests, its types, its sdist and its wheel."""
+    for file in files_below("bindings/python/tests", ".py"):
+        ran = python(["-W", "error", f"{ROOT}/{file}"])
+        yield file, None if ran.status == 0 else ran.err[-1000:].decode(errors="replace")
+    for tool, case, fault in (
+        ("mypy", "mypy --strict", fault_of_types),
+        ("pip", "what pip installs from the sdist", fault_of_installed),
+    ):
+        if shutil.which(tool):
+            yield case, fault()
+        else:
+            print(f"(there is no {tool}: left out) ", end="")
+
+
+def fault_of_types():
+    """What mypy says of the package."""
+    with tempfile.TemporaryDirectory() as room:
+        words = ["mypy", "--strict", "--cache-dir", room, PACKAGE, f"{PACKAGE}/../build_wheel.py"]
+        ran = run(words, seconds=SECONDS)
+    return None if ran.status == 0 else ran.out[-1000:].decode(errors="replace")
+
+
+def fault_of_installed():
+    """An sdist and the wheel of it: what they say, and that what is installed stands alone."""
+    env = {**os.environ, "PYTHONPATH": f"{PACKAGE}/..", "FDB_READ_VERSION_LIB": SHARED}
+    with tempfile.TemporaryDirectory() as room:
+        made = "import build_wheel, sys; print(build_wheel.build_sdist(sys.argv[1]))"
+        ran = run([sys.executable, "-c", made, room], env=env)
+        if ran != done(b"fdb_read_version-0.1.0.tar.gz\n"):
+            return f"the sdist: {ran}"
+        how = ["--quiet", "--no-index", "--no-build-isolation", "--no-compile", "--target"]
+        words = ["pip", "install", *how, f"{room}/site", f"{room}/fdb_read_version-0.1.0.tar.gz"]
+        ran = run(words, seconds=SECONDS, env=env)
+        if ran.status:
+            return ran.err[-1000:].decode(errors="replace")
+        env = {**os.environ, "PYTHONPATH": f"{room}/site", "FDB_READ_VERSION_LIB": ""}
+        return fault_of(run([sys.executable, "-c", INSTALLED], env=env, cwd=room), done(METADATA))
 
 
 def said_of(call):
@@ -199,36 +251,14 @@ def records(_program):
         yield f"case {case}", fault
 
 
-def refused_numbers(_program):
-    """Numbers that do not fit, and handles that are closed, are refused by the package."""
-    library = package()
-    chain = library.Chain(100, 200, 1)
-    for name, call in (
-        ("below 0", lambda: chain.ask(0, -1, 0)),
-        ("above 64 bits", lambda: chain.ask(0, 1 << 64, 0)),
-        ("a proxy above 32 bits", lambda: chain.ask(1 << 32, 1, 0)),
-        ("a short metadata version", lambda: library.Record(1, False, b"1")._raw()),
-        ("no such priority", lambda: library.GrvQueue(library.QueueConfig(1, 0, 1)).offer(1, 0, 3)),
-        ("a rate below 0", lambda: library.GrvQueue(library.QueueConfig(1, 0, 1)).set_rates(-1, 0)),
-        ("a margin below 0", lambda: library.audit(b"", margin=-1)),
-        ("an end and no begin", lambda: library.audit([library.Call(2, 1, 1, ended=2)])),
-        ("a client above 32 bits", lambda: library.audit([library.Call(2, 1, client=1 << 32)])),
-        ("a chain that is closed", lambda: (chain.close(), chain.ask(0, 1, 0))),
-    ):
-        try:
-            call()
-            yield name, "it is let in"
-        except ValueError:
-            yield name, None
-
-
 # ---- Rust
 
 
 def of_rust(_program):
     """The crate's tests and its examples, built offline in a folder of their own."""
     if not shutil.which("cargo"):
-        yield "there is no cargo: left out", None
+        print("(there is no cargo: left out) ", end="")
+        yield "cargo", None
         return
     with tempfile.TemporaryDirectory() as room:
         env = {**os.environ, "CARGO_TARGET_DIR": room, "CARGO_TERM_COLOR": "never"}
@@ -242,7 +272,7 @@ def of_rust(_program):
             wrong = ran.status != 0 or out not in (None, ran.out)
             yield case, said if wrong else None
         env["FDB_READ_VERSION_LIB"] = "/nowhere"
-        said = b"/nowhere/libfdb_c.a is missing: make it with tools/bindings"
+        said = b"/nowhere/libfdb_read_version.a is missing: make it with tools/bindings"
         ran = cargo(["check"], env)
         yield "a library that is missing", None if said in ran.err else "it is not said"
 

@@ -9,13 +9,13 @@ import tempfile
 
 from harness import DONE, ROOT, run
 from picture import (
-    HAND, TOOLS, differing, drawn, logged, logs, other_line, page_of, texts,
+    HAND, TOOLS, differing, drawn, drawings, lines_text, logged, logs, other_line, page_of, texts,
 )
 
 NODE = shutil.which("node")
 BROWSERS = ("chromium", "chromium-browser", "google-chrome", "chrome")
 BROWSER = next(filter(None, map(shutil.which, BROWSERS)), None)
-BROWSER_WORDS = ["--headless", "--no-sandbox", "--disable-gpu", "--hide-scrollbars"]
+BROWSER_WORDS = ["--headless", "--no-sandbox", "--disable-gpu"]
 TRIES = 3
 # What the largest log may take: of processor time some ten times what it does, since machines
 # differ; what its page may do until it is drawn; and how many shapes a view of it has.
@@ -25,9 +25,16 @@ CALLS, SECONDS, BYTES, OPENS, SHAPES = 100_000, 20, 25_000_000, 6, 5_000
 # ---- with node
 
 
+def columns_of(drawing, kept={}):
+    """The data of a drawing, which is kept with it."""
+    if id(drawing) not in kept:
+        kept[id(drawing)] = drawing, drawings.columns_of(drawing)
+    return kept[id(drawing)][1]
+
+
 def scenes_of(drawing, calls):
     """What calls of the page's code answer, and how long they take."""
-    given = [json.dumps(page_of.columns_of(drawing)), calls]
+    given = [json.dumps(columns_of(drawing)), calls]
     words = [NODE, f"{ROOT}/tests/scenes.js", f"{TOOLS}/picture_scene.js"]
     ran = run(words, json.dumps(given).encode(), 300)
     if ran.status != DONE:
@@ -37,10 +44,10 @@ def scenes_of(drawing, calls):
 
 def view(drawing, width, fault=0, **changed):
     """The view that a fault of a drawing opens with, or without one the whole."""
-    columns, fault = page_of.columns_of(drawing), fault if drawing.faults else None
-    shown = columns if fault is None else columns["faults"][fault]
-    lanes = [*range(len(drawing.lanes))] if fault is None else shown["lanes"]
-    return {"from": shown["from"], "to": shown["to"], "lanes": lanes, "fault": fault,
+    columns, fault = columns_of(drawing), fault if drawing.faults else None
+    whole = {**columns, "lanes": [*range(len(columns["lanes"]))], "gaps": []}
+    shown = whole if fault is None else columns["faults"][fault]
+    return {**{name: shown[name] for name in ("from", "to", "lanes", "gaps")}, "fault": fault,
             "few": fault is not None, "chosen": None, "top": 0, "width": width, "height": 500,
             **changed}
 
@@ -56,14 +63,31 @@ def shape_line(shape):
 SHOWN = {"scene": re.compile(r"(?!text tick (?!first)|.*v4$)"),
          "near": re.compile(r"text version|path (path|arrow)|text label on-path")}
 # What needs no sign: names, words of calls and ticks, the edges of lanes, and what is behind all.
-PLAIN = {"name", "show", "tick", "first", "lane", "ground", "unfold", "turn0"}
+PLAIN = {"name", "show", "tick", "first", "lane", "ground", "unfold", "turn0", "turn1", "down",
+         "version"}
 WIDTHS = (400, 1200)
-# Two reports that made one position.
-CLASH = "0 0 0 report 200 raised pos 1\n0 1 0 report 300 raised pos 1\nClash 1"
-LOG, RUN, ALL_FAULTS = (HAND[it][1] for it in ("a log", "a run", "each fault of a log"))
-WHOLE = {it: page_of.columns_of(LOG)[it] for it in ("from", "to")}
-PART, ALL = {"from": 20, "to": 30}, {"from": 0, "to": 100}
-ROLES = dict(zip(LOG.faults[0].path, LOG.faults[0].roles))
+
+
+def read_at(client, version, began, ended):
+    return {"client": client, "read": version, "began": began, "ended": ended}
+
+
+def log_of(*calls):
+    return logged(lines_text([read_at(*it) for it in calls]))
+
+
+LOG, RUN, ALL_FAULTS, FAR = (HAND[it][1] for it in (
+    "a log", "a run", "each kind of fault", "a witness that is far away"))
+# Three calls that are too near to be told apart; a stale read beside five others; many clients.
+NEAR = log_of(("a", 1, 0, 1), ("a", 1, 1, 2), ("a", 1, 2, 3), ("b", 1, 0, 3000))
+BESIDE = log_of(("a", 200, 1, 2), *(("b", 200, 50 + at, 90) for at in range(5)), ("b", 100, 60, 70))
+MANY = log_of(*((f"c{at}", 1, at, at + 1) for at in range(201)))
+KEYED = logged("\n".join(
+    f'{{"client":"a","{kind}":{at},"began":{at},"ended":{at}4,"key":{key}}}'
+    for kind, at, key in (("commit", 3, 7), ("commit", 2, 8), ("read", 9, 7))), "--key", "key")
+WHOLE = {it: drawings.columns_of(LOG)[it] for it in ("from", "to")}
+PART = {"from": 20, "to": 30, "gaps": []}
+ROLES = LOG.faults[0].roles
 
 
 def having(name, look):
@@ -71,30 +95,80 @@ def having(name, look):
     return lambda scene: [it[name] for it in scene["shapes"] if it["class"].startswith(look)]
 
 
-# Of the log calls of the page's code, what of each answer is looked at, and what is wanted.
+def all_of(*looks):
+    """How many shapes there are of each look."""
+    return lambda scene: [len(having("class", it)(scene)) for it in looks]
+
+
+# Calls of the page's code on a drawing, what of each answer is looked at, and what is wanted.
 ASKED = (
-    (["found", "300"], None, [{"call": it} for it in (1, 4, 6)]),
-    (["found", "Client B"], None, [{"lane": 2}]),
-    (["found", "zzz"], None, []),
-    (["found", " Line  4"], None, [{"call": 3}]),
-    (["found", "line"], None, []),
-    (["opened", None], lambda it: it["lanes"], [0, 1, 2, 3]),
-    (["zoomed", PART, 0.5, 22], None, {"from": 21, "to": 26}),
-    (["zoomed", PART, 100, 22], lambda it: f"{it['from']:.6f}", f"{WHOLE['from']:.6f}"),
-    (["moved", PART, -100], None, {"from": WHOLE["from"], "to": WHOLE["from"] + 10}),
-    (["markup", [{"tag": "text", "x": 4, "words": '<b>&"', "text": "</g>&amp;"},
-                 {"tag": "bar", "class": '"', "call": 3, "words": "</title>"}]], None,
+    (LOG, ["found", PART, "300"], None, [1, 4, 6]),
+    (LOG, ["found", PART, "CLIENT c"], None, [2]),
+    (LOG, ["found", {"from": 31, "to": 40}, "c"], None, [2, 4, 3, 5]),
+    (LOG, ["found", {"from": 41, "to": 45}, "c"], None, [6, 4, 3, 5]),
+    (LOG, ["found", PART, "zzz"], None, []),
+    (LOG, ["found", PART, " Line  4"], None, [3]),
+    (LOG, ["found", PART, "4"], None, [3]),
+    (log_of(("a", 1549304, 1, 2)), ["found", PART, "1,549,304"], None, [0]),
+    (RUN, ["found", PART, "Notissued"], None, [5]),
+    (LOG, ["opened", None], lambda it: it["lanes"], [0, 1, 2, 3]),
+    (MANY, ["opened", None], lambda it: it["lanes"], [*range(200)]),
+    (LOG, ["moved", PART, 0, 0.5, 22], None, {"from": 21, "to": 26}),
+    (LOG, ["moved", PART, 0, 100, 22], lambda it: f"{it['from']:.6f}", f"{WHOLE['from']:.6f}"),
+    (LOG, ["moved", PART, -100], None, {"from": WHOLE["from"], "to": WHOLE["from"] + 10}),
+    (LOG, ["markup", [{"tag": "text", "x": 4, "words": '<b>&"', "text": "</g>&amp;"},
+                      {"tag": "bar", "class": '"', "call": 3, "words": "</title>"}]], None,
      '<text x="4"><title>&lt;b&gt;&amp;&quot;</title>&lt;/g&gt;&amp;amp;</text>'
      '<rect class="&quot;" data-call="3" role="img"><title>&lt;/title&gt;</title></rect>'),
-    (["scene", view(LOG, 520.8, lanes=[0, 1, 2, 3])],
+    (LOG, ["scene", view(LOG, 520.8, lanes=[0, 1, 2, 3])],
      lambda it: sorted(having("words", "bar")(it)),
-     sorted(ROLES.get(at, "") + it.words for at, it in enumerate(LOG.bars))),
-    (["scene", view(LOG, 10)], having("call", "bar read faulty"), [3]),
-    (["scene", view(LOG, 500, **{**ALL, "to": 44})], having("text", "label on-path"),
-     ["line 1: commit 200"]),
+     sorted(f"{ROLES[at]}: {it.words}" if at in ROLES else it.words
+            for at, it in enumerate(LOG.lines))),
+    (LOG, ["scene", view(LOG, 10)], having("call", "bar read faulty"), [3]),
+    (LOG, ["scene", view(LOG, 500, **{**PART, "from": 0, "to": 44})],
+     having("text", "label on-path"), [
+         "line 1: commit 200", "100 was outdated at 14: 35 too late"]),
+    # (a call whose end is not known goes to the edge of a window that begins behind it)
+    (LOG, ["scene", view(LOG, 500, **{**PART, "from": 40, "to": 90})],
+     having("width", "bar report open"), [505]),
     # (moments at the axis, at the width that they are worked out for, and at half of it)
-    (["scene", view(LOG, 520.8)], lambda it: having("x", "tick ")(it)[:3], [50.4, 100.4, 150.4]),
-    (["scene", view(LOG, 260)], lambda it: having("text", "tick ")(it)[:3], ["10", "20", "30"]),
+    (LOG, ["scene", view(LOG, 520.8)],
+     lambda it: having("x", "tick ")(it)[:3], [50.4, 100.4, 150.4]),
+    (LOG, ["scene", view(LOG, 260)],
+     lambda it: having("text", "tick ")(it)[:3], ["10", "20", "30"]),
+    # (20 pixels for each unit, but for the gap)
+    (FAR, ["scene", view(FAR, 863.04)], having("text", "tick"), [
+        "7,999,985 left out", "1,000,003", "+5", "+10", "+8,000,000", "+8,000,005", "+8,000,010"]),
+    (FAR, ["scene", view(FAR, 863.04)], lambda it: having("width", "bar")(it)[::2], [200, 200]),
+    (FAR, ["straight", [[10, 20, 5], [30, 90, 10]], 15], None, 20),
+    (FAR, ["straight", [[10, 20, 5], [30, 90, 10]], 30], None, 60),
+    (NEAR, ["scene", {**view(NEAR, 306), "from": 0, "to": 3060}], having("words", "block"),
+     ["3 calls, from line 1 to line 3"]),
+    (BESIDE, ["scene", view(BESIDE, 800)], lambda it: having("text", "name")(it)[-1:],
+     ["client b, and 2 more at once"]),
+    (BESIDE, ["scene", view(BESIDE, 800)], having("call", "bar read faulty"), [6]),
+    # (the other call of a version that two drew, and what joins both)
+    (ALL_FAULTS, ["scene", view(ALL_FAULTS, 300, 4)],
+     lambda it: [having("call", f"bar ask {look}")(it) for look in ("faulty", "on-path")],
+     [[4], [5]]),
+    (ALL_FAULTS, ["scene", view(ALL_FAULTS, 300, 4)],
+     having("d", "path beside"), ["M100 62L100 130"]),
+    (ALL_FAULTS, ["overview", view(ALL_FAULTS, 900), 44],
+     lambda it: [shape["fault"] for shape in it if "mark" in shape["class"]], [7, 3, 2, 1, 0]),
+    (ALL_FAULTS, ["overview", view(ALL_FAULTS, 900, 5), 44],
+     lambda it: [shape["fault"] for shape in it if shape["class"] == "mark now"], [5]),
+    (KEYED, ["scene", view(KEYED, 900)], lambda it: sorted(having("text", "label")(it)),
+     ['commit 2 · "8"', 'commit 3 · "7"', 'read 9 · "7"']),
+    # (all calls of a run have a caption, and that of the last of a round does not leave it)
+    (RUN, ["scene", view(RUN, 600)], having("text", "label"), [
+        "ask 100", "ask 200", "report 200 locks", "tell to 1", "locked out 200", "report 100",
+        "read 100", "NotIssued", "learn from 0", "read 0 min"]),
+    (RUN, ["scene", view(RUN, 600)], lambda it: having("x", "label")(it)[-2], 371.5),
+    (RUN, ["scene", view(RUN, 600)],
+     all_of("round", "band locked", "bar locked", "bar refused"), [2, 1, 1, 1]),
+    (RUN, ["scene", view(RUN, 600)],
+     having("text", "tick first"), ["round 0", "round 2", "in order →"]),
+    (RUN, ["scene", view(RUN, 600)], having("text", "version"), ["100", "200 locked"]),
 )
 
 
@@ -113,21 +187,20 @@ def scenes(_program):
             kinds = [it["class"].split()[0] for it in scene["shapes"]]
             is_first = kinds.index("path") < kinds.index("label")
             yield f"{name}: no line goes over a label", None if is_first else "one does"
-    for (call, part, wanted), answer in zip(ASKED, scenes_of(LOG, [it[0] for it in ASKED])[0]):
+    of = {id(drawing): drawing for drawing, *_ in ASKED}
+    answers = {at: iter(scenes_of(it, [call for one, call, *_ in ASKED if one is it])[0])
+               for at, it in of.items()}
+    for drawing, call, part, wanted in ASKED:
+        answer = next(answers[id(drawing)])
         yield f"{call}"[:80], differing("answer", part(answer) if part else answer, wanted)
-    whole = scenes_of(RUN, [["scene", view(RUN, 580, **ALL)]])[0][0]
-    lines = having("d", "raise")(whole)
-    yield "no line where the calls begin", differing("lines", lines, ["M232 24V184"])
     log_view = view(LOG, 520.8, few=False, chosen=1, lanes=[0, 1, 2])
     of_log = scenes_of(LOG, [["scene", log_view], ["overview", log_view, 44]])[0]
-    shapes = [*whole["shapes"], *of_log[0]["shapes"], *of_log[1]]
+    of_run = scenes_of(RUN, [["scene", view(RUN, 580)]])[0][0]
+    shapes = [*of_run["shapes"], *of_log[0]["shapes"], *of_log[1]]
     known = re.findall(r'class="(.*?)"', page_of.key(LOG) + page_of.key(RUN))
     known = PLAIN.union(*map(str.split, known))
     unknown = {look for it in shapes for look in it["class"].split()} - known
     yield "the key has what is drawn", differing("it lacks", unknown, set())
-    overview = scenes_of(ALL_FAULTS, [["overview", view(ALL_FAULTS, 900), 44]])[0][0]
-    marks = sum(it["d"].count("M") for it in overview if it["class"] == "mark")
-    yield "marks of faults at lines 2 to 6", differing("marks", marks, 5)
 
 
 def crowds():
@@ -161,12 +234,11 @@ def meeting(scene, width):
 def readable(_program):
     """In views of each fault, narrow and wide, its calls are marked, and all texts can be read."""
     shown = {name: drawn(text) for name, text in texts() if name.startswith("examples/")}
-    shown |= {name: drawing for name, (_text, drawing, _parts) in HAND.items()} | dict(logs())
-    crowded = ("\n".join(map(json.dumps, it)) for it in crowds())
-    shown |= {f"crowd {at}": logged(text) for at, text in enumerate(crowded)}
-    shown["two reports that made one position"] = drawn(CLASH)
+    shown |= {name: drawing for name, (_text, drawing, _parts) in HAND.items()}
+    shown |= {name: drawing for name, _text, _words, drawing in logs()}
+    shown |= {f"crowd {at}": logged(lines_text(it)) for at, it in enumerate(crowds())}
     for name, drawing in shown.items() if NODE else ():
-        faults = [(it.title, it.faulty) for it in drawing.faults] or [("no fault", [])]
+        faults = [(it.title, [it.at]) for it in drawing.faults] or [("no fault", [])]
         views = [view(drawing, width, at) for at in range(len(faults)) for width in WIDTHS]
         answers, _ = scenes_of(drawing, [["scene", it] for it in views])
         for at, (seen, scene) in enumerate(zip(views, answers)):
@@ -189,8 +261,9 @@ def largest():
     at, by = ({"line": it + 1, **lines[it]} for it in (CALLS - 1, CALLS - 2))
     fault = {"fault": "Order", "at": at, "reason": "known", "known": by["read"], "by": by,
              "means": "ended"}
-    total = {"total": {"lines": CALLS}, "arguments": {"margin": 0, "by_key": False, "members": []}}
-    return ("\n".join(map(json.dumps, it)) for it in (lines, (fault, total, {"faults": 1})))
+    asked = {"complete": None, "margin": 0, "by_key": False, "members": []}
+    total = {"total": {"lines": CALLS}, "arguments": asked}
+    return map(lines_text, (lines, (fault, total, {"faults": 1})))
 
 
 def large(_program):
@@ -200,7 +273,7 @@ def large(_program):
     drawing = logged(text, said=said)
     written = page_of.page(drawing)
     took = resource.getrusage(resource.RUSAGE_SELF).ru_utime - before
-    is_right = len(drawing.bars) == CALLS and took < SECONDS and len(written) < BYTES
+    is_right = len(drawing.lines) == CALLS and took < SECONDS and len(written) < BYTES
     yield "its page", None if is_right else f"{took:.1f} seconds, {len(written)} bytes"
     whole = {"from": 0, "to": 10 * CALLS, "lanes": [*range(200)], "fault": None}
     views = [view(drawing, 1000, **it) for it in ({}, whole, {**whole, "from": 5_000, "to": 9_000})]
@@ -217,66 +290,112 @@ def large(_program):
 # ---- where a browser is, pages are opened in it, and clicked and typed at
 
 
-# All is drawn at once, so that no frame has to be waited for, and errors are kept.
+# All is drawn at once, so that no frame has to be waited for, errors are kept, and pointers that a
+# script makes up may be captured.
 AT_ONCE = """<body><script>window.requestAnimationFrame = (draw) => draw(); window.errors = [];
 window.addEventListener("error", (event) => errors.push(event.message));
+Element.prototype.setPointerCapture = () => {};
 const answer = (it) => { document.body.insertAdjacentHTML("beforeend", "<pre id='driven'></pre>");
   document.getElementById("driven").textContent = JSON.stringify(it); };</script>"""
 DRIVER = """<script>
-const at = (id) => document.getElementById(id);
-const press = (key) => document.dispatchEvent(new KeyboardEvent("keydown", { key }));
+const at = (id) => document.getElementById(id), said = (id) => (at(id) || {}).textContent;
+const all = (what) => [...document.querySelectorAll(what)];
+const place = (it) => it.getBoundingClientRect();
+const press = (key, more) =>
+  document.dispatchEvent(new KeyboardEvent("keydown", { key, bubbles: true, ...more }));
+const type = (key) =>
+  at("wanted").dispatchEvent(new KeyboardEvent("keydown", { key, bubbles: true }));
+const point = (kind, what, down = 0) => {
+  const it = document.querySelector(what), { left, top, width, height } = place(it);
+  const more = { clientX: left + width / 2, clientY: top + height / 2 + down, bubbles: true };
+  it.dispatchEvent(new PointerEvent(kind, { pointerId: 1, ...more }));
+};
+const middle = () => { const { left, width } = place(at("overview").querySelector(".window"));
+  return Math.round(left + width / 2); };
+const wheel = (id, clientX) => at(id).dispatchEvent(
+  new WheelEvent("wheel", { deltaY: -200, clientX, cancelable: true }));
 function state() {
-  const all = (what) => [...document.querySelectorAll(what)];
-  const bars = all("#picture [data-call]"), place = (it) => it.getBoundingClientRect();
-  const unfold = getComputedStyle(document.querySelector(".show") || document.body);
+  const bars = all("#picture [data-call]");
   return {
     calls: bars.map((it) => it.dataset.call).sort().join(""), path: all("#picture .path").length,
     faulty: all("#picture .faulty").map((it) => it.dataset.call).join(""),
     seen: bars.every((it) => place(it).height > 0) &&
       document.documentElement.scrollWidth <= innerWidth,
-    buttons: all("button:not(#all)").map((it) => [it.textContent, place(it).left, place(it).top]),
-    said: ["why", "words"].map((id) => (at(id) || {}).textContent),
-    key: all(".key li").filter((it) => it.offsetHeight).map((it) => it.textContent.trim()),
-    isLink: unfold.textDecorationLine === "underline", errors,
+    buttons: all(".views button").map((it) => [it.textContent, place(it).left, place(it).top]),
+    said: ["why", "words"].map(said),
+    key: all(".key li").filter((it) => !it.hidden).map((it) => it.textContent.trim()), errors,
     high: place(at("picture")).bottom <= innerHeight };
 }
-answer(STEPS.map((step) => { eval(step); return state(); }));
+answer([STEPS.map((step) => { eval(step); return state(); }),
+  CHECKS.map((it) => { let kept; const found = eval(it); return found; })]);
 </script>"""
-# What is done one after another, and then: calls drawn, links of the path, the call at fault, what
+# What is done one after another, and then: calls drawn, links of the fault, the call at fault, what
 # is said of the fault, and the words of a call that is chosen.
-KNOWN, NOBODY = "By this line 200 was known: Line 1", "Nobody reported it."
+KNOWN, LATER = "but 200 was known: line 1", "which was reported only after this"
 STEPS = (
-    ("", "0134", 1, "3", KNOWN, ""),
-    ("at('all').click()", "0123456", 1, "3", KNOWN, ""),
-    ("at('all').click()", "0134", 1, "3", KNOWN, ""),
-    ("press('n')", "0134", 1, "3", KNOWN, "Line 1: client a committed 200"),
-    ("press('n')", "0134", 1, "3", KNOWN, "Line 2: client a got"),
-    ("at('wanted').value = 'client c'; at('find').requestSubmit()", "012346", 1, "3", KNOWN,
-     "Line 3: client c read 200"),
-    ("press('f')", "3", 0, "3", NOBODY, ""),
-    ("press('f')", "0124", 1, "2", "", ""),
-    ("at('whole').click()", "01246", 1, "2", "", ""),
-    ("press('F')", "3", 0, "3", NOBODY, ""),
+    ("", "012", 1, "1", KNOWN, ""),
+    ("at('all').click()", "012", 1, "1", KNOWN, ""),
+    ("at('whole').click()", "0123456", 1, "1", KNOWN, ""),
+    ("at('all').click()", "01236", 1, "1", KNOWN, ""),
+    ("press('n')", "01236", 1, "1", KNOWN, 'Shows 200: Line 1: client "a" committed 200'),
+    ("press('n')", "01236", 1, "1", KNOWN, 'At fault: Line 2: client "b" read 100'),
+    ("at('wanted').value = 'client c'; at('find').requestSubmit()", "012346", 1, "1", KNOWN,
+     'Line 5: client "c" drew 250, from 30 to 31. Known or drawn before it: 300.'),
+    ("press('f')", "1236", 1, "2", LATER, ""),
+    ("press('F')", "012", 1, "1", KNOWN, ""),
+    ("point('pointerdown', '[data-fault=\"7\"]')", "346", 1, "6", "which line 5", ""),
+    ("at('reset').click()", "346", 1, "6", "which line 5", ""),
 )
 # Signs that the page opens with, and one that a choice brings.
-AT_FIRST, CHOSEN = {"call at fault", "overview: a fault"}, ("call that is chosen", 3)
+AT_FIRST = {"call at fault", "overview: a fault, which a click opens"}
+CHOSEN = ("call that is chosen", 4)
+# What is true one after another: what the pointer passes over is read until a call is chosen, by a
+# pointer that is near to it; the wheel over the overview leaves its middle; keys that are held or
+# typed do nothing; the help opens by its key; and on paper all lanes are there.
+CHECKS = (
+    "point('pointermove', '[data-call=\"4\"]'); said('words').includes('Line 5')",
+    "point('pointerdown', '[data-call=\"6\"]', 20); point('pointerup', '[data-call=\"6\"]', 20); "
+    "said('words').includes('At fault: Line 7')",
+    "point('pointermove', '[data-call=\"4\"]'); said('words').includes('At fault: Line 7')",
+    "press('0'); press('+'); kept = middle(); wheel('overview', 5); Math.abs(kept - middle()) < 2",
+    "kept = said('words'); press('n', { ctrlKey: true }); press('n', { metaKey: true }); "
+    "type('n'); said('words') === kept",
+    "press('?'); at('help').open",
+    "press('?'); !at('help').open",
+    "press('Home'); all('#picture .show')[0].textContent === '2 other clients: show'",
+    "at('all').click(); dispatchEvent(new Event('beforeprint')); at('help').open && "
+    "all('#picture .name').length === 4 && !all('#picture .show').length && errors.length === 0",
+)
+# A call in the part of the axis that a fault leaves out is shown where it is found.
+FOUND_IN_GAP = (
+    "kept = all('#picture .gap').length; at('wanted').value = '2'; at('find').requestSubmit(); "
+    "kept === 1 && !all('#picture .gap').length && all('#picture .chosen').length === 1")
+# Of a log of so many clients that the page and the picture scroll: the width that is drawn for, and
+# that the lanes that are not in view come on paper, with what is said of others.
+SCROLLED = """<script>
+const width = document.getElementById("picture").getAttribute("width");
+const lanes = () => document.querySelectorAll("#picture .name:not(.show)").length;
+const found = [width === String(document.getElementById("figure").clientWidth), lanes() < 20];
+dispatchEvent(new Event("beforeprint"));
+const folded = document.querySelector("#picture .show").textContent;
+answer([[], [...found, lanes() === 200, folded === "1 other client: show"]]);
+</script>"""
 
 
-def answered(page, behind):
+def answered(page, behind, words=()):
     """What a script behind a page answers, or what the browser said in place of that."""
     page = page.replace("<body>", AT_ONCE).replace("</body>", f"{behind}</body>")
     with tempfile.TemporaryDirectory() as folder:
         with open(f"{folder}/page.html", "w", encoding="utf-8") as it:
             it.write(page)
-        words = [*BROWSER_WORDS, f"--user-data-dir={folder}/own", "--window-size=400,800",
-                 "--dump-dom"]
+        words = [*words, f"--user-data-dir={folder}/own", "--window-size=500,800", "--dump-dom"]
         # A browser on a busy machine may give up.
         for _ in range(TRIES):
-            ran = run([BROWSER, *words, f"file://{folder}/page.html"], b"", 120)
+            ran = run([BROWSER, *BROWSER_WORDS, *words, f"file://{folder}/page.html"], b"", 120)
             answer = re.search(r'<pre id="driven">(.*)</pre>', ran.out.decode())
             if answer:
                 return json.loads(html.unescape(answer[1])), None
-    return None, f"it did not end: {ran.err[-300:]!r}"
+    return ([], []), f"it did not end: {ran.err[-300:]!r}"
 
 
 def browsed(_program):
@@ -286,9 +405,10 @@ def browsed(_program):
         yield "without a browser", None
         return
     driver = DRIVER.replace("STEPS", json.dumps([it[0] for it in STEPS]))
-    answer, fault = answered(page_of.page(ALL_FAULTS), driver)
+    driver = driver.replace("CHECKS", json.dumps(CHECKS))
+    (answer, checks), fault = answered(page_of.page(ALL_FAULTS), driver, ["--hide-scrollbars"])
     yield "the page", fault
-    for at, (found, (do, *wanted, why, words)) in enumerate(zip(answer or [], STEPS)):
+    for at, (found, (do, *wanted, why, words)) in enumerate(zip(answer, STEPS)):
         states = [found[it] for it in ("calls", "path", "faulty", "seen", "buttons", "errors")]
         wanted += [True, answer[0]["buttons"], []]
         is_said = why in found["said"][0] and words in found["said"][1] and (at or found["high"])
@@ -298,4 +418,11 @@ def browsed(_program):
     if answer:
         (sign, step), key = CHOSEN, answer[0]["key"]
         is_right = AT_FIRST <= {*key} and sign not in key and sign in answer[step]["key"]
-        yield "its key, and what unfolds", None if is_right and answer[0]["isLink"] else f"{key}"
+        yield "its key", None if is_right else f"{key}"
+    for check, found in zip(CHECKS, checks):
+        yield check, None if found is True else f"{found}"
+    driver = DRIVER.replace("STEPS", "[]").replace("CHECKS", json.dumps([FOUND_IN_GAP]))
+    (_, checks), fault = answered(page_of.page(FAR), driver)
+    yield "a call in a part that is left out", fault or (None if checks == [True] else f"{checks}")
+    (_, checks), fault = answered(page_of.page(MANY), SCROLLED)
+    yield "many clients", fault or (None if checks == [True] * 4 else f"{checks}")

@@ -1,14 +1,18 @@
 """Runs the program, says what was wrong with a run, and writes scripts."""
+import contextlib
 import json
 import os
 import resource
 import subprocess
 import sys
+import threading
 from typing import NamedTuple
 
 ROOT = os.path.dirname(os.path.dirname(os.path.realpath(__file__)))
 EXAMPLES = f"{ROOT}/examples"
 SECONDS = 20
+# What a pipe takes in one piece.
+PIPE_PAGE = 4_096
 NOT_ENDED = -1000
 
 DONE, REFUSED, OTHER_ARGUMENTS, NO_MEMORY, NO_STREAM = 0, 1, 2, 3, 5
@@ -110,6 +114,35 @@ def spent(words, seconds, memory):
 def under(redirections, program, given=b"", arguments=(), **how):
     """Runs the program with these arguments and the shell's redirections, as '>&-'."""
     return run(["sh", "-c", f'exec "$0" "$@" {redirections}', program, *arguments], given, **how)
+
+
+def apart(words, pieces, **how):
+    """Runs a command that reads each of these pieces, of a page at most, by itself."""
+    reader, writer = os.pipe2(os.O_DIRECT)
+
+    def give():
+        with contextlib.suppress(BrokenPipeError), os.fdopen(writer, "wb", 0) as to:
+            for it in pieces:
+                to.write(it)
+
+    giver = threading.Thread(target=give)
+    giver.start()
+    try:
+        return run(words, seconds=60, stdin=reader, **how)
+    finally:
+        os.close(reader)
+        giver.join()
+
+
+def grouped(lines):
+    """Pieces of whole lines, each of a page at most."""
+    piece = b""
+    for line in lines:
+        if len(piece) + len(line) > PIPE_PAGE:
+            yield piece
+            piece = b""
+        piece += line
+    yield piece
 
 
 def fault_of(ran, wanted):

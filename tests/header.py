@@ -1,23 +1,27 @@
 """The header for C against the crate that it is written for: functions, structs and numbers.
 
 Nobody proves a header. So each exported function, each struct that crosses and each number of the
-crate is read from its source, spelled in C, and looked for in the header, in the same order.
+crate is read from its source, spelled in C, and looked for in the header, in the same order. So is
+what the packages for Rust and Python declare.
 """
 import re
 
 from harness import files_below, text_of
 
 HEADER, SOURCES = "include/fdb_read_version.h", "crates/fdb_c/src"
+OF_RUST, OF_PYTHON = "bindings/rust/sys/src", "bindings/python/src"
 
 COMMENT = re.compile(r"/\*.*?\*/|//[^\n]*", re.DOTALL)
 EXPORT = re.compile(r'pub extern "C" fn (\w+)\(([^{]*?)\)(?: -> (\w+))?\s*(?:requires|ensures|\{)')
 STRUCT = re.compile(r"#\[repr\(C\)\]\s*(?:#\[[^\]]*\]\s*)*pub struct (\w+) \{(.*?)\n\}", re.DOTALL)
 FIELD = re.compile(r"(?:pub )?(\w+): ([^,\n]+),")
 NUMBER = re.compile(r"pub const (FDB_\w+): u8 = (\d+);")
+FOREIGN = re.compile(r"pub fn (\w+)\(([^)]*)\)(?:\s*-> (\w+))?;")
 OF_C = re.compile(r"\b(\w+) (fdb_\w+)\(([^)]*)\);")
 STRUCT_OF_C = re.compile(r"typedef struct (fdb_\w+) \{(.*?)\} \1;", re.DOTALL)
 NUMBER_OF_C = re.compile(r"\b(FDB_\w+) = (\d+)")
-PLAIN = {"u64": "uint64_t", "u32": "uint32_t", "u8": "uint8_t", "bool": "bool", None: "void"}
+PLAIN = {"u64": "uint64_t", "u32": "uint32_t", "u8": "uint8_t", "usize": "size_t", "bool": "bool"}
+PLAIN = {**PLAIN, None: "void"}
 # What stands before a name of the package for Python in that of the header, by its class.
 PREFIXES = {"FaultKind": "FAULT_", "Reason": "REASON_", "Means": "MEANS_"}
 # Numbers of C alone: a priority is an enum of the library's.
@@ -30,6 +34,10 @@ def without_comments(*files):
 
 def sources():
     return without_comments(*files_below(SOURCES, ".rt"))
+
+
+def of_rust():
+    return without_comments(*files_below(OF_RUST, ".rs"))
 
 
 def words(text):
@@ -48,7 +56,7 @@ def type_in_c(type_of):
 def parameter_in_c(name, type_of):
     """A parameter as C declares it; a slice is a pointer and a length."""
     slice_of = re.fullmatch(r"&(mut )?\[(\w+)\]", type_of)
-    one = re.fullmatch(r"&(mut )?(\w+)", type_of)
+    one = re.fullmatch(r"(?:&|\*(?=mut|const ))(?:const )?(mut )?(\w+)", type_of)
     if type_of == "Global":
         return []
     if slice_of:
@@ -59,13 +67,13 @@ def parameter_in_c(name, type_of):
     return [f"{type_in_c(type_of)} {name}"]
 
 
-def exported():
-    """What each export is called in C, by its name."""
+def functions(pattern, text):
+    """What each function of these is called in C, by its name."""
     found = {}
-    for name, parameters, result in EXPORT.findall(sources()):
+    for name, parameters, result in pattern.findall(text):
         pairs = [it.strip().split(": ", 1) for it in parameters.split(",") if it.strip()]
         spelled = [part for pair in pairs for part in parameter_in_c(*pair)]
-        found[name] = f"{type_in_c(result or None)} {name}({', '.join(spelled)})"
+        found[name] = f"{type_in_c(result or None)} {name}({', '.join(spelled) or 'void'})"
     return found
 
 
@@ -85,9 +93,9 @@ def field_in_c(name, type_of):
     return f"{type_in_c(type_of)} {name}"
 
 
-def structs_of_source():
+def structs(text):
     found = {}
-    for name, body in STRUCT.findall(sources()):
+    for name, body in STRUCT.findall(text):
         fields = [it for it in body.splitlines() if not it.strip().startswith("ghost ")]
         found[name_in_c(name)] = [field_in_c(*it) for it in FIELD.findall("\n".join(fields))]
     return found
@@ -96,10 +104,6 @@ def structs_of_source():
 def structs_of_header():
     found = STRUCT_OF_C.findall(without_comments(HEADER))
     return {name: [words(it) for it in body.split(";") if it.strip()] for name, body in found}
-
-
-def numbers(pattern, text):
-    return {name: value for name, value in pattern.findall(text) if name not in OF_C_ALONE}
 
 
 def compared(ours, theirs):
@@ -115,31 +119,54 @@ def compared(ours, theirs):
             yield name, None
 
 
+def named(_program):
+    """Each status has its name, and the versions of header, library and packages are one."""
+    text = without_comments(HEADER)
+    statuses = re.findall(r"\b(FDB_\w+) = \d+", text[: text.index("};")])
+    names = re.findall(r'case (FDB_(\w+)): return "(\w+)";', text)
+    fault = None if [it for it, *_ in names] == statuses else "a status has no name"
+    yield "names of statuses", fault or next((it for it, a, b in names if a != b), None)
+    version = re.search(r"#define FDB_READ_VERSION_VERSION (\d+)", text)[1]
+    library = re.search(r"ensures \{ result ≡ (\d+) \}", text_of(f"{SOURCES}/version.rt"))[1]
+    yield "the version of the library", None if library == version else library
+    for file, pattern in (
+        (f"{OF_RUST}/lib.rs", r"FDB_READ_VERSION_VERSION: u32 = (\d+);"),
+        (f"{OF_PYTHON}/fdb_read_version/_library.py", r"^VERSION = (\d+)$"),
+    ):
+        own = re.search(pattern, text_of(file), re.MULTILINE)[1]
+        yield f"the version in {file}", None if own == version else own
+    for file in ("bindings/rust/Cargo.toml", "bindings/python/pyproject.toml"):
+        parts = re.search(r'^version = "(\d+)\.(\d+)\.(\d+)"', text_of(file), re.MULTILINE)
+        number = sum(int(it) * by for it, by in zip(parts.groups(), (10000, 100, 1)))
+        yield f"the version in {file}", None if str(number) == version else parts[0]
+
+
 def agrees(_program):
-    """The functions, the structs and the numbers of the header are the crate's."""
-    yield from compared(exported(), declared())
-    yield from compared(structs_of_source(), structs_of_header())
-    source, header = numbers(NUMBER, sources()), numbers(NUMBER_OF_C, without_comments(HEADER))
-    yield from compared(source, header)
-    yield from packages()
-
-
-def packages():
-    """The numbers of the package for Python, and the priorities of that for Rust, are the header's.
-
-    And what tools/bindings builds anew after an edit is each crate that the library stands on.
-    """
+    """Functions, structs and numbers of the header are those of the crate and the packages."""
     header = dict(NUMBER_OF_C.findall(without_comments(HEADER)))
-    python = "\n".join(map(text_of, files_below("bindings/python/src", ".py")))
+    own = {name: it for name, it in header.items() if name not in OF_C_ALONE}
+    yield from compared(functions(EXPORT, sources()), declared())
+    yield from compared(structs(sources()), structs_of_header())
+    yield from compared(dict(NUMBER.findall(sources())), own)
+    for case, fault in (
+        *compared(functions(FOREIGN, of_rust()), declared()),
+        *compared(structs(of_rust()), structs_of_header()),
+        *compared(dict(NUMBER.findall(of_rust())), header),
+    ):
+        yield f"{case} of Rust", fault
+    python = "\n".join(map(text_of, files_below(OF_PYTHON, ".py")))
     for kind, body in re.findall(r"class (\w+)\(Named\):(.*?)(?=\n\S|\Z)", python, re.DOTALL):
         for name, number in re.findall(r"^    ([A-Z_]+) = (\d+)$", body, re.MULTILINE):
             in_c = f"FDB_{PREFIXES.get(kind, '')}{name}"
             yield f"{kind}.{name} of Python", None if header.get(in_c) == number else in_c
-    source = text_of("bindings/rust/src/grv_queue.rs")
-    rust = re.findall(r"^    (\w+) = (\d+),$", source, re.MULTILINE)
-    given = {(f"FDB_{name.upper()}", number) for name, number in rust}
-    fault = None if given == {(it, header.get(it)) for it in OF_C_ALONE} else f"{rust}"
-    yield "the priorities of Rust", fault
+    given = re.findall(r'^    "(fdb_\w+)": ', python, re.MULTILINE)
+    fault = {*given} ^ {*declared()}
+    yield "functions of Python", f"{fault}" if fault else None
+    yield "crates in tools/bindings", fault_of_crates()
+
+
+def fault_of_crates():
+    """What tools/bindings builds anew after an edit is each crate that the library stands on."""
     own = dict(line.split(": ", 1) for line in text_of("crates.txt").splitlines() if ": " in line)
     needed, found = {"fdb_c"}, set()
     while needed:
@@ -149,4 +176,4 @@ def packages():
         needed = {it for it in more if it.startswith("fdb_")} - found
     named = re.search(r"crates/fdb_\{(.*?)\}", text_of("tools/bindings"))[1].split(",")
     fault = found ^ {f"fdb_{it}" for it in named}
-    yield "crates in tools/bindings", f"{fault}" if fault else None
+    return f"{fault}" if fault else None

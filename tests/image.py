@@ -11,15 +11,16 @@ from picture import logs, page_of
 
 DOCUMENT, LOG = f"{ROOT}/docs/picture.png", "examples/logs/stale.jsonl"
 # The part of the page that is taken, and how many pixels of the image one of its own makes.
-WIDTH, HEIGHT, SCALE, MOST_BYTES = 800, 408, 2, 300_000
+WIDTH, HEIGHT, SCALE, MOST_BYTES = 800, 456, 2, 300_000
 
 
 def photograph():
     """The top of the page as the browser shows it."""
     with tempfile.TemporaryDirectory() as folder:
         with open(f"{folder}/page.html", "w", encoding="utf-8") as it:
-            it.write(page_of.page(dict(logs())[LOG]))
+            it.write(page_of.page({name: drawing for name, *_, drawing in logs()}[LOG]))
         words = [f"--user-data-dir={folder}/own", f"--screenshot={folder}/page.png",
+                 "--hide-scrollbars",
                  f"--window-size={WIDTH},{HEIGHT}", f"--force-device-scale-factor={SCALE}"]
         run([BROWSER, *BROWSER_WORDS, *words, f"file://{folder}/page.html"], b"", 120)
         return read(f"{folder}/page.png")

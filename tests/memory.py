@@ -232,11 +232,15 @@ def audited(_program):
     with tempfile.TemporaryDirectory(prefix="refuse-") as folder:
         preloaded = built(folder)
         for name, words, given, step in audits():
-            audit = [AUDIT, *words]
+            audit, short = [AUDIT, *words], starved
+            if "--follow" in words:
+                # Of a file: what a pipe gives at once differs, and with it how late a call is at
+                # least. What a watch told before it is refused is told.
+                log = f"{folder}/log.jsonl"
+                with open(log, "wb") as file:
+                    file.write(given)
+                audit, given, short = [*audit, log], b"", starved._replace(out=None, err=None)
             ended = exactly(run(audit, given))
-            # What a watch told before it is refused is told.
-            left = {"out": None, "err": None} if "--follow" in words else {}
-            short = starved._replace(**left)
             for goes_on in (False, True):
                 for it in swept(audit, preloaded, given, short, ended, goes_on, step, ()):
                     yield f"{name}, {'from ' if goes_on else ''}allocation {it.number}", it.fault

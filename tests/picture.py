@@ -1,4 +1,4 @@
-"""The pages of tools/picture: where each call, band and arrow stands, and which texts are refused.
+"""The pages of tools/picture: each bar against its source, each fault against the audit's words.
 
 Values that were worked out by hand stand in pictures.txt. What the page's code makes of a drawing
 is looked at by browsed.py.
@@ -9,11 +9,13 @@ import re
 import sys
 import tempfile
 import types
+from collections import defaultdict
 from html.parser import HTMLParser
 
 import judging
 from audit_logs import example_cases, random_cases
-from audit_model import judged, options_of
+from audit_model import DRAWING, Log, judged, options_of, printed
+from audit_lines import lines_of
 from harness import DONE, EXAMPLES, NO_STREAM, REFUSED, ROOT, Ran, fault_of, read, run
 
 TOOLS = f"{ROOT}/tools"
@@ -21,9 +23,7 @@ PICTURE = f"{TOOLS}/picture"
 sys.path.append(TOOLS)
 
 import drawing as drawings
-import log_drawing
-import run_drawing
-from run_text import Text
+import picture_log
 
 # (a module whose file has no ending)
 page_of = types.ModuleType("picture_page")
@@ -31,16 +31,16 @@ page_of.__file__ = PICTURE
 exec(compile(read(PICTURE), PICTURE, "exec"), vars(page_of))
 # What of a page could ask for another file.
 OUTSIDE = re.compile(r"https?:|\bsrc=|@import|<link|url\((?!#)|href=\"(?!#)|\bfetch\(|import\(")
-# How many random logs are drawn, and how many runs with a read that is put back.
+# How many random logs and runs are drawn.
 LOGS, RUNS = 3_000, 80
 
 
 # ---- drawings, and what they have
 
 
-def drawn(text, *faults):
+def drawn(text, name=None):
     """The drawing of a text of a run."""
-    return page_of.drawing_of("\n".join([text.rstrip("\n"), *faults]).encode(), None, None, None)
+    return page_of.drawing_of(text.encode(), None, name)
 
 
 def audited(text, *words):
@@ -51,7 +51,11 @@ def audited(text, *words):
 def logged(text, *words, said=None, name=None):
     """The drawing of a log with what is said of it."""
     said = audited(text, *words) if said is None else said
-    return page_of.drawing_of(text.encode(), said.encode(), None, name)
+    return page_of.drawing_of(text.encode(), said.encode(), name)
+
+
+def lines_text(lines):
+    return "\n".join(map(json.dumps, lines))
 
 
 def said_by_hand(text, said, faults):
@@ -60,7 +64,7 @@ def said_by_hand(text, said, faults):
 
     def value(name, word):
         it = json.loads(word) if word == "null" or word.isdigit() else word
-        return {"line": it, **lines[it]} if name in log_drawing.ROLES and it else it
+        return {"line": it, **lines[it]} if name in picture_log.ROLES and it else it
 
     pairs = [[it.split("=") for it in fault.split()] for fault in faults]
     objects = [{name: value(name, word) for name, word in fault} for fault in pairs]
@@ -85,28 +89,32 @@ HAND = dict(map(hand_case, read(f"{ROOT}/tests/pictures.txt").decode().split("\n
 
 
 def calls_in(drawing):
-    """Its lanes, calls, bands and arrows, a line for each."""
-    named = [it.name for it in drawing.bars]
-    yield f"lanes {', '.join(drawing.lanes)}"
-    for it, row in zip(drawing.bars, drawings.rows_of(drawing.bars)):
-        yield f"{it.name}: {it.lane} {row} {it.left} {it.right} {it.kind}, {it.label}"
-    yield from (f"band {it.left} {it.label}" for it in drawing.bands)
-    yield from (f"arrow {named[it.start]} > {named[it.end]}" for it in drawing.arrows)
+    """What is found of it, its lanes, rounds, calls, bands and arrows, a line for each."""
+    data = drawings.columns_of(drawing)
+    named = data["name"]
+    yield from drawing.account.split("\n")
+    yield f"lanes {', '.join(data['lanes'])}; origin {data['origin'] or 0}"
+    yield from ("{2}: {0} {1}".format(*it) for it in data["rounds"])
+    for at, name in enumerate(named):
+        places = " ".join(str(data[it][at]) for it in ("lane", "row", "left", "right"))
+        yield f"{name}: {places} {drawing.lines[at].kind}, {data['label'][at]}"
+    for bands in data["bands"]:
+        yield from (f"band {left} {label}" for left, label in zip(bands["left"], bands["label"]))
+    yield from (f"arrow {named[start]} > {named[end]}" for start, end in data["arrows"])
 
 
 def faults_in(drawing):
     """Its faults, with what is about each."""
-    named = [it.name for it in drawing.bars]
-    for fault in drawing.faults:
+    named, data = [it.name for it in drawing.lines], drawings.columns_of(drawing)
+    for fault, view in zip(drawing.faults, data["faults"]):
         knew = f", {named[fault.knower]} knew {fault.known}" if fault.known else ""
-        yield f"fault {fault.title} at {', '.join(named[it] for it in fault.faulty)}{knew}"
+        yield f"fault {fault.title}{knew}{fault.late and f', {fault.late}'}"
         yield f"  {fault.reason}"
-        yield from (f"  {role}{named[at]}" for at, role in zip(fault.path, fault.roles))
-        for it in drawings.links_of(drawing, fault):
-            way = ">" if it.has_tip else "-"
-            yield f"  {named[it.start]} {it.left} {way} {it.right} {named[it.end]}"
-        view = page_of.fault_columns(drawing, fault)
-        yield f"  view {view['from']:g} {view['to']:g} {view['lanes']}"
+        yield from (f"  {role}: {named[at]}" for at, role in fault.roles.items())
+        for start, end, has_tip in fault.links:
+            yield f"  {named[start]} {'>' if has_tip else '-'} {named[end]}"
+        gaps = ["{:.9g} to {:.9g} as {:g}".format(*it) for it in view["gaps"]]
+        yield ", ".join([f"  view {view['from']:.9g} {view['to']:.9g} {view['lanes']}", *gaps])
 
 
 def differing(what, found, wanted):
@@ -160,25 +168,26 @@ class Page(HTMLParser):
 
 
 def plain(text):
-    return " ".join(text.split())
+    return " ".join(re.sub("[\u2068\u2069]", "", text).split())
 
 
 def page_fault(drawing):
     """What is wrong with the page of a drawing: it is whole, tells all, and asks for no file."""
     written = page_of.page(drawing)
-    page, faults_of_it = Page(written), drawing.faults
-    said, count = page.texts, len(faults_of_it)
-    told = [drawing.heading, *drawing.account, *drawing.notes, *drawing.about]
-    told += [part for it in faults_of_it for part in (it.title, it.reason)]
-    missing = [it for it in told if plain(it) not in plain(said[""])]
+    page, count = Page(written), len(drawing.faults)
+    said = {name: plain(text) for name, text in page.texts.items()}
+    told = [drawing.heading, drawing.account, *drawing.notes]
+    told += [part for it in drawing.faults for part in (it.title, it.reason)]
+    missing = [it for it in told if plain(it) not in said[""]]
     links = [f"#fault-{at}" for at in range(1, count + 1)] * (count > 1)
-    first = [(it.title, it.means, it.reason) for it in faults_of_it[:1]]
+    first = [tuple(map(plain, (it.title, it.means, it.reason))) for it in drawing.faults[:1]]
     shown = [tuple(said[it] for it in ("said", "means", "why"))] if "said" in said else []
-    data = json.loads(json.dumps(page_of.columns_of(drawing)))
+    data = json.loads(json.dumps(drawings.columns_of(drawing)))
     return page.fault or next(filter(None, (
         differing("files", OUTSIDE.findall(written), []), differing("untold", missing, []),
         differing("links", page.links, links), differing("fault", shown, first),
-        differing("its data is right", json.loads(said["drawing"]) == data, True),
+        differing("tags in its data", "<" in page.texts["drawing"], False),
+        differing("its data is right", json.loads(page.texts["drawing"]) == data, True),
     )), None)
 
 
@@ -190,198 +199,306 @@ def texts():
     for case in read(f"{ROOT}/tests/worked.txt").decode().split("# ")[1:]:
         name, _, rest = case.partition("\n")
         yield name, rest.partition("=>")[2].partition("\n")[2].strip() + "\n"
-    yield from ((f"the race of seed {seed}", judging.lawful_text(seed)) for seed in range(12))
+    yield from ((f"the race of seed {seed}", judging.lawful_text(seed)) for seed in range(RUNS))
 
 
 def logs():
-    """The drawings of the logs of examples/logs, by name."""
+    """Of the logs of examples/logs the name, the text, the arguments and the drawing."""
     for name, given, words, _out in example_cases():
         words = [it for it in words if it not in ("--all", "--history")]
         name = f"examples/logs/{name}"
-        yield name, logged(given.decode(), *words, name=name)
+        yield name, given.decode(), words, logged(given.decode(), *words, name=name)
 
 
 def pages(_program):
-    """The page of each text and log is whole, whatever names are in it."""
+    """The page of each text and log is whole, and each of its bars is what its line says."""
     for name, text in texts():
         drawing = drawn(text)
-        yield name, text_fault(text, drawing) or order_fault(drawing) or page_fault(drawing)
-    by_name = {**{name: drawing for name, (_, drawing, _) in HAND.items()}, **dict(logs())}
-    yield from ((name, page_fault(drawing)) for name, drawing in by_name.items())
-    tag = "</script></style><b>&amp;"
-    text = HAND["a log without times"][0].replace('"a"', json.dumps(tag)).replace('"b"', '"\\"\\n"')
-    drawing = logged(text, name=tag)
-    is_named = drawing.faults and f"client {tag}" in drawing.faults[0].reason
-    yield "names that look like tags", page_fault(drawing) or (None if is_named else drawing.lanes)
-    text = HAND["a log"][0]
-    digits = re.sub(r"(?<=:)(\d+)", r'"\1"', text).replace('"a"', "7")
-    is_same = logged(digits) == logged(text.replace('"a"', '"7"'))
-    yield "numbers in texts, and a client's number", differing("the same", is_same, True)
-    keyed = by_name["examples/logs/keys.jsonl"]
-    is_apart = not keyed.bands and ", key x, from 30 to 33." in keyed.bars[3].words
-    yield "a log by keys", None if is_apart else f"{keyed.bands}, {keyed.bars[3].words}"
+        yield name, page_fault(drawing) or run_fault(text, data_of(drawing))
+        ended = drawn(text.replace("\n", "\r\n"))
+        yield f"{name}, with carriage returns", None if ended == drawing else "it differs"
+    for name, text, words, drawing in logs():
+        yield name, page_fault(drawing) or log_fault(text, words, data_of(drawing), drawing)
+    for name, (_text, drawing, _parts) in HAND.items():
+        yield name, page_fault(drawing)
 
 
-def text_fault(text, drawing):
-    """Says what of a lawful text is not in its drawing."""
-    replies = [it.split() for it in text.split("\n") if it[:1].isdigit()]
-    tells = [it for it in replies if it[3] == "tell"]
-    clients = [int(it[1]) for it in replies] + [int(it[4]) for it in tells]
-    made = sum(it[3] == "report" and it[-3] == "raised" and "not" not in it for it in replies)
-    wanted = (max(clients, default=-1) + 1, len(replies) + len(tells), len(tells), made, 0)
-    makers = [it for it in drawing.bars if it.kind in run_drawing.CHANGES]
-    begins = {it.left + drawings.FREE for it in drawing.bands}
-    wrong = [it for it in drawing.bars if it.label.split()[-1] not in it.words]
-    wrong += [it for it in makers if it.left not in begins]
-    found = (len(drawing.lanes), len(drawing.bars), len(drawing.arrows), len(makers), len(wrong))
-    return differing("lanes, calls, arrows, raises, untold or late", found, wanted)
+def data_of(drawing):
+    """The data in the page of a drawing, as the browser reads it."""
+    return json.loads(Page(page_of.page(drawing)).texts["drawing"])
 
 
-def order_fault(drawing):
-    """Says what goes back: bands, an arrow, a client's calls, or one outside of its band."""
-    bars, bands = drawing.bars, drawing.bands
-    faulty = {it for fault in drawing.faults for it in fault.faulty}
-    rises = [it.left for it in bands], [int(it.label) for it in bands if it.label != "?"]
-    wrong = [f"bands go back: {it}" for it in rises if it != sorted(it)]
-    wrong += [it for it in drawing.arrows if bars[it.start].right >= bars[it.end].left]
-    last = {}
-    for at, it in enumerate(bars):
-        is_back = drawing.axis == "order" and it.left < last.get(it.lane, 0)
-        wrong += [it] * (is_back or at not in faulty and not stands(drawing, it))
-        last[it.lane] = it.left
-    return f"it goes back, or is in another's band: {wrong[0]}" if wrong else None
+def bars_in(data):
+    """Each bar of a page's data, by its name."""
+    for at, name in enumerate(data["name"]):
+        bar = {it: data[it][at] for it in ("left", "right", "label", "words", "row")}
+        kind = data["kinds"][data["kind"][at]]["id"]
+        yield name, types.SimpleNamespace(lane=data["lanes"][data["lane"][at]], kind=kind, **bar)
 
 
-def stands(drawing, bar):
-    """Whether a call stands in its band: that of its version, or with times one not newer."""
-    before = [it.label for it in drawing.bands if it.left < bar.left]
-    if bar.kind not in ("read", "locked", "raised") or not before:
-        return True
-    if drawing.axis == "time":
-        return bar.kind != "read" or int(bar.label) >= int(before[-1])
-    return before[-1] in ("?", bar.label)
+# ---- each bar against its source
 
 
-# ---- faults
+def log_fault(text, words, data, drawing):
+    """What of a log's bars is not as its line is, and what of its faults is not as the audit says.
+    """
+    options = options_of(words)
+    log, bars = Log(lines_of(text.encode(), options.key), options), dict(bars_in(data))
+    first = int(data["origin"].replace(",", "") or 0)
+    for number, (line, bar) in enumerate(zip(log.lines, bars.values(), strict=True), 1):
+        times = [it if it is None else it - first for it in (line.began, line.ended)]
+        times = [10 * number - 9, 10 * number - 1] if line.began is None else times
+        label = f"from {printed(line.value)[1:-1]}" if line.kind == "learn" else str(line.value)
+        nameless = line.client is None
+        lane = "callers without a name" if nameless else f"client {printed(line.client)[1:-1]}"
+        found = (plain(bar.lane), bar.kind, bar.left, bar.right, plain(bar.label))
+        wanted = (plain(lane), line.kind, *times, plain(label))
+        said = f"Line {number}: {'a caller' if nameless else f'client {printed(line.client)}'} "
+        if found != wanted or not plain(bar.words).startswith(plain(said)):
+            return f"line {number} is drawn as {found}: {bar.words}"
+        end = "; its end is not known." if line.ended is None else f" to {line.ended}."
+        if line.began is not None and f", from {line.began}{end}" not in bar.words:
+            return f"line {number} is told as {bar.words}"
+    return log_known_fault(log, data) or differing(
+        "reasons", [re.sub(r"(?<=\d),(?=\d{3})", "", plain(it.reason)) for it in drawing.faults],
+        [case.sentence(fault, k, case.reasons(fault, k)[0]) for case, fault, k in log.faults()])
 
 
-# Lines that stand below a run in place of its audit, and of each the calls that stand out and the
-# whole path, as client and place in its log.
-FAULTS = {
-    "fdb_replay: audit fault: Wrong 1 1": ("1-1", "0-2 1-1"),
-    "Order 1 1": ("1-1", "0-2 0-3 1-0 1-1"),
-    "Order 0 2": ("0-2", "0-2"),
-    "Clash 1": ("0-2", "0-2"),
-    "Gap 1": ("0-2", "0-2"),
-    "Stray 0 4": ("", ""),
-    "Stray 1 1": ("1-1", "1-1"),
-    "NotAbove 0 1: the version </script>200 & more": ("0-1", "0-1"),
-}
-STALE = """0 0 0 ask prev 0 version 100 ordinal 0 fresh
-0 0 1 ask prev 100 version 200 ordinal 1 fresh
-0 0 2 report 200 raised pos 1
-0 0 3 tell 1 pos 1
-1 1 0 grv 100 unlocked none pos 1
-"""
-AUDITED = "audit ok events 2 raised 1 versions 2\n"
-HISTORY = (
-    "history 0 client 0 call 2 report 200 unlocked none raised\n"
-    "history 1 client 1 call 1 read 100 unlocked none\n"
-)
+def log_known_fault(log, data):
+    """What is said of what a call knew, or of what is known to all, that the model does not say."""
+    by_key = dict(zip(dict.fromkeys(it.key for it in log.lines), data["bands"], strict=True))
+    for case in log.cases:
+        begins = [bar.left for _name, bar in bars_in(data)]
+        for k, line in enumerate(case.lines):
+            known = max(case.knows[k], case.last[k] * (line.kind in DRAWING))
+            said = re.search(r"before it: (\d+)\.$", data["words"][case.at[k]])
+            if line.kind != "learn" and int(said[1] if said else 0) != known:
+                return f"line {case.at[k] + 1}: it says {said}, and {known} was known"
+            bands = by_key[line.key]
+            before = [int(label.split()[0]) for left, label in zip(bands["left"], bands["label"])
+                      if left < begins[case.at[k]]]
+            past = [case.lines[j].value for j in case.before[k]
+                    if case.is_past(j, k) and case.lines[j].kind != "ask"] if line.began else []
+            if before and case.has_times and before[-1] != max([*past, case.start]):
+                return f"line {case.at[k] + 1} stands behind {before}, of {past}"
+    return None
 
 
-def faults(_program):
-    """The calls of a fault of a run stand out, with what joins them."""
-    for line, wanted in FAULTS.items():
-        drawing = drawn(STALE, line)
-        fault, named = drawing.faults[0], [it.name for it in drawing.bars]
-        short = lambda places: " ".join("-".join(named[it].split()[1::2]) for it in places)
-        found = (short(fault.faulty), short(fault.path))
-        yield line, differing("calls", found, wanted) or page_fault(drawing)
-    for name, drawing in spoilt_runs():
-        fault, links = drawing.faults[0], [*drawings.links_of(drawing, drawing.faults[0])]
-        is_joined = fault.path[-1:] == fault.faulty and links and all(it.has_tip for it in links)
-        is_joined = is_joined and drawing.bars[fault.path[0]].kind in run_drawing.CHANGES
-        yield name, order_fault(drawing) or (None if is_joined else f"its path is {fault.path}")
+def run_fault(text, data):
+    """What of a run's bars is not as its reply is, or does not stand in its round and record."""
+    replies = [it.split() for it in text.splitlines() if it[:1].isdigit()]
+    events = [it.split() for it in text.splitlines() if it.startswith("history ")]
+    return replies_fault(replies, data) or seen_fault(replies, data) or order_fault(events, data)
 
 
-def spoilt_runs():
-    """Drawings of runs in which a read is put back to before what its client had seen."""
-    for seed in range(RUNS):
-        text = judging.lawful_text(seed)
-        of_clients = Text(text.splitlines()).lanes.values()
-        seen = [it for log in of_clients for before, it in zip(log, log[1:])
-                if it.kind == "read" and before.seen]
-        for it in seen[:2]:
-            line = f"\n{it.round} {it.client} {it.place} grv "
-            fault = f"Order {it.client} {it.number}"
-            spoilt = re.sub(f"{line}.*", f"{line}1 unlocked none pos 0", f"\n{text}")
-            yield f"seed {seed}, {fault}", drawn(spoilt[1:].partition("audit ok")[0], fault)
+def replies_fault(replies, data):
+    """Each reply has its bar in its client's lane and its round, and each tell one behind that."""
+    bars, last = dict(bars_in(data)), defaultdict(int)
+    rounds = {name: (left, right) for left, right, name in data["rounds"]}
+    for number, (round_, client, _place, do, *rest) in enumerate(replies, 1):
+        bar, (left, right) = bars.pop(f"line {number}", None), rounds[f"round {round_}"]
+        wanted = kind_of_reply(do, rest)
+        is_right = bar and (bar.lane, bar.kind, re.sub(" (un)?locks$", "", bar.label)) == (
+            f"client {client}", *wanted)
+        if not is_right:
+            return f"line {number} is drawn as {bar}, and is {wanted}"
+        if not max(left, last[client]) < bar.left < bar.right < right:
+            return f"line {number} is not in its round, or not in the order of its client"
+        last[client] = bar.left
+        if wanted[0] in ("read", "locked", "raised") and (fault := record_fault(bar, rest, data)):
+            return f"line {number}: {fault}"
+    for number, (round_, client, _place, do, *rest) in enumerate(replies, 1):
+        learn = bars.pop(f"learn of line {number}") if do == "tell" else None
+        others = [it.left for _name, it in bars_in(data) if it.kind != "learn"]
+        left, right = rounds[f"round {round_}"]
+        if learn and ((learn.lane, learn.label) != (f"client {rest[0]}", f"from {client}")
+                      or not max(it for it in others if it < right) < learn.left < right):
+            return f"what line {number} tells is learnt as {learn}"
+    return differing("other bars", [*bars], [])
+
+
+def record_fault(bar, rest, data):
+    """A read stands at the record that it tells, and a report that raised it where one begins."""
+    bands = [[*it] for it in zip(*(data["bands"][0][it] for it in ("left", "label", "locked")))]
+    at = len([it for it in bands if it[0] < bar.left]) - 1
+    left, label, locked = bands[at]
+    if bar.kind == "raised":
+        turn = (locked - bands[at - 1][2]) if at else locked
+        turns = [" locks"] if turn > 0 else [" unlocks", ""] if turn else [""]
+        is_right = left == bar.left - 1 and bar.label in [f"{rest[0]}{it}" for it in turns]
+        is_right = is_right and label.split()[0] == rest[0]
+    else:
+        is_locked = bar.kind == "locked" or rest[1] == "locked"
+        version = rest[2 * (bar.kind == "locked")]
+        is_right = (label, locked) == (version + " locked" * is_locked, int(is_locked))
+    return None if is_right else f"it stands at the record {left} {label} {locked}"
+
+
+def seen_fault(replies, data):
+    """What is said that clients had seen: what they read, reported and were told."""
+    bars, seen, told, now = dict(bars_in(data)), defaultdict(int), [], None
+    for number, (round_, client, _place, do, *rest) in enumerate(replies, 1):
+        for who, version in told if round_ != now else ():
+            seen[who] = max(seen[who], version)
+        told, now = (told if round_ == now else []), round_
+        said = re.search(r" Its client had seen (\d+)\.$", bars[f"line {number}"].words)
+        if seen[client] != int(said[1] if said else 0):
+            return f"line {number} says {said}, and its client had seen {seen[client]}"
+        if do == "tell":
+            told.append((rest[0], seen[client]))
+        elif do in ("grv", "report") and (rest[0] != "refused" or rest[1] == "Locked"):
+            seen[client] = max(seen[client], int(rest[2 * (rest[0] == "refused")]))
+    return None
+
+
+def order_fault(events, data):
+    """The events of a round stand in the order of the history."""
+    calls = defaultdict(list)
+    for _name, bar in sorted(bars_in(data), key=lambda it: it[1].left):
+        calls[bar.lane].append(bar.left)
+    lefts = [calls[f"client {it[3]}"][int(it[5])] for it in events]
+    for one, two in zip(lefts, lefts[1:]):
+        if one > two and any(left < two < one < right for left, right, _name in data["rounds"]):
+            return f"events stand at {one} and {two}, and the history has the other order"
+    return None
+
+
+def kind_of_reply(do, rest):
+    """What a reply is drawn as: a kind, and a label."""
+    if rest[:2] == ["refused", "Locked"]:
+        return "locked", rest[2]
+    if rest[0] == "refused":
+        return "refused", rest[1]
+    if do == "grv":
+        return "read", f"{rest[rest.index('used') + 1]} min" if "used" in rest else rest[0]
+    if do == "report":
+        return "-".join(rest[1:-2]), rest[0] + " min" * (rest[1] == "min")
+    return ("tell", f"to {rest[0]}") if do == "tell" else (rest[-1], rest[3])
 
 
 def random_logs(_program):
-    """Of random logs the path of a fault has what its object names, and each call its place."""
+    """Of random logs each bar is what its line says, and each fault what the audit says."""
     met = 0
     for name, given, words in random_cases(LOGS):
         text = given.decode()
-        said = audited(text, *words).splitlines()
+        said = audited(text, *words)
         if not said:
             # (it is refused)
             continue
-        objects = [it for it in map(json.loads, said) if "fault" in it]
-        drawing, met = logged(text, *words), met + len(objects)
-        pairs = zip(drawing.faults, objects, strict=True)
-        wrong = [it for it in (path_fault(drawing, *both) for both in pairs) if it]
-        yield name, (wrong or [order_fault(drawing)])[0]
+        drawing = logged(text, said=said)
+        met += len(drawing.faults)
+        data = json.loads(json.dumps(drawings.columns_of(drawing)))
+        objects = [it for it in map(json.loads, said.splitlines()) if "fault" in it]
+        wrong = (path_fault(drawing, *both) for both in zip(drawing.faults, objects, strict=True))
+        yield name, log_fault(text, words, data, drawing) or next(filter(None, wrong), None)
     yield "enough faults", None if met > LOGS else f"{met}"
 
 
 def path_fault(drawing, fault, said):
-    """Says what of a fault's object its path, its links and its view have not."""
+    """Says what of a fault's object its links, its view and its lateness have not."""
     names = ["at", "reported", "drawn", "by", "teller", *["first"] * bool(said.get("late"))]
-    named = {said[it]["line"] - 1 for it in names if said.get(it)}
-    way = []
-    if "teller" in said:
-        by, teller = (said[it]["line"] - 1 for it in ("by", "teller"))
-        way = [by, *(at for at in sorted(fault.path) if at not in named), teller]
-    who = [drawing.lanes[drawing.bars[it].lane].replace("client", "from") for it in way]
-    known = None, None
-    if "known" in said:
-        known = str(said["known"]), said.get("reported", said["at"])["line"] - 1
-    left, right = drawings.window(drawing, fault)
-    ends = [(drawing.bars[it].left, drawings.end_of(drawing.bars[it])) for it in fault.path]
+    at = {name: said[name]["line"] - 1 for name in names if said.get(name)}
+    knower, other = at.get("reported", at["at"]), at.get("drawn", at.get("reported"))
+    beside = [(other, at["at"])] * (other is not None and at.get("by") != at["at"])
+    chain = [it[:2] for it in fault.links]
+    way = [at["by"], knower] if "by" in at else []
+    if "teller" in at:
+        learns = [end for _start, end in chain[:-1 - len(beside)]]
+        way = [at["by"], *learns, knower] if learns[-1:] == [at["teller"]] else []
+    wanted = [*zip(way, way[1:]), *beside]
+    lines, late = drawing.lines, [it for it in (said.get("late"),) if it]
+    for start, end, has_tip in fault.links:
+        one, two = lines[start], lines[end]
+        if has_tip and (one.ended is None or one.ended > two.began):
+            return f"an arrow from {one} to {two}"
     is_right = (
-        named <= set(fault.path) <= {*named, *way} and way == sorted(way)
-        and [drawing.bars[it].label for it in way[1:]] == who[:-1]
-        and (fault.faulty, fault.known, fault.knower) == ([said["at"]["line"] - 1], *known)
-        and all(left <= begin and end <= right for begin, end in ends)
-        and all(it.left <= it.right for it in drawings.links_of(drawing, fault))
+        chain == wanted and set(at.values()) <= set(fault.roles) and fault.at == at["at"]
+        and (fault.known, fault.knower) == (str(said["known"]) if "known" in said else None, knower)
+        and (fault.late, fault.first) == (f"{late[0]:,} too late" if late else "", at.get("first"))
     )
     return None if is_right else f"{fault}, of {said}"
+
+
+# ---- bugs that were planted, and what they would change
+
+
+def rows_at(*calls):
+    """The rows of reads of one client, from when to when each is."""
+    lines = [{"client": "a", "read": 1, "began": began, "ended": ended} for began, ended in calls]
+    return drawings.columns_of(logged(lines_text(lines)))["row"]
+
+
+def planted(_program):
+    """What bugs that were planted once would change: names, numbers, counts and accounts."""
+    tag = "</script></style><!--<b>&amp;"
+    text = HAND["a log without times"][0].replace('"a"', json.dumps(tag)).replace('"b"', '"\\"\\n"')
+    drawing, tagged = logged(text, name=tag), json.dumps(tag)
+    is_named = drawing.faults and f'client "{tag}"' in drawing.faults[0].reason
+    yield "names that look like tags", page_fault(drawing) or (None if is_named else drawing.faults)
+    turned = logged(text.replace('\\"\\n', "\u202eb\u05d0"))
+    long = drawings.columns_of(logged(text.replace(tagged, f'"{"x" * 10_000}"')))
+    yield "a name that turns text", differing(
+        "lane", drawings.columns_of(turned)["lanes"][1], "client \u2068\\u202eb\u05d0\u2069")
+    found = '<p id="why">client &quot;<bdi>\\u202eb\u05d0</bdi>&quot; read' in page_of.page(turned)
+    yield "a name that turns a sentence", None if found else turned.faults[0].reason
+    lengths = [len(it) for it in long["lanes"] + long["words"]]
+    yield "a long name", None if max(lengths) < 250 else f"{max(lengths)}"
+    times = [{"client": "a", "commit": 200, "began": 2**60 + 1, "ended": 2**60 + 5},
+             {"client": "b", "read": 100, "began": 2**60 + 2**40 + 7, "ended": None}]
+    data = drawings.columns_of(logged(lines_text(times), "--margin", str(2**40)))
+    found = data["origin"], data["left"], data["bands"][0]["left"], data["faults"][0]["late"]
+    wanted = "1,152,921,504,606,846,977", [0, 2**40 + 6], [2**40 + 4], "1,099,511,627,778 too late"
+    yield "moments above 2^53, and a margin above 2^32", differing("data", found, wanted)
+    for calls, wanted in (([(1, 5), (5, 9)], [0, 0]), ([(1, 6), (5, 9)], [0, 1]),
+                          ([(1, 5), (2, 3), (5, 9)], [0, 1, 0]), ([(1, None), (9, 9)], [0, 1]),
+                          ([(1, None), (2, None), (3, 4)], [0, 1, 2])):
+        yield f"rows of {calls}", differing("rows", rows_at(*calls), wanted)
+    text = HAND["a log"][0]
+    digits = re.sub(r"(?<=:)(\d+)", r'"\1"', text).replace('"a"', "7")
+    is_same = logged(digits) == logged(text.replace('"a"', '"7"'))
+    yield "numbers in texts, and a client's number", differing("the same", is_same, True)
+    for count, of in ((1, "A log of 1 client"), (2, "A log of 2 clients")):
+        lines = [{"client": f"c{at % count}", "read": 1} for at in range(2)]
+        lines.append({"client": "c0", "ask": 5})
+        drawing = logged(lines_text(lines))
+        yield of, differing("account", (drawing.heading, drawing.account),
+                            (of, "No fault in 2 reads, 1 ask."))
+    said = logged('{"client":"its bits","read":1}').lines[0].words
+    yield "a name with 'its'", differing("words", said, 'Line 1: client "its bits" read 1.')
+    nameless = [{"read": 1, "began": 1, "ended": 2}] * 2
+    found = logged(lines_text(nameless))
+    yield "callers without a name", differing(
+        "heading", (found.heading, drawings.columns_of(found)["lanes"]),
+        ("A log of callers without a name", ["callers without a name"]))
 
 
 # ---- texts that are refused
 
 
-# What stands in the place of which line of STALE with its audit and history, or, without a text,
-# in the place of that one and those below; and the refusal there, or else the one in front.
+RUN = """0 0 0 ask prev 0 version 100 ordinal 0 fresh
+0 0 1 ask prev 100 version 200 ordinal 1 fresh
+0 0 2 report 200 raised pos 1
+0 0 3 tell 1 pos 1
+1 1 0 grv 200 unlocked none pos 1
+audit ok events 2 raised 1 versions 2
+history 0 client 0 call 2 report 200 unlocked none raised
+history 1 client 1 call 1 read 200 unlocked none
+"""
+# What stands in the place of which line of RUN, and the refusal there.
 REFUSED_TEXTS = """BadLine 5 1 1 0 get 100 unlocked none pos 1
 BadLine 3 0 0 2 report 200 rised pos 1
 BadLine 5 1 1 0 grv refused Closed
 BadLine 5 1 64 0 grv 100 unlocked none pos 1
 BadLine 4 0 0 3 tell 0 pos 1
+BadLine 5 Order 1 1
 BadOrder 2 0 0 0 ask prev 0 version 100 ordinal 0 fresh
 BadOrder 7 1 1 1 grv 200 unlocked none pos 1
 BadOrder 7 audit ok events 2 raised 1 versions 2
 BadAudit 6 audit ok events 3 raised 1 versions 2
 BadHistory 6 history 0 client 0 call 2 report 200 unlocked none raised
-BadHistory 7 history 1 client 1 call 1 read 100 unlocked none
-BadHistory 8 history 1 client 1 call 0 read 100 unlocked none
-BadHistory 8 history 1 client 1 call 1 read 100 locked none
-BadFault 9 Wrong 1 2
-BadFault 9 Clash 2
-BadFault 9 Wrong 1
-BadFault 9 Gap 1 1"""
+BadHistory 7 history 1 client 1 call 1 read 200 unlocked none
+BadHistory 8 history 1 client 1 call 0 read 200 unlocked none
+BadHistory 8 history 1 client 1 call 1 read 200 locked none"""
 # Behind how many of its lines the same is cut, and how that is refused.
 CUT_TEXTS = {7: "Cut 7", 5: "Cut 5", 0: "BadLine 1"}
 # Lines of a log that the audit accepts, and of those one in the place of the last.
@@ -395,30 +512,33 @@ REFUSED_LINES = (
 )
 # What is changed in what was said of a log, and how it is refused then, if it is.
 CHANGED_VERDICTS = (
-    ('"client":"b"', '"client":"a"', "BadFault 1"),
-    ('"began":10,', '"began":11,', "BadFault 1"),
-    ('"ended":14}', '"ended":15}', "BadFault 1"),
-    ('"by":{"line":1', '"by":{"line":9', "BadFault 1"),
-    ('"commit":200', '"report":200', "BadFault 1"),
-    ('"commit":200', '"commit":300', "BadFault 1"),
-    ('"Order"', '"Orders"', "BadFault 1"),
-    ('"Order"', '"Stray"', "BadFault 1"),
-    ('"reason":"known"', '"reason":"knew"', "BadFault 1"),
-    ('"reason":"known"', '"reason":"reported"', "BadFault 1"),
-    ('"known":200,', '', "BadFault 1"),
-    ('"at":', '"on":', "BadFault 1"),
+    ('"client":"b"', '"client":"a"', "BadVerdict 1"),
+    ('"began":10,', '"began":11,', "BadVerdict 1"),
+    ('"ended":14}', '"ended":15}', "BadVerdict 1"),
+    ('"by":{"line":1', '"by":{"line":9', "BadVerdict 1"),
+    ('"commit":200', '"report":200', "BadVerdict 1"),
+    ('"commit":200', '"commit":300', "BadVerdict 1"),
+    ('"Order"', '"Orders"', "BadVerdict 1"),
+    ('"reason":"known"', '"reason":"knew"', "BadVerdict 1"),
+    ('"reason":"known"', '"reason":"reported"', "BadVerdict 1"),
+    ('"known":200,', '', "BadVerdict 1"),
+    ('"at":', '"on":', "BadVerdict 1"),
+    ('"means":"ended"', '"means":"learnt"', "BadVerdict 1"),
+    ('"late":35', '"late":"35"', "BadVerdict 1"),
+    ('"members":[]', '"members":[{}]', "BadVerdict 2"),
     ('"lines":7', '"lines":8', "BadVerdict 2"),
     ('"margin":0', '"margin":"x"', "BadVerdict 2"),
     ('{"faults":1', 'audit ok\n{"faults":1', "BadVerdict 3"),
     ('{"faults":1', '{"faults":2', "Cut 4"),
     ('{"faults":1', '{"history":0}\n{"fault_rate":0.5}\n{"more":{},"faults":1', None),
+    ('{"faults":1', 'fdb_audit: audit fault: Order 4\n{"faults":1', None),
     ('"means":', '"more":[1],"means":', None),
 )
 
 
 def refused_texts(_program):
     """Another text is refused with the name and line of what is wrong, and nothing is written."""
-    right = (STALE + AUDITED + HISTORY).splitlines()
+    right = RUN.splitlines()
     for case in REFUSED_TEXTS.splitlines():
         name, at, line = case.split(" ", 2)
         given = [*right[: int(at) - 1], line, *right[int(at) :]]
@@ -451,9 +571,7 @@ def refusal_fault(draw, refusal):
 
 def by_command(log, said):
     """The command writes a page, or tells on standard error why not."""
-    given = STALE.encode()
     page = page_of.page(logged(log.decode(), said=said.decode(), name="/dev/stdin"))
-    order = page_of.page(drawn(STALE, "Order 1 1"))
     written = lambda page: Ran(DONE, page.encode(), b"")
     refused = lambda why: Ran(REFUSED, b"", b"picture: text refused: " + why)
     with tempfile.NamedTemporaryFile() as file:
@@ -461,9 +579,9 @@ def by_command(log, said):
         file.flush()
         for text, words, wanted in (
             (log, ["/dev/stdin", file.name], written(page)),
-            (given, ["--fault", "Order 1 1"], written(order)),
-            (given, [], refused(b"Cut 5: ")),
-            (given + b"\xff\n", [], refused(b"NotText 6: ")),
+            (RUN.encode(), [], written(page_of.page(drawn(RUN)))),
+            (b"0 0 0 ask prev 0 version 100 ordinal 0 fresh\n", [], refused(b"Cut 1: ")),
+            (RUN.encode() + b"\xff\n", [], refused(b"NotText 9: ")),
             (b"{}\n", ["/dev/stdin", file.name], refused(b"BadLog 1: ")),
             (log, ["/dev/stdin", f"{EXAMPLES}/first.out"], refused(b"BadVerdict 1: ")),
             (b"", [f"{ROOT}/none"], Ran(NO_STREAM, b"", b"picture: reading failed: ")),

@@ -7,7 +7,7 @@ process.stdin.on("data", (it) => { given += it; });
 process.stdin.on("end", () => {
   const [text, calls] = JSON.parse(given), begun = process.cpuUsage();
   const drawing = JSON.parse(text), index = Scene.indexed(drawing);
-  const first = { scene: [index], overview: [index], markup: [] };
+  const first = { scene: [index], overview: [index], found: [index], markup: [], straight: [] };
   const answers = calls.map(([name, ...rest]) => Scene[name](...(first[name] || [drawing]), ...rest));
   const { user, system } = process.cpuUsage(begun);
   process.stdout.write(JSON.stringify([answers, (user + system) / 1e6]));

@@ -1,231 +1,237 @@
-"""What a picture shows, without a pixel: calls in lanes, bands that rise, arrows, and faults."""
+"""What a page shows of calls, without a pixel: their lanes and rows, what was known, and faults."""
 import heapq
+import json
+import math
+import re
+from bisect import bisect_left
+from collections import defaultdict
+from itertools import accumulate
 from typing import NamedTuple, Optional
+
+CALLS = ("read", "commit", "ask", "report")
+# What shows a version to all, and what must get one that is above all that was shown or drawn.
+SHOWING, DRAWING = ("read", "commit", "report"), ("commit", "ask")
+# Of so many clients all are shown where no fault is. A column of an axis without times is so wide,
+# with so much free at each side of a bar.
+MOST_LANES, COLUMN, FREE = 200, 10, 1
+# What of a fault's part is left free at each side. Between its calls a gap of so many times their
+# own length is drawn as long as half of it.
+MARGIN, FAR, SHORT = 0.12, 8, 0.5
+# Moments of more digits are told from the first one on. A longer name is cut in its middle.
+DIGITS, LONGEST = 6, 36
+# What is escaped in a name as the audit does, besides what JSON escapes, and what holds a name of
+# letters that may turn the text about it.
+NAMELESS, START = "callers without a name", "all began with it"
+UNPRINTABLE = re.compile("[\x7f-\x9f\u061c\u200e\u200f\u2028-\u202e\u2066-\u2069]")
+ISOLATED, JSON = "\u2068{}\u2069", json.JSONEncoder(ensure_ascii=False, separators=(",", ":"))
 
 
 class Refused(Exception):
     """Says why a text is refused: a name, the line, counted from 1, and what is wrong there."""
 
 
-class Bar(NamedTuple):
-    """A call: its lane, from where to where it goes there, and what is said of it."""
+class Line(NamedTuple):
+    """A call: a line of a log, or of the text of a run."""
 
-    lane: int
-    left: int
-    # None where it is not known when the call ended.
-    right: Optional[int]
+    client: Optional[str]
     kind: str
-    # What stands beside its kind's name, most often its version.
-    label: str
-    # How the words of a fault call it, as 'line 4'.
-    name: str
-    words: str
+    label: str  # what stands at its bar beside the kind: a version, or another client
+    began: int  # or its column, where calls have no times
+    ended: Optional[int]  # which may not be known
+    name: str  # how a fault calls it, as 'line 4'
+    words: str  # what is said of it
+    counts: str  # as which call of a log it counts for later ones, with which version
+    version: int = 0
+    source: Optional[int] = None  # the call from which it learnt, as a place in the list of calls
+    key: Optional[str] = None
 
 
 class Band(NamedTuple):
-    """From here on at least this is known; of a text with positions, this is live."""
+    """From here on this version is known, or is that of a record, which may be locked."""
 
     left: int
     label: str
     words: str
-
-
-class Arrow(NamedTuple):
-    """From a call to the one that learnt by it, both as places in the list of calls."""
-
-    start: int
-    end: int
+    locked: int = 0
 
 
 class Fault(NamedTuple):
-    """A fault: its name and why it stands, the calls that it is about, and what joins them."""
+    """A fault: its name, what that means, and why it stands; calls are named by their places."""
 
-    # The audit's own name and place, the same in plain words, what that means, and the reason.
-    said: str
     title: str
     means: str
     reason: str
-    # Places in the list of calls: those at fault, and all that the reason names, by time.
-    faulty: list
-    path: list
-    # What each call of the path is to the fault, in words that stand before its own.
-    roles: list
-    # The version that the reason says was known, and to which call, where it says so.
-    known: Optional[str] = None
-    knower: Optional[int] = None
-
-
-class Kind(NamedTuple):
-    """A kind of call: how it is called at its bar, in the key, and what is said of one."""
-
-    short: str
-    key: str
-    words: str
+    at: int  # the call at fault
+    roles: dict  # all calls that are named, with what each is to it
+    links: list  # two of these that are joined, and whether the first had ended before the second
+    known: Optional[str]  # the version that was known, to which call
+    knower: int
+    late: str  # how late the call at fault was, since which one's end
+    first: Optional[int]
 
 
 class Drawing(NamedTuple):
     """All that a page shows."""
 
     heading: str
-    # What was found, the rules that the picture goes by, and what else a stranger has to know.
-    account: list
-    notes: list
-    about: list
-    # What the axis is: 'time', or 'order' where each call has a column.
-    axis: str
-    # What stands at 0 of the axis.
-    origin: int
-    lanes: list
-    bars: list
-    bands: list
-    arrows: list
+    account: str  # what was found
+    notes: list  # the rules that the picture goes by
+    axis: str  # 'time', or 'order', where each call has a column
+    lines: list
+    rounds: list  # of a run, each from where to where, and its name
+    bands: dict  # of each key
     faults: list
-    kinds: dict
-    # What is said of the version at which a band begins.
-    rise: str
+    kinds: dict  # how each kind of call is called at its bar, in the key, and in words
 
 
-# What a call is to a fault, in front of its own words.
-AT_FAULT = "At fault: "
-# A column of an axis without times, in its units, and what of it is free at each side of a bar.
-COLUMN, FREE = 10, 1
-# How much of a fault's part is left free at each side: a share of it, or of columns one.
-MARGIN = 0.12
-# How far a call that stands alone is seen: so many of its lengths, or so many columns.
-LENGTHS, ALONE = 3, 4
+def counted(count, one):
+    return f"{count:,} {one}{'' if count == 1 else 's'}"
 
 
-def counted(count, one, several):
-    return f"{count} {one if count == 1 else several}"
+def shown(value):
+    """A name or a value in a sentence: no letter of it steers the text, or moves what is beside."""
+    text = UNPRINTABLE.sub(lambda it: f"\\u{ord(it[0]):04x}", JSON.encode(value))
+    text = text[1:-1] if isinstance(value, str) else text
+    if len(text) > LONGEST:
+        text = f"{text[:LONGEST // 2]}…{text[-LONGEST // 2:]}"
+    return text if text.isascii() else ISOLATED.format(text)
 
 
-def headed(what, lanes, name):
-    """The heading of a page."""
-    return f"A {what} of {counted(len(lanes), 'client', 'clients')}" + (f": {name}" if name else "")
+def quoted(value):
+    return f'"{shown(value)}"' if isinstance(value, str) else shown(value)
 
 
-def end_of(bar):
-    return bar.left if bar.right is None else bar.right
+def heading(what, lines, name):
+    clients = {it.client for it in lines}
+    named = [counted(len(clients - {None}), "client")] * (clients != {None})
+    of = " and ".join(named + [NAMELESS] * (None in clients))
+    return f"A {what} of {of}" + (f": {shown(name)}" if name else "")
 
 
-def span(drawing):
-    """The whole axis, from the first begin to the last end."""
-    left = min([it.left for it in drawing.bars], default=0)
-    return left, max([end_of(it) for it in drawing.bars] + [left + 1])
+def column(at):
+    """From where to where the bar of a column goes."""
+    return at * COLUMN + FREE, (at + 1) * COLUMN - FREE
 
 
-def window(drawing, fault):
-    """The smallest part that shows a fault, and a margin; where it names no call, all."""
-    calls = [drawing.bars[it] for it in fault.path]
-    first, last = span(drawing)
-    left = min((it.left for it in calls), default=first)
-    right = max(map(end_of, calls), default=last)
-    if len(calls) == 1:
-        more = LENGTHS * (right - left) if drawing.axis == "time" else ALONE * COLUMN
-        left, right = max(left - more, min(first, left)), min(right + more, max(last, right))
-    more = max(1, MARGIN * (right - left)) if drawing.axis == "time" else COLUMN
-    return left - more, right + more
+class Rising:
+    """Versions by moments: which was the newest before one."""
+
+    def __init__(self, pairs=()):
+        self.moments = [moment for moment, _version in sorted(pairs)]
+        self.newest = [0, *accumulate((version for _moment, version in sorted(pairs)), max)]
+
+    def before(self, moment):
+        return self.newest[bisect_left(self.moments, moment)]
 
 
-def lanes_of(drawing, fault):
-    """The lanes that a fault is about, or all where it is about no call; others are folded away."""
-    named = {drawing.bars[it].lane for it in fault.path}
-    return sorted(named or range(len(drawing.lanes)))
+def known_by_time(lines, margin, start):
+    """What each call knew when it began: of asks and commits also what had been drawn."""
+    found, none = [start] * len(lines), Rising()
+    for kinds, is_drawing in ((SHOWING, False), (CALLS, True)):
+        to_all, own = defaultdict(list), defaultdict(list)
+        for at, it in enumerate(lines):
+            if it.ended is not None and it.counts in kinds:
+                to_all[it.key].append((it.ended + margin, it.version))
+                own[it.key, it.client].append(((it.ended, at), it.version))
+        to_all, own = ({key: Rising(it) for key, it in of.items()} for of in (to_all, own))
+        for at, it in enumerate(lines):
+            if (it.counts in DRAWING) == is_drawing:
+                mine = none if it.client is None else own.get((it.key, it.client), none)
+                found[at] = max(start, to_all.get(it.key, none).before(it.began),
+                                mine.before((it.began, at)))
+    return found
 
 
-def rows_of(bars):
-    """The row of each call in its lane: calls that overlap stand in rows below one another."""
-    rows, free = [0] * len(bars), {}
-    for at in sorted(range(len(bars)), key=lambda it: (bars[it].left, it)):
-        bar = bars[at]
-        ends, idle = free.setdefault(bar.lane, ([], []))
-        while ends and ends[0][0] <= bar.left:
+def known_by_telling(lines, start):
+    """The same without times: by a client's calls above, and what it had learnt by them."""
+    found, after, last = [], [], {}
+    for at, it in enumerate(lines):
+        before = after[last[it.key, it.client]] if (it.key, it.client) in last else (start, start)
+        found.append(before[it.counts in DRAWING])
+        own = it.version if it.counts in SHOWING else start, it.version
+        after.append([*map(max, before, before if it.source is None else after[it.source], own)])
+        last[it.key, it.client] = at
+    return found
+
+
+def rising(moments):
+    """A band for each version that is newer than all before: from moments, versions and reasons."""
+    found, newest = [], -1
+    for left, version, why in sorted(moments, key=lambda it: (it[0], -it[1])):
+        if version > newest:
+            words = f"From here on {version} is known to all: {why}."
+            found.append(Band(left, f"{version}{' known from the start' * (why == START)}", words))
+            newest = version
+    return found
+
+
+def end_of(line):
+    return line.began if line.ended is None else line.ended
+
+
+def rows_of(lines):
+    """The row of each call in its lane: calls that overlap stand in rows below one another.
+    A call whose end is not known may reach any later one, and has a row of its own."""
+    rows, free = [0] * len(lines), {}
+    for at in sorted(range(len(lines)), key=lambda it: (lines[it].began, it)):
+        line = lines[at]
+        ends, idle = free.setdefault(line.client, ([], []))
+        while ends and ends[0][0] <= line.began:
             heapq.heappush(idle, heapq.heappop(ends)[1])
         rows[at] = heapq.heappop(idle) if idle else len(ends)
-        heapq.heappush(ends, (end_of(bar), rows[at]))
+        heapq.heappush(ends, (math.inf if line.ended is None else line.ended, rows[at]))
     return rows
 
 
-class Link(NamedTuple):
-    """What joins two calls of a fault's path, and where it goes on the axis from and to."""
-
-    start: int
-    end: int
-    left: int
-    right: int
-    # Whether it is an arrow: the first call had ended when the second began.
-    has_tip: bool
-
-
-def links_of(drawing, fault):
-    """What joins the calls of a fault, each with the next.
-
-    An arrow goes from the end of a call to the begin of a later one. Calls that overlap are joined
-    without a tip, where the second begins; one whose end is not known, from where it began.
-    """
-    for start, end in zip(fault.path, fault.path[1:]):
-        one, two = drawing.bars[start], drawing.bars[end]
-        has_tip = one.right is not None and one.right <= two.left
-        yield Link(start, end, min(end_of(one), two.left), two.left, has_tip)
+def opened(fault, lines, axis, origin):
+    """The part of the axis that shows a fault; its gaps: from where to where, how long drawn."""
+    calls = [lines[it] for it in fault.roles]
+    ends = sorted((it.began - origin, end_of(it) - origin) for it in calls)
+    reached = [*accumulate((end for _begin, end in ends), max)]
+    free = [(end, begin) for end, (begin, _end) in zip(reached, ends[1:]) if begin > end]
+    left, right = ends[0][0], reached[-1]
+    own = max(1, right - left - sum(begin - end for end, begin in free))
+    gaps = [[end + MARGIN * own, begin - MARGIN * own, SHORT * own]
+            for end, begin in free if begin - end > FAR * own]
+    size = right - left - sum(end - begin - drawn for begin, end, drawn in gaps)
+    more = max(1, (MARGIN if len(ends) > 1 else 1) * size) if axis == "time" else COLUMN
+    return {"from": left - more, "to": right + more, "gaps": gaps}
 
 
-def told_fault(bars, said, title, means, told, more="", brief=None, **known):
-    """A fault from what its calls are to it; those at fault come first.
-
-    The reason has the words of each, or brief ones, and more.
-    """
-    brief = brief or (lambda at: bars[at].words)
-    faulty = [at for at, role in told if role == AT_FAULT]
-    roles = dict(reversed(told))
-    path = sorted(roles, key=lambda at: (bars[at].left, at))
-    reason = [("" if role == AT_FAULT else role) + brief(at) for at, role in told]
-    reason = " ".join([*reason, *[more] * bool(more)])
-    return Fault(said, title, means, reason, faulty, path, [roles[at] for at in path], **known)
-
-
-def column_ends(column):
-    """From where to where the bar of a column goes."""
-    return column * COLUMN + FREE, (column + 1) * COLUMN - FREE
-
-
-def sequence(needs, keys):
-    """The calls by their keys, each behind those that it needs, or None where some wait in turn."""
-    left, followers = [len(it) for it in needs], [[] for _ in needs]
-    for at, before in enumerate(needs):
-        for it in before:
-            followers[it].append(at)
-    ready = [(keys[at], at) for at, count in enumerate(left) if not count]
-    heapq.heapify(ready)
-    found = []
-    while ready:
-        at = heapq.heappop(ready)[1]
-        found.append(at)
-        for it in followers[at]:
-            left[it] -= 1
-            if not left[it]:
-                heapq.heappush(ready, (keys[it], it))
-    return found if len(found) == len(needs) else None
-
-
-def ranked(needs, own):
-    """How far each call has come: its own level, or a higher one of what came before it."""
-    levels, order = list(own), sequence(needs, own)
-    for at in order or ():
-        levels[at] = max([levels[at], *(levels[it] for it in needs[at])])
-    return order and levels
-
-
-def placed(needs, own, fixed, chain, ties):
-    """The level of each call, the calls in their order, and the column of each in it.
-
-    The chain of commit versions goes in its order, unless that would lift one of the fixed calls.
-    Calls of one level go by their ties.
-    """
-    known = [list(it) for it in needs]
-    for before, after in zip(chain, chain[1:]):
-        known[after].append(before)
-    levels, lifted = ranked(needs, own), ranked(known, own)
-    if lifted and all(lifted[it] == levels[it] for it in fixed):
-        levels, needs = lifted, known
-    order = sequence(needs, [(level, *ties(at, level)) for at, level in enumerate(levels)])
-    return levels, order, {at: column for column, at in enumerate(order)}
+def columns_of(drawing):
+    """All that the page's code draws, as lists with an item for each call."""
+    lines, kinds = drawing.lines, {kind: at for at, kind in enumerate(drawing.kinds)}
+    lanes = {it: at for at, it in enumerate(dict.fromkeys(it.client for it in lines))}
+    keys = {it: at for at, it in enumerate(drawing.bands)}
+    is_far = drawing.axis == "time" and max(map(end_of, lines), default=0) >= 10**DIGITS
+    origin = min(it.began for it in lines) if is_far else 0
+    left = [it.began - origin for it in lines]
+    right = [None if it.ended is None else it.ended - origin for it in lines]
+    faults = [{**it._asdict(), "roles": [*it.roles.items()], "key": keys[lines[it.at].key],
+               "lanes": [*dict.fromkeys(lanes[lines[at].client] for at in it.roles)],
+               **opened(it, lines, drawing.axis, origin)} for it in drawing.faults]
+    first, last = min(left, default=0), max(map(end_of, lines), default=origin + 1) - origin
+    free = max(1, (last - first) / 50)
+    of = lambda rows, *names: {name: [getattr(it, name) for it in rows] for name in names}
+    return {
+        "axis": drawing.axis,
+        "origin": f"{origin:,}" if origin else "",
+        "from": min([first - free, *(it["from"] for it in faults)]),
+        "to": max([last + free, *(it["to"] for it in faults)]),
+        "lanes": [NAMELESS if it is None else f"client {shown(it)}" for it in lanes],
+        "most_lanes": MOST_LANES,
+        "kinds": [{"id": it, "short": short} for it, (short, *_words) in drawing.kinds.items()],
+        "lane": [lanes[it.client] for it in lines],
+        "kind": [kinds[it.kind] for it in lines],
+        "row": rows_of(lines),
+        "left": left,
+        "right": right,
+        **of(lines, "label", "name", "words"),
+        "key": [keys[it.key] for it in lines] if len(keys) > 1 else [],
+        "keys": ["no key" if it is None else quoted(it) for it in keys],
+        "rounds": drawing.rounds,
+        "bands": [{**of(bands, *Band._fields), "left": [it.left - origin for it in bands]}
+                  for bands in drawing.bands.values()],
+        "arrows": [[it.source, at] for at, it in enumerate(lines) if it.source is not None],
+        "faults": faults,
+    }

@@ -1,71 +1,116 @@
-"""A build backend without dependencies: pip builds the wheel with Python alone, and offline."""
+"""A build backend without dependencies: pip builds wheel and sdist with Python alone, and offline."""
 from __future__ import annotations
 
 import base64
+import gzip
 import hashlib
+import io
 import os
+import re
 import sysconfig
+import tarfile
 import zipfile
 from pathlib import Path
+from typing import IO, Dict, List, Optional, cast
 
-NAME, VERSION, PACKAGE = "fdb-read-version", "0.1.0", "fdb_read_version"
+PACKAGE, LIBRARY = "fdb_read_version", "libfdb_read_version.so"
 HERE = Path(__file__).resolve().parent
-BUILT = HERE.parents[1] / "crates" / "fdb_c" / "out" / "libfdb_c.so"
+Settings = Optional[Dict[str, str]]
 
 
-def _tag() -> str:
-    platform = sysconfig.get_platform().replace("-", "_").replace(".", "_")
-    return f"py3-none-{platform}"
+def _project() -> str:
+    return (HERE / "pyproject.toml").read_text(encoding="utf-8")
 
 
-def _library() -> Path:
-    file = Path(os.environ.get("FDB_READ_VERSION_LIB", BUILT))
-    file = file / "libfdb_c.so" if file.is_dir() else file
+def _said(name: str) -> str:
+    """A line of pyproject.toml. (Python has a reader of TOML from 3.11 on.)"""
+    found = re.search(rf'^{name} = "(.*)"$', _project(), re.MULTILINE)
+    assert found, name
+    return found[1]
+
+
+def _base() -> str:
+    return f"{PACKAGE}-{_said('version')}"
+
+
+def _metadata() -> bytes:
+    author = re.search(r'name = "([^"]*)", email = "([^"]*)"', _project())
+    assert author
+    lines = [
+        "Metadata-Version: 2.1",
+        f"Name: {_said('name')}",
+        f"Version: {_said('version')}",
+        f"Summary: {_said('description')}",
+        f"Author-email: {author[1]} <{author[2]}>",
+        f"Requires-Python: {_said('requires-python')}",
+        *(f"Classifier: {it}" for it in re.findall(r'^    "(.* :: .*)",$', _project(), re.M)),
+        "Description-Content-Type: text/markdown",
+        "",
+        (HERE / "README.md").read_text(encoding="utf-8"),
+    ]
+    return "\n".join(lines).encode()
+
+
+def _library() -> bytes:
+    """The library that the environment names, or what the repository built."""
+    top = HERE.parent.parent
+    file = Path(os.environ.get("FDB_READ_VERSION_LIB", top / "crates" / "fdb_c" / "out"))
+    file = file / LIBRARY if file.is_dir() else file
     if not file.is_file():
         how = "make it with tools/bindings, or set FDB_READ_VERSION_LIB to its path"
         raise SystemExit(f"{file} is missing: {how}")
-    return file
+    return file.read_bytes()
 
 
-def _written(directory: str, contents: dict[str, bytes]) -> str:
-    """Writes a wheel of these files, and returns its name."""
-    name, info = f"{PACKAGE}-{VERSION}-{_tag()}.whl", f"{PACKAGE}-{VERSION}.dist-info"
-    metadata = f"Metadata-Version: 2.1\nName: {NAME}\nVersion: {VERSION}\nRequires-Python: >=3.9\n"
-    wheel = f"Wheel-Version: 1.0\nGenerator: {PACKAGE}\nRoot-Is-Purelib: false\nTag: {_tag()}\n"
-    contents = {
-        **contents,
-        f"{info}/METADATA": metadata.encode(),
-        f"{info}/WHEEL": wheel.encode(),
-    }
-    lines = []
-    with zipfile.ZipFile(Path(directory) / name, "w", zipfile.ZIP_DEFLATED) as archive:
+def _files(*folders: str) -> List[Path]:
+    found = (it for folder in folders for it in sorted((HERE / folder).rglob("*")))
+    return [it for it in found if it.suffix == ".py" or it.name == "py.typed"]
+
+
+def _wheel(directory: str, contents: Dict[str, bytes]) -> str:
+    """Writes a wheel of these files, and returns its name. The same files give the same bytes."""
+    tag = "py3-none-" + re.sub(r"[-.]", "_", sysconfig.get_platform())
+    wheel = f"Wheel-Version: 1.0\nGenerator: {PACKAGE}\nRoot-Is-Purelib: false\nTag: {tag}\n"
+    info = f"{_base()}.dist-info"
+    contents = {**contents, f"{info}/METADATA": _metadata(), f"{info}/WHEEL": wheel.encode()}
+    lines = [f"{info}/RECORD,,\n"]
+    for path, content in contents.items():
+        digest = base64.urlsafe_b64encode(hashlib.sha256(content).digest()).rstrip(b"=").decode()
+        lines.append(f"{path},sha256={digest},{len(content)}\n")
+    contents[f"{info}/RECORD"] = "".join(lines).encode()
+    name = f"{_base()}-{tag}.whl"
+    with zipfile.ZipFile(Path(directory) / name, "w") as archive:
         for path, content in contents.items():
-            digest = base64.urlsafe_b64encode(hashlib.sha256(content).digest())
-            lines.append(f"{path},sha256={digest.rstrip(b'=').decode()},{len(content)}")
-            archive.writestr(path, content)
-        lines.append(f"{info}/RECORD,,")
-        archive.writestr(f"{info}/RECORD", "\n".join(lines) + "\n")
+            member = zipfile.ZipInfo(path)
+            member.external_attr = 0o644 << 16
+            archive.writestr(member, content, zipfile.ZIP_DEFLATED)
     return name
 
 
-def get_requires_for_build_wheel(config_settings=None):
-    return []
+def build_wheel(
+    wheel_directory: str, config_settings: Settings = None, metadata_directory: Optional[str] = None
+) -> str:
+    found = {it.relative_to(HERE / "src").as_posix(): it.read_bytes() for it in _files("src")}
+    return _wheel(wheel_directory, {**found, f"{PACKAGE}/{LIBRARY}": _library()})
 
 
-def get_requires_for_build_editable(config_settings=None):
-    return []
-
-
-def build_wheel(wheel_directory, config_settings=None, metadata_directory=None):
-    sources = sorted((HERE / "src" / PACKAGE).iterdir())
-    contents = {
-        f"{PACKAGE}/{it.name}": it.read_bytes() for it in sources if it.suffix == ".py"
-    }
-    contents[f"{PACKAGE}/py.typed"] = b""
-    contents[f"{PACKAGE}/libfdb_c.so"] = _library().read_bytes()
-    return _written(wheel_directory, contents)
-
-
-def build_editable(wheel_directory, config_settings=None, metadata_directory=None):
+def build_editable(
+    wheel_directory: str, config_settings: Settings = None, metadata_directory: Optional[str] = None
+) -> str:
     path = f"{HERE / 'src'}\n".encode()
-    return _written(wheel_directory, {f"__editable__{PACKAGE}.pth": path})
+    return _wheel(wheel_directory, {f"__editable__{PACKAGE}.pth": path})
+
+
+def build_sdist(sdist_directory: str, config_settings: Settings = None) -> str:
+    """The sources: what builds a wheel of them sets FDB_READ_VERSION_LIB to the library's path."""
+    own = [HERE / it for it in ("README.md", "build_wheel.py", "pyproject.toml")]
+    found = {it: it.read_bytes() for it in [*own, *_files("src", "tests")]}
+    contents = {it.relative_to(HERE).as_posix(): content for it, content in found.items()}
+    name = f"{_base()}.tar.gz"
+    with gzip.GzipFile(Path(sdist_directory) / name, "wb", mtime=0) as file:
+        with tarfile.open(fileobj=cast("IO[bytes]", file), mode="w") as archive:
+            for path, content in {**contents, "PKG-INFO": _metadata()}.items():
+                member = tarfile.TarInfo(f"{_base()}/{path}")
+                member.size = len(content)
+                archive.addfile(member, io.BytesIO(content))
+    return name

@@ -198,11 +198,78 @@ static void refusals(void) {
                   FDB_ENDED);
     refused_calls((fdb_call){.kind = FDB_READ, CLIENT(1)}, FDB_SOME_TIMES, 0);
     refused_calls((fdb_call){.kind = FDB_LEARN, TIMES, CLIENT(1)}, FDB_BAD_MEMBER, FDB_LEARN);
+    /* a client is known by a call above, and not by this one */
+    refused_calls((fdb_call){.kind = FDB_LEARN, .teller = 2, CLIENT(2)}, FDB_BAD_MEMBER, FDB_LEARN);
+    refused_calls((fdb_call){.kind = FDB_LEARN, .teller = 9, .began = 2, .ended = 1, TIMES},
+                  FDB_BAD_MEMBER, FDB_LEARN);
     refused_calls((fdb_call){.kind = FDB_READ}, FDB_BAD_MEMBER, FDB_CLIENT);
+}
+
+/* ---- piece by piece: however it is cut, what is found of the whole, once */
+
+static uint8_t pushed(fdb_audit *audit, const char *log, size_t cut, fdb_refused *refused) {
+    uint8_t status = FDB_OK;
+    for (size_t at = 0; at < strlen(log) && status == FDB_OK; at += cut) {
+        size_t length = at + cut <= strlen(log) ? cut : strlen(log) - at;
+        uint8_t *bytes = exact(log + at, length);
+        status = fdb_audit_push(audit, bytes, length, refused);
+        free(bytes);
+    }
+    return status;
+}
+
+static void in_pieces(void) {
+    const char *log = "{\"client\":\"a\",\"commit\":200,\"began\":10,\"ended\":14}\n"
+                      "{\"client\":\"b\",\"read\":100,\"began\":15,\"ended\":16}";
+    char whole[200], text[200];
+    fdb_refused refused = {77, 77};
+    uint64_t length, size;
+    assert(log_text(log, &PLAIN, whole, sizeof whole, &length, &refused) == FDB_FAULT);
+    fdb_fault fault, wanted = {.known = 200, .line = 1, .by = 0, .kind = FDB_FAULT_ORDER,
+                               .reason = FDB_REASON_KNOWN, .means = FDB_MEANS_ENDED};
+    for (size_t cut = 1; cut <= strlen(log); cut++) {
+        fdb_audit audit = FDB_AUDIT_NONE;
+        assert(fdb_audit_new(&PLAIN, &audit) == FDB_OK);
+        assert(pushed(&audit, log, cut, &refused) == FDB_OK);
+        assert(fdb_audit_text(&audit, (uint8_t *)text, 0, &size) == FDB_OK && size == 0);
+        assert(fdb_audit_end(&audit, &refused) == FDB_FAULT);
+        for (int again = 0; again < 2; again++) {
+            assert(fdb_audit_text(&audit, (uint8_t *)text, length - 1, &size) == FDB_ROOM);
+            assert(size == length);
+            assert(fdb_audit_text(&audit, (uint8_t *)text, sizeof text, &size) == FDB_OK);
+            assert(size == length && !memcmp(text, whole, size));
+            assert(fdb_audit_faults(&audit, &fault, 0, &size) == FDB_ROOM && size == 1);
+            assert(fdb_audit_faults(&audit, &fault, 1, &size) == FDB_OK && size == 1);
+            assert(same_fault(&fault, &wanted));
+        }
+        assert(fdb_audit_end(&audit, &refused) == FDB_OVER);
+        assert(pushed(&audit, log, cut, &refused) == FDB_OVER && refused.line == 77);
+        fdb_audit_free(&audit);
+        assert(audit.at == NULL);
+    }
+    /* the margin is the one that was asked for, and a refusal comes with its line */
+    fdb_audit audit = FDB_AUDIT_NONE;
+    fdb_audit_options options = {.margin = 1};
+    assert(fdb_audit_new(&options, &audit) == FDB_OK);
+    assert(pushed(&audit, log, 7, &refused) == FDB_OK);
+    assert(fdb_audit_end(&audit, &refused) == FDB_OK);
+    assert(fdb_audit_faults(&audit, &fault, 0, &size) == FDB_OK && size == 0);
+    fdb_audit_free(&audit);
+    assert(fdb_audit_new(&PLAIN, &audit) == FDB_OK);
+    assert(pushed(&audit, "{\"client\":\"a\",\"read\":1}\n{}\n{", 3, &refused) == FDB_NO_CALL);
+    assert(refused.line == 2 && refused.member == 0);
+    assert(fdb_audit_end(&audit, &refused) == FDB_OVER);
+    fdb_audit_free(&audit);
+    assert(fdb_audit_new(&PLAIN, &audit) == FDB_OK);
+    assert(fdb_audit_end(&audit, &refused) == FDB_EMPTY && refused.line == 0);
+    fdb_audit_free(&audit);
+    fdb_audit_free(&audit);
+    assert(audit.at == NULL);
 }
 
 int main(void) {
     a_stale_read();
+    in_pieces();
     each_reason();
     no_fault();
     refusals();

@@ -73,8 +73,11 @@ static void chains_agree(size_t calls) {
         assert(same_answer(&one, &all[i]));
         counts[one.status]++;
     }
-    fdb_chain_free(&chain);
-    assert(chain.at == NULL);
+    /* of a chain that is none nothing is freed */
+    for (int again = 0; again < 2; again++) {
+        fdb_chain_free(&chain);
+        assert(chain.at == NULL);
+    }
     if (calls >= 1000) {
         assert(counts[FDB_OK] && counts[FDB_UNKNOWN_PROXY]);
         assert(counts[FDB_EARLY] && counts[FDB_FORGOTTEN]);
@@ -118,7 +121,9 @@ static void chain_by_hand(void) {
     assert(fdb_chain_ask(&chain, &ask, &answer) == FDB_EXHAUSTED);
     assert(answer.status == FDB_EXHAUSTED);
     fdb_chain_free(&chain);
-    assert(fdb_chain_answers(100, 200, 1, &ask, 1, &answer, 0) == FDB_ROOM);
+    /* of several refusals the first stands */
+    assert(fdb_chain_answers(100, 100, 0, &ask, 1, &answer, 0) == FDB_ROOM);
+    assert(fdb_chain_answers(100, 100, 0, &ask, 1, &answer, 1) == FDB_BAD_EPOCH);
     assert(fdb_chain_answers(100, 200, 1, &ask, 0, &answer, 0) == FDB_OK);
 }
 
@@ -211,7 +216,7 @@ static void queue_by_hand(void) {
     assert(fdb_queue_offer(&queue, &system, &outcome) == FDB_OK);
     assert(outcome.has_out && outcome.out.payload == 1 && outcome.system_waits == 1);
     memset(started, 0xff, sizeof started);
-    assert(fdb_queue_window(&queue, 1000, &outcome, started, 1) == FDB_ROOM);
+    assert(fdb_queue_window(&queue, 0, &outcome, started, 1) == FDB_ROOM);
     assert(started[0].payload == UINT64_MAX);
     assert(fdb_queue_window(&queue, 0, &outcome, started, 2) == FDB_BAD_CONFIG);
     assert(fdb_queue_window(&queue, 1000, &outcome, started, 2) == FDB_OK);
@@ -220,6 +225,19 @@ static void queue_by_hand(void) {
     fdb_queue_pop(&queue, &outcome);
     assert(outcome.status == FDB_OK && !outcome.has_out);
     fdb_queue_free(&queue);
+    /* what is freed may be freed and opened again */
+    fdb_queue_free(&queue);
+    assert(fdb_queue_new(&config, &queue) == FDB_OK);
+    fdb_queue_free(&queue);
+    const fdb_op ops[] = {{.kind = FDB_OP_OFFER, .amount = 5, .payload = 7, .priority = FDB_SYSTEM},
+                          {.kind = FDB_OP_WINDOW, .amount = 1000}};
+    fdb_outcome all[2] = {{.started = 77}};
+    uint64_t size = 77;
+    assert(fdb_queue_outcomes(&bad, ops, 2, all, 1, started, 0, &size) == FDB_ROOM);
+    assert(fdb_queue_outcomes(&bad, ops, 2, all, 2, started, 0, &size) == FDB_BAD_CONFIG);
+    assert(size == 77 && all[0].started == 77);
+    assert(fdb_queue_outcomes(&config, ops, 2, all, 2, started, 0, &size) == FDB_ROOM);
+    assert(size == 1 && all[0].system_waits == 1 && all[1].started == 1);
 }
 
 static void waits_and_throttles_by_hand(void) {
@@ -245,6 +263,7 @@ static void waits_and_throttles_by_hand(void) {
     assert(fdb_queue_throttle(&queue, FDB_DEFAULT, tag, 16, 50, &limit) == FDB_OK && !limit.holds);
     assert(fdb_queue_throttle(&queue, FDB_BATCH, tag, 16, 49, &limit) == FDB_OK && !limit.holds);
     assert(fdb_queue_throttle(&queue, FDB_DEFAULT, tag, 15, 49, &limit) == FDB_OK && !limit.rate);
+    assert(fdb_queue_throttle(&queue, FDB_DEFAULT, tag, 17, 49, &limit) == FDB_OK && !limit.holds);
     fdb_queue_free(&queue);
 }
 
@@ -300,10 +319,18 @@ static void forgotten_by_hand(void) {
     fdb_queue_free(&queue);
 }
 
+static void names_and_version(void) {
+    assert(fdb_read_version_version() == FDB_READ_VERSION_VERSION);
+    assert(!strcmp(fdb_status_name(FDB_OK), "OK") && !strcmp(fdb_status_name(FDB_OVER), "OVER"));
+    assert(!strcmp(fdb_status_name(FDB_TAG_TOO_LONG), "TAG_TOO_LONG"));
+    assert(fdb_status_name(9) == NULL && fdb_status_name(255) == NULL);
+}
+
 int main(int count, char **words) {
     size_t calls = count > 1 ? strtoull(words[1], NULL, 10) : 20000;
     state = count > 2 ? strtoull(words[2], NULL, 10) : 7;
     assert(state != 0);
+    names_and_version();
     chain_by_hand();
     chains_agree(calls);
     register_by_hand();

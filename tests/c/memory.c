@@ -178,6 +178,61 @@ static uint8_t log_faults_bear(long allowed) { return audit_bears(allowed, false
 static uint8_t calls_text_bears(long allowed) { return audit_bears(allowed, true, true); }
 static uint8_t calls_faults_bear(long allowed) { return audit_bears(allowed, true, false); }
 
+/* Memory that is refused ends an audit by pieces and a watch: they say so, and can be freed. */
+static uint8_t pieces_bear(long allowed) {
+    fdb_audit audit = FDB_AUDIT_NONE;
+    fdb_refused refused = {.line = 77};
+    fdb_fault fault;
+    uint64_t size = 77;
+    left = allowed;
+    uint8_t status = fdb_audit_new(&ALL, &audit);
+    if (status != FDB_OK) {
+        assert(status == FDB_MEMORY && audit.at == NULL);
+        return status;
+    }
+    status = fdb_audit_push(&audit, BYTES, &refused);
+    if (status == FDB_OK) status = fdb_audit_end(&audit, &refused);
+    assert(status == FDB_MEMORY || status == FDB_FAULT);
+    assert(fdb_audit_push(&audit, BYTES, &refused) == FDB_OVER && refused.line == 77);
+    assert(fdb_audit_end(&audit, &refused) == FDB_OVER);
+    assert(fdb_audit_faults(&audit, &fault, 0, &size) == (status == FDB_FAULT ? FDB_ROOM : FDB_OK));
+    assert(size == (status == FDB_FAULT ? 2 : 0));
+    left = -1;
+    fdb_audit_free(&audit);
+    return status == FDB_FAULT ? FDB_OK : status;
+}
+
+static const char TIMED[] = "{\"client\":\"a\",\"commit\":2,\"began\":1,\"ended\":2,\"k\":\"x\"}\n"
+                            "{\"client\":\"b\",\"read\":1,\"began\":3,\"ended\":4,\"k\":\"x\"}\n{}\n";
+
+static uint8_t watch_bears(long allowed) {
+    fdb_watch_options options = {.totals = true};
+    fdb_watch watch = FDB_WATCH_NONE;
+    fdb_refused refused = {.line = 77};
+    uint8_t text;
+    uint64_t size = 77;
+    left = allowed;
+    uint8_t status = fdb_watch_new(&options, (const uint8_t *)"k", 1, &watch);
+    if (status != FDB_OK) {
+        assert(status == FDB_MEMORY && watch.at == NULL);
+        return status;
+    }
+    status = fdb_watch_push(&watch, (const uint8_t *)TIMED, sizeof TIMED - 1);
+    if (status == FDB_OK) status = fdb_watch_tell(&watch, true);
+    bool is_told = status == FDB_OK;
+    if (is_told) status = fdb_watch_end(&watch, &refused);
+    assert(status == FDB_MEMORY || status == FDB_FAULT);
+    assert(fdb_watch_push(&watch, (const uint8_t *)TIMED, 1) == FDB_OVER);
+    assert(fdb_watch_tell(&watch, true) == FDB_OVER);
+    assert(fdb_watch_end(&watch, &refused) == FDB_OVER && refused.line == 77);
+    /* what was said last is still there */
+    assert(fdb_watch_text(&watch, &text, 0, &size) == (is_told ? FDB_ROOM : FDB_OK));
+    assert(is_told == (size != 0));
+    left = -1;
+    fdb_watch_free(&watch);
+    return status == FDB_FAULT ? FDB_OK : status;
+}
+
 static void sweep(uint8_t (*bears)(long allowed)) {
     for (long allowed = 0; bears(allowed) != FDB_OK; allowed++) {
         assert(allowed < 10000);
@@ -194,6 +249,8 @@ int main(void) {
     sweep(log_faults_bear);
     sweep(calls_text_bears);
     sweep(calls_faults_bear);
+    sweep(pieces_bear);
+    sweep(watch_bears);
     assert(refusals > 10);
     puts("ok");
     return 0;

@@ -7,9 +7,14 @@
 
 #define CALLS 1000
 
+static const uint8_t NAME[1];
+static const uint8_t LINE[] = "{\"client\":\"a\",\"read\":1,\"began\":1,\"ended\":2}\n";
+
 typedef struct handles {
     fdb_chain chain;
     fdb_queue queue;
+    fdb_audit audit;
+    fdb_watch watch;
 } handles;
 
 static void *made(void *given) {
@@ -17,6 +22,10 @@ static void *made(void *given) {
     fdb_queue_config config = {.normal = 100, .batch = 10, .room = CALLS};
     assert(fdb_chain_new(100, 200, 1, &both->chain) == FDB_OK);
     assert(fdb_queue_new(&config, &both->queue) == FDB_OK);
+    fdb_audit_options options = {0};
+    fdb_watch_options watched = {0};
+    assert(fdb_audit_new(&options, &both->audit) == FDB_OK);
+    assert(fdb_watch_new(&watched, NAME, 0, &both->watch) == FDB_OK);
     return NULL;
 }
 
@@ -33,11 +42,19 @@ static void *used(void *given) {
     }
     assert(fdb_queue_window(&both->queue, 1000, &outcome, started, CALLS) == FDB_OK);
     assert(outcome.started == CALLS && started[CALLS - 1].payload == CALLS - 1);
+    fdb_refused refused;
+    assert(fdb_audit_push(&both->audit, LINE, sizeof LINE - 1, &refused) == FDB_OK);
+    assert(fdb_watch_push(&both->watch, LINE, sizeof LINE - 1) == FDB_OK);
     return NULL;
 }
 
 static void *freed(void *given) {
     handles *both = given;
+    fdb_refused refused;
+    assert(fdb_audit_end(&both->audit, &refused) == FDB_OK);
+    assert(fdb_watch_end(&both->watch, &refused) == FDB_OK);
+    fdb_audit_free(&both->audit);
+    fdb_watch_free(&both->watch);
     fdb_chain_free(&both->chain);
     fdb_queue_free(&both->queue);
     assert(both->chain.at == NULL && both->queue.at == NULL);
@@ -45,7 +62,7 @@ static void *freed(void *given) {
 }
 
 int main(void) {
-    handles both = {FDB_CHAIN_NONE, FDB_QUEUE_NONE};
+    handles both = {FDB_CHAIN_NONE, FDB_QUEUE_NONE, FDB_AUDIT_NONE, FDB_WATCH_NONE};
     void *(*const turns[])(void *) = {made, used, freed};
     for (size_t i = 0; i < 3; i++) {
         pthread_t thread;

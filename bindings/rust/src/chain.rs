@@ -1,11 +1,22 @@
 //! The chain of commit versions.
 
-use crate::raw;
+use crate::handle::has_handle;
+use fdb_read_version_sys as sys;
 use std::error::Error;
 use std::fmt;
 
 /// A commit proxy's request for a commit version.
-#[derive(Clone, Copy, Debug, Default, PartialEq, Eq)]
+///
+/// ```
+/// use fdb_read_version::{answers, Ask};
+///
+/// let asks = [1, 2].map(|num| Ask { proxy: 0, num, processed: 0, at: 5 });
+/// let versions: Vec<u64> =
+///     answers(100, 200, 1, &asks)?.into_iter().flatten().map(|it| it.version).collect();
+/// assert_eq!(versions, [200, 201]);
+/// # Ok::<(), fdb_read_version::ChainError>(())
+/// ```
+#[derive(Clone, Copy, Debug, Default, PartialEq, Eq, Hash, PartialOrd, Ord)]
 pub struct Ask {
     /// The commit proxy, from 0 on.
     pub proxy: u32,
@@ -18,7 +29,16 @@ pub struct Ask {
 }
 
 /// A commit version.
-#[derive(Clone, Copy, Debug, PartialEq, Eq)]
+///
+/// ```
+/// use fdb_read_version::{Ask, Chain};
+///
+/// let mut chain = Chain::new(100, 200, 1)?;
+/// let first = chain.ask(Ask { proxy: 0, num: 1, processed: 0, at: 5 })?;
+/// assert_eq!((first.prev, first.version, first.ordinal, first.fresh), (100, 200, 0, true));
+/// # Ok::<(), fdb_read_version::ChainError>(())
+/// ```
+#[derive(Clone, Copy, Debug, PartialEq, Eq, Hash, PartialOrd, Ord)]
 pub struct Issued {
     /// Its place in the chain, from 0 on.
     pub ordinal: u64,
@@ -39,7 +59,15 @@ pub struct Issued {
 }
 
 /// Why a chain is not opened, or a request not answered.
-#[derive(Clone, Copy, Debug, PartialEq, Eq)]
+///
+/// ```
+/// use fdb_read_version::{Chain, ChainError};
+///
+/// assert_eq!(Chain::new(100, 100, 1).unwrap_err(), ChainError::BadEpoch);
+/// assert_eq!(Chain::new(100, 200, 0).unwrap_err(), ChainError::NoProxy);
+/// ```
+#[derive(Clone, Copy, Debug, PartialEq, Eq, Hash, PartialOrd, Ord)]
+#[non_exhaustive]
 pub enum ChainError {
     /// The recovery version is not above the epoch's end, or above the greatest version.
     BadEpoch,
@@ -58,6 +86,8 @@ pub enum ChainError {
     Exhausted,
     /// Memory was refused.
     Memory,
+    /// A status that this crate does not know: the library is another one.
+    Unknown(u8),
 }
 
 impl fmt::Display for ChainError {
@@ -70,6 +100,7 @@ impl fmt::Display for ChainError {
             ChainError::Forgotten => f.write_str("the answer is not kept any more"),
             ChainError::Exhausted => f.write_str("the versions are used up"),
             ChainError::Memory => f.write_str("out of memory"),
+            ChainError::Unknown(status) => write!(f, "the library answers {status}"),
         }
     }
 }
@@ -78,22 +109,23 @@ impl Error for ChainError {}
 
 fn error_of(status: u8, expected: u64) -> ChainError {
     match status {
-        1 => ChainError::BadEpoch,
-        2 => ChainError::NoProxy,
-        3 => ChainError::UnknownProxy,
-        4 => ChainError::Early { expected },
-        5 => ChainError::Forgotten,
-        6 => ChainError::Exhausted,
-        _ => ChainError::Memory,
+        sys::FDB_BAD_EPOCH => ChainError::BadEpoch,
+        sys::FDB_NO_PROXY => ChainError::NoProxy,
+        sys::FDB_UNKNOWN_PROXY => ChainError::UnknownProxy,
+        sys::FDB_EARLY => ChainError::Early { expected },
+        sys::FDB_FORGOTTEN => ChainError::Forgotten,
+        sys::FDB_EXHAUSTED => ChainError::Exhausted,
+        sys::FDB_MEMORY => ChainError::Memory,
+        other => ChainError::Unknown(other),
     }
 }
 
-fn raw_ask(ask: &Ask) -> raw::Ask {
-    raw::Ask { num: ask.num, processed: ask.processed, at: ask.at, proxy: ask.proxy }
+fn raw_ask(ask: &Ask) -> sys::fdb_ask {
+    sys::fdb_ask { num: ask.num, processed: ask.processed, at: ask.at, proxy: ask.proxy }
 }
 
-fn answer_of(answer: &raw::Answer) -> Result<Issued, ChainError> {
-    if answer.status != 0 {
+fn answer_of(answer: &sys::fdb_answer) -> Result<Issued, ChainError> {
+    if answer.status != sys::FDB_OK {
         return Err(error_of(answer.status, answer.num));
     }
     Ok(Issued {
@@ -109,21 +141,34 @@ fn answer_of(answer: &raw::Answer) -> Result<Issued, ChainError> {
 }
 
 /// The commit versions of an epoch, as the sequencer issues them.
+///
+/// ```
+/// use fdb_read_version::{Ask, Chain, ChainError};
+///
+/// let mut chain = Chain::new(100, 200, 2)?;
+/// let ask = Ask { proxy: 0, num: 1, processed: 0, at: 5 };
+/// let (first, again) = (chain.ask(ask)?, chain.ask(ask)?);
+/// assert_eq!((first.version, again.version, again.fresh), (200, 200, false));
+/// assert_eq!(chain.ask(Ask { num: 7, ..ask }), Err(ChainError::Early { expected: 2 }));
+/// # Ok::<(), ChainError>(())
+/// ```
 pub struct Chain {
-    handle: raw::Handle,
+    handle: sys::fdb_chain,
 }
+
+has_handle!(Chain, sys::fdb_chain_free);
 
 impl Chain {
     /// A chain with no answers yet, for an epoch that begins with the version `recovery`, after one
     /// that ended with `epoch_end`, and for this many commit proxies.
     ///
     /// # Errors
-    /// `BadEpoch`, `NoProxy` or `Memory`.
+    /// `BadEpoch`, `NoProxy` or `Memory`, the first that stands.
     pub fn new(epoch_end: u64, recovery: u64, proxies: u32) -> Result<Chain, ChainError> {
-        let mut handle = raw::Handle::none();
+        let mut handle = sys::FDB_CHAIN_NONE;
         // SAFETY: the handle is none.
-        match unsafe { raw::fdb_chain_new(epoch_end, recovery, proxies, &mut handle) } {
-            0 => Ok(Chain { handle }),
+        match unsafe { sys::fdb_chain_new(epoch_end, recovery, proxies, &mut handle) } {
+            sys::FDB_OK => Ok(Chain { handle }),
             status => Err(error_of(status, 0)),
         }
     }
@@ -131,21 +176,14 @@ impl Chain {
     /// Answers a request; a refused one leaves the chain as it was.
     ///
     /// # Errors
-    /// `UnknownProxy`, `Early`, `Forgotten`, `Exhausted` or `Memory`.
+    /// `UnknownProxy`, `Early`, `Forgotten`, `Exhausted` or `Memory`, the first that stands.
     pub fn ask(&mut self, ask: Ask) -> Result<Issued, ChainError> {
-        let mut answer = raw::Answer::default();
+        let mut answer = sys::fdb_answer::default();
         // SAFETY: the handle is a chain, from `new` to `drop`.
-        match unsafe { raw::fdb_chain_ask(&mut self.handle, &raw_ask(&ask), &mut answer) } {
-            0 => answer_of(&answer),
+        match unsafe { sys::fdb_chain_ask(&mut self.handle, &raw_ask(&ask), &mut answer) } {
+            sys::FDB_OK => answer_of(&answer),
             status => Err(error_of(status, answer.num)),
         }
-    }
-}
-
-impl Drop for Chain {
-    fn drop(&mut self) {
-        // SAFETY: the handle is a chain.
-        unsafe { raw::fdb_chain_free(&mut self.handle) }
     }
 }
 
@@ -159,11 +197,11 @@ pub fn answers(
     proxies: u32,
     asks: &[Ask],
 ) -> Result<Vec<Result<Issued, ChainError>>, ChainError> {
-    let given: Vec<raw::Ask> = asks.iter().map(raw_ask).collect();
-    let mut found = vec![raw::Answer::default(); given.len()];
+    let given: Vec<sys::fdb_ask> = asks.iter().map(raw_ask).collect();
+    let mut found = vec![sys::fdb_answer::default(); given.len()];
     // SAFETY: the lengths are those of the two.
     let status = unsafe {
-        raw::fdb_chain_answers(
+        sys::fdb_chain_answers(
             epoch_end,
             recovery,
             proxies,
@@ -173,8 +211,31 @@ pub fn answers(
             found.len(),
         )
     };
-    if status != 0 {
+    if status != sys::FDB_OK {
         return Err(error_of(status, 0));
     }
     Ok(found.iter().map(answer_of).collect())
+}
+
+#[cfg(test)]
+mod tests {
+    use super::*;
+
+    #[test]
+    fn numbers() {
+        let named = [
+            ChainError::BadEpoch,
+            ChainError::NoProxy,
+            ChainError::UnknownProxy,
+            ChainError::Early { expected: 77 },
+            ChainError::Forgotten,
+            ChainError::Exhausted,
+            ChainError::Memory,
+        ];
+        for status in 1..=u8::MAX {
+            let unknown = ChainError::Unknown(status);
+            let wanted = named.get(usize::from(status) - 1).unwrap_or(&unknown);
+            assert_eq!(error_of(status, 77), *wanted);
+        }
+    }
 }

@@ -3,14 +3,19 @@
 //! [`Chain`] issues commit versions as the sequencer does, [`Record`] is the live committed version
 //! with what belongs to it, and [`GrvQueue`] says which requests for a read version wait at a GRV
 //! proxy and which start. [`audit_log`] and [`audit_lines`] find the faults of a log of calls, of
-//! any system. What each answers is proved; this crate, which calls them, is tested.
+//! any system; [`Audit`] takes a log piece by piece, and [`Watch`] tells of one that grows what has
+//! become certain. What each answers is proved; this crate, which calls them, is tested.
+#![deny(missing_debug_implementations, missing_docs, unsafe_op_in_unsafe_fn)]
 
+mod audit;
 mod chain;
 mod grv_queue;
+mod handle;
 mod log;
-mod raw;
 mod record;
+mod watch;
 
+pub use audit::Audit;
 pub use chain::{answers, Ask, Chain, ChainError, Issued};
 pub use grv_queue::{
     outcomes, GrvQueue, Limit, Op, Outcome, Priority, QueueConfig, QueueError, Request, State,
@@ -21,3 +26,15 @@ pub use log::{
     Line, LogError, Means, Member, Reason, Times, Wanted, Wrong,
 };
 pub use record::Record;
+pub use watch::{Watch, WatchOptions};
+
+#[cfg(test)]
+mod tests {
+    use fdb_read_version_sys as sys;
+
+    #[test]
+    fn versions() {
+        // SAFETY: it takes nothing.
+        assert_eq!(unsafe { sys::fdb_read_version_version() }, sys::FDB_READ_VERSION_VERSION);
+    }
+}

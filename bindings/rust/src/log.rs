@@ -1,11 +1,23 @@
 //! The audit of a log of calls.
 
-use crate::raw;
+use crate::audit::Audit;
+use fdb_read_version_sys as sys;
 use std::error::Error;
 use std::fmt;
 
 /// What a line says that was done.
-#[derive(Clone, Copy, Debug, PartialEq, Eq)]
+///
+/// ```
+/// use fdb_read_version::{audit_lines, AuditOptions, Call, Line};
+///
+/// let line = |client, call| Line { client: Some(client), call, times: None };
+/// // A client that learnt what client 1 knew reads below it.
+/// let lines = [line(1, Call::Commit(5)), line(2, Call::Learn(1)), line(2, Call::Read(4))];
+/// assert_eq!(audit_lines(&lines, &AuditOptions::default())?.len(), 1);
+/// # Ok::<(), fdb_read_version::LogError>(())
+/// ```
+#[derive(Clone, Copy, Debug, PartialEq, Eq, Hash, PartialOrd, Ord)]
+#[non_exhaustive]
 pub enum Call {
     /// A read got this version.
     Read(u64),
@@ -15,12 +27,22 @@ pub enum Call {
     Ask(u64),
     /// A version was reported as committed.
     Report(u64),
-    /// From here on the client knows what this one knew by the lines above.
+    /// From here on the client knows what this one knew by the lines above, of which one is its.
     Learn(u32),
 }
 
 /// When a call was made, in any one unit.
-#[derive(Clone, Copy, Debug, PartialEq, Eq)]
+///
+/// ```
+/// use fdb_read_version::{audit_lines, AuditOptions, Call, Line, Times};
+///
+/// let line = |call, began, ended| Line { client: None, call, times: Some(Times { began, ended }) };
+/// // Nobody knows when the commit ended: the read may have been before it.
+/// let lines = [line(Call::Commit(200), 10, None), line(Call::Read(100), 15, Some(16))];
+/// assert_eq!(audit_lines(&lines, &AuditOptions::default())?, []);
+/// # Ok::<(), fdb_read_version::LogError>(())
+/// ```
+#[derive(Clone, Copy, Debug, PartialEq, Eq, Hash, PartialOrd, Ord)]
 pub struct Times {
     /// When it began.
     pub began: u64,
@@ -29,7 +51,20 @@ pub struct Times {
 }
 
 /// A line of a log: all have times, or none has.
-#[derive(Clone, Copy, Debug, PartialEq, Eq)]
+///
+/// ```
+/// use fdb_read_version::{audit_lines, AuditOptions, Call, Line, Times};
+///
+/// let line = |client, call, began, ended| Line {
+///     client: Some(client),
+///     call,
+///     times: Some(Times { began, ended: Some(ended) }),
+/// };
+/// let lines = [line(1, Call::Commit(200), 10, 14), line(2, Call::Read(100), 15, 16)];
+/// assert_eq!(audit_lines(&lines, &AuditOptions::default())?[0].line, 1);
+/// # Ok::<(), fdb_read_version::LogError>(())
+/// ```
+#[derive(Clone, Copy, Debug, PartialEq, Eq, Hash, PartialOrd, Ord)]
 pub struct Line {
     /// Whose call it was, by any number; without times it has to be known.
     pub client: Option<u32>,
@@ -40,7 +75,17 @@ pub struct Line {
 }
 
 /// What an audit is told beside the log.
-#[derive(Clone, Copy, Debug, Default, PartialEq, Eq)]
+///
+/// ```
+/// use fdb_read_version::{audit_log, AuditOptions};
+///
+/// let log = br#"{"client":"a","read":7}"#;
+/// assert_eq!(audit_log(log, &AuditOptions::default())?, []);
+/// // All calls are here, and all began with version 5: nobody reported 7.
+/// assert_eq!(audit_log(log, &AuditOptions { complete: Some(5), margin: 0 })?.len(), 1);
+/// # Ok::<(), fdb_read_version::LogError>(())
+/// ```
+#[derive(Clone, Copy, Debug, Default, PartialEq, Eq, Hash, PartialOrd, Ord)]
 pub struct AuditOptions {
     /// The version that all began with, where the log has all calls.
     pub complete: Option<u64>,
@@ -49,7 +94,16 @@ pub struct AuditOptions {
 }
 
 /// What a text has besides the verdict.
-#[derive(Clone, Copy, Debug, Default, PartialEq, Eq)]
+///
+/// ```
+/// use fdb_read_version::{audit_log_text, AuditOptions, Wanted};
+///
+/// let wanted = Wanted { history: true, ..Wanted::default() };
+/// let text = audit_log_text(br#"{"client":"a","read":7}"#, &AuditOptions::default(), wanted)?;
+/// assert!(text.ends_with("read 7 line 1 client \"a\"\n"));
+/// # Ok::<(), fdb_read_version::LogError>(())
+/// ```
+#[derive(Clone, Copy, Debug, Default, PartialEq, Eq, Hash, PartialOrd, Ord)]
 pub struct Wanted {
     /// All faults, and not the first alone.
     pub all: bool,
@@ -58,7 +112,17 @@ pub struct Wanted {
 }
 
 /// What can be wrong with a line; docs/FORMATS.md says what each means.
-#[derive(Clone, Copy, Debug, PartialEq, Eq)]
+///
+/// ```
+/// use fdb_read_version::{audit_log, AuditOptions, FaultKind};
+///
+/// let log = br#"{"client":"a","read":2}
+/// {"client":"a","read":1}"#;
+/// assert_eq!(audit_log(log, &AuditOptions::default())?[0].kind, FaultKind::Order);
+/// # Ok::<(), fdb_read_version::LogError>(())
+/// ```
+#[derive(Clone, Copy, Debug, PartialEq, Eq, Hash, PartialOrd, Ord)]
+#[non_exhaustive]
 pub enum FaultKind {
     /// A read below what its caller knew.
     Order,
@@ -73,7 +137,18 @@ pub enum FaultKind {
 }
 
 /// How a version was known. Lines are counted from 0.
-#[derive(Clone, Copy, Debug, PartialEq, Eq)]
+///
+/// ```
+/// use fdb_read_version::{audit_log, AuditOptions, Means, Reason};
+///
+/// let log = br#"{"client":"a","read":2}
+/// {"client":"a","read":1}"#;
+/// let reason = Reason::Known { version: 2, means: Means::Own(0) };
+/// assert_eq!(audit_log(log, &AuditOptions::default())?[0].reason, reason);
+/// # Ok::<(), fdb_read_version::LogError>(())
+/// ```
+#[derive(Clone, Copy, Debug, PartialEq, Eq, Hash, PartialOrd, Ord)]
+#[non_exhaustive]
 pub enum Means {
     /// All began with it.
     Start,
@@ -91,7 +166,17 @@ pub enum Means {
 }
 
 /// Why a fault stands. Lines are counted from 0.
-#[derive(Clone, Copy, Debug, PartialEq, Eq)]
+///
+/// ```
+/// use fdb_read_version::{audit_log, AuditOptions, Reason};
+///
+/// let options = AuditOptions { complete: Some(5), margin: 0 };
+/// let found = audit_log(br#"{"client":"a","read":7}"#, &options)?;
+/// assert_eq!(found[0].reason, Reason::Unreported);
+/// # Ok::<(), fdb_read_version::LogError>(())
+/// ```
+#[derive(Clone, Copy, Debug, PartialEq, Eq, Hash, PartialOrd, Ord)]
+#[non_exhaustive]
 pub enum Reason {
     /// `Order` and `NotAbove`: the caller knew this version.
     Known {
@@ -118,7 +203,18 @@ pub enum Reason {
 }
 
 /// A fault, and why it stands.
-#[derive(Clone, Copy, Debug, PartialEq, Eq)]
+///
+/// ```
+/// use fdb_read_version::{audit_log, AuditOptions, Fault, FaultKind, Means, Reason};
+///
+/// let log = br#"{"client":"a","read":2}
+/// {"client":"a","read":1}"#;
+/// let reason = Reason::Known { version: 2, means: Means::Own(0) };
+/// let fault = Fault { line: 1, kind: FaultKind::Order, reason };
+/// assert_eq!(audit_log(log, &AuditOptions::default())?, [fault]);
+/// # Ok::<(), fdb_read_version::LogError>(())
+/// ```
+#[derive(Clone, Copy, Debug, PartialEq, Eq, Hash, PartialOrd, Ord)]
 pub struct Fault {
     /// The line at which it stands, counted from 0.
     pub line: u32,
@@ -129,7 +225,15 @@ pub struct Fault {
 }
 
 /// A member of a line.
-#[derive(Clone, Copy, Debug, PartialEq, Eq)]
+///
+/// ```
+/// use fdb_read_version::{audit_log, AuditOptions, LogError, Member, Wrong};
+///
+/// let refused = LogError::Refused { line: 1, wrong: Wrong::BadMember(Member::Client) };
+/// assert_eq!(audit_log(br#"{"read":1}"#, &AuditOptions::default()), Err(refused));
+/// ```
+#[derive(Clone, Copy, Debug, PartialEq, Eq, Hash, PartialOrd, Ord)]
+#[non_exhaustive]
 pub enum Member {
     /// Whose call it was.
     Client,
@@ -150,7 +254,15 @@ pub enum Member {
 }
 
 /// What is wrong with a log, or with a line of it.
-#[derive(Clone, Copy, Debug, PartialEq, Eq)]
+///
+/// ```
+/// use fdb_read_version::{audit_log, AuditOptions, LogError, Wrong};
+///
+/// let refused = audit_log(b"[", &AuditOptions::default()).unwrap_err();
+/// assert_eq!(refused, LogError::Refused { line: 1, wrong: Wrong::NotJson });
+/// ```
+#[derive(Clone, Copy, Debug, PartialEq, Eq, Hash, PartialOrd, Ord)]
+#[non_exhaustive]
 pub enum Wrong {
     /// A text has no line.
     Empty,
@@ -168,10 +280,20 @@ pub enum Wrong {
     SomeTimes,
     /// This member is missing, of another kind, or may not stand there.
     BadMember(Member),
+    /// Its key is no name.
+    BadKey,
 }
 
 /// Why a log is not audited.
-#[derive(Clone, Copy, Debug, PartialEq, Eq)]
+///
+/// ```
+/// use fdb_read_version::{audit_log, AuditOptions};
+///
+/// let refused = audit_log(b"[", &AuditOptions::default()).unwrap_err();
+/// assert_eq!(refused.to_string(), "line 1: it is no JSON");
+/// ```
+#[derive(Clone, Copy, Debug, PartialEq, Eq, Hash, PartialOrd, Ord)]
+#[non_exhaustive]
 pub enum LogError {
     /// A line is wrong, or there is none.
     Refused {
@@ -180,60 +302,107 @@ pub enum LogError {
         /// What is wrong.
         wrong: Wrong,
     },
+    /// It has ended or was refused before, or memory was.
+    Over,
     /// Memory was refused.
     Memory,
+    /// A number that this crate does not know: the library is another one.
+    Unknown(u8),
+}
+
+impl fmt::Display for Member {
+    fn fmt(&self, f: &mut fmt::Formatter<'_>) -> fmt::Result {
+        f.write_str(match self {
+            Member::Client => "client",
+            Member::Read => "read",
+            Member::Commit => "commit",
+            Member::Ask => "ask",
+            Member::Report => "report",
+            Member::Learn => "learn",
+            Member::Began => "began",
+            Member::Ended => "ended",
+        })
+    }
+}
+
+impl fmt::Display for Wrong {
+    fn fmt(&self, f: &mut fmt::Formatter<'_>) -> fmt::Result {
+        f.write_str(match self {
+            Wrong::Empty => "the log has no line",
+            Wrong::TooLong => "the line is too long",
+            Wrong::TooMany => "there are too many lines",
+            Wrong::NotJson => "it is no JSON",
+            Wrong::NoCall => "it names no call",
+            Wrong::TwoCalls => "it names two calls",
+            Wrong::SomeTimes => "some lines have times, and some have none",
+            Wrong::BadKey => "its key is no name",
+            Wrong::BadMember(member) => return write!(f, "its member {member} is bad"),
+        })
+    }
 }
 
 impl fmt::Display for LogError {
     fn fmt(&self, f: &mut fmt::Formatter<'_>) -> fmt::Result {
         match self {
-            LogError::Refused { line: 0, wrong } => write!(f, "the log is refused: {wrong:?}"),
-            LogError::Refused { line, wrong } => write!(f, "line {line} is refused: {wrong:?}"),
+            LogError::Refused { line: 0, wrong } => write!(f, "{wrong}"),
+            LogError::Refused { line, wrong } => write!(f, "line {line}: {wrong}"),
+            LogError::Over => f.write_str("it is over"),
             LogError::Memory => f.write_str("out of memory"),
+            LogError::Unknown(number) => write!(f, "the library answers {number}"),
         }
     }
 }
 
 impl Error for LogError {}
 
-fn member_of(number: u8) -> Member {
-    match number {
-        1 => Member::Client,
-        2 => Member::Read,
-        3 => Member::Commit,
-        4 => Member::Ask,
-        5 => Member::Report,
-        6 => Member::Learn,
-        7 => Member::Began,
-        _ => Member::Ended,
+fn member_of(number: u8) -> Result<Member, LogError> {
+    Ok(match number {
+        sys::FDB_CLIENT => Member::Client,
+        sys::FDB_READ => Member::Read,
+        sys::FDB_COMMIT => Member::Commit,
+        sys::FDB_ASK => Member::Ask,
+        sys::FDB_REPORT => Member::Report,
+        sys::FDB_LEARN => Member::Learn,
+        sys::FDB_BEGAN => Member::Began,
+        sys::FDB_ENDED => Member::Ended,
+        other => return Err(LogError::Unknown(other)),
+    })
+}
+
+fn wrong_of(status: u8, refused: &sys::fdb_refused) -> Result<Wrong, LogError> {
+    Ok(match status {
+        sys::FDB_TOO_LONG => Wrong::TooLong,
+        sys::FDB_TOO_MANY => Wrong::TooMany,
+        sys::FDB_NOT_JSON => Wrong::NotJson,
+        sys::FDB_NO_CALL => Wrong::NoCall,
+        sys::FDB_TWO_CALLS => Wrong::TwoCalls,
+        sys::FDB_SOME_TIMES => Wrong::SomeTimes,
+        sys::FDB_BAD_MEMBER if refused.member == 0 => Wrong::BadKey,
+        sys::FDB_BAD_MEMBER => Wrong::BadMember(member_of(refused.member)?),
+        sys::FDB_EMPTY => Wrong::Empty,
+        sys::FDB_OVER => return Err(LogError::Over),
+        sys::FDB_MEMORY => return Err(LogError::Memory),
+        other => return Err(LogError::Unknown(other)),
+    })
+}
+
+pub(crate) fn error_of(status: u8, refused: &sys::fdb_refused) -> LogError {
+    match wrong_of(status, refused) {
+        Ok(wrong) => LogError::Refused { line: refused.line, wrong },
+        Err(error) => error,
     }
 }
 
-fn error_of(status: u8, refused: &raw::Refused) -> LogError {
-    let wrong = match status {
-        33 => Wrong::TooLong,
-        34 => Wrong::TooMany,
-        35 => Wrong::NotJson,
-        36 => Wrong::NoCall,
-        37 => Wrong::TwoCalls,
-        38 => Wrong::SomeTimes,
-        39 => Wrong::BadMember(member_of(refused.member)),
-        40 => Wrong::Empty,
-        _ => return LogError::Memory,
-    };
-    LogError::Refused { line: refused.line, wrong }
-}
-
-fn raw_line(line: &Line) -> raw::Call {
+fn raw_line(line: &Line) -> sys::fdb_call {
     let (kind, version, teller) = match line.call {
-        Call::Read(version) => (2, version, 0),
-        Call::Commit(version) => (3, version, 0),
-        Call::Ask(version) => (4, version, 0),
-        Call::Report(version) => (5, version, 0),
-        Call::Learn(teller) => (6, 0, teller),
+        Call::Read(version) => (sys::FDB_READ, version, 0),
+        Call::Commit(version) => (sys::FDB_COMMIT, version, 0),
+        Call::Ask(version) => (sys::FDB_ASK, version, 0),
+        Call::Report(version) => (sys::FDB_REPORT, version, 0),
+        Call::Learn(teller) => (sys::FDB_LEARN, 0, teller),
     };
     let ended = line.times.and_then(|it| it.ended);
-    raw::Call {
+    sys::fdb_call {
         version,
         began: line.times.map_or(0, |it| it.began),
         ended: ended.unwrap_or(0),
@@ -246,8 +415,8 @@ fn raw_line(line: &Line) -> raw::Call {
     }
 }
 
-fn raw_options(options: &AuditOptions, wanted: Wanted) -> raw::AuditOptions {
-    raw::AuditOptions {
+pub(crate) fn raw_options(options: &AuditOptions, wanted: Wanted) -> sys::fdb_audit_options {
+    sys::fdb_audit_options {
         start: options.complete.unwrap_or(0),
         margin: options.margin,
         complete: options.complete.is_some(),
@@ -256,55 +425,94 @@ fn raw_options(options: &AuditOptions, wanted: Wanted) -> raw::AuditOptions {
     }
 }
 
-fn means_of(fault: &raw::Fault) -> Means {
-    match fault.means {
-        1 => Means::Start,
-        2 => Means::Ended(fault.by),
-        3 => Means::Own(fault.by),
-        _ => Means::Learnt { of: fault.by, by: fault.learnt },
+fn means_of(fault: &sys::fdb_fault) -> Result<Means, LogError> {
+    Ok(match fault.means {
+        sys::FDB_MEANS_START => Means::Start,
+        sys::FDB_MEANS_ENDED => Means::Ended(fault.by),
+        sys::FDB_MEANS_OWN => Means::Own(fault.by),
+        sys::FDB_MEANS_LEARNT => Means::Learnt { of: fault.by, by: fault.learnt },
+        other => return Err(LogError::Unknown(other)),
+    })
+}
+
+fn reason_of(fault: &sys::fdb_fault) -> Result<Reason, LogError> {
+    let (line, version) = (fault.other, fault.known);
+    Ok(match fault.reason {
+        sys::FDB_REASON_KNOWN => Reason::Known { version, means: means_of(fault)? },
+        sys::FDB_REASON_UNREPORTED => Reason::Unreported,
+        sys::FDB_REASON_REPORTED => Reason::Reported { line, version, means: means_of(fault)? },
+        sys::FDB_REASON_DRAWN => Reason::Drawn(line),
+        sys::FDB_REASON_UNDRAWN => Reason::Undrawn,
+        other => return Err(LogError::Unknown(other)),
+    })
+}
+
+pub(crate) fn fault_of(fault: &sys::fdb_fault) -> Result<Fault, LogError> {
+    let kind = match fault.kind {
+        sys::FDB_FAULT_ORDER => FaultKind::Order,
+        sys::FDB_FAULT_WRONG => FaultKind::Wrong,
+        sys::FDB_FAULT_NOT_ABOVE => FaultKind::NotAbove,
+        sys::FDB_FAULT_TWICE => FaultKind::Twice,
+        sys::FDB_FAULT_STRAY => FaultKind::Stray,
+        other => return Err(LogError::Unknown(other)),
+    };
+    Ok(Fault { line: fault.line, kind, reason: reason_of(fault)? })
+}
+
+/// What a call answers that only refuses.
+pub(crate) fn done(status: u8, refused: &sys::fdb_refused) -> Result<(), LogError> {
+    match status {
+        sys::FDB_OK => Ok(()),
+        status => Err(error_of(status, refused)),
     }
 }
 
-fn fault_of(fault: &raw::Fault) -> Fault {
-    let version = fault.known;
-    let reason = match fault.reason {
-        1 => Reason::Known { version, means: means_of(fault) },
-        2 => Reason::Unreported,
-        3 => Reason::Reported { line: fault.other, version, means: means_of(fault) },
-        4 => Reason::Drawn(fault.other),
-        _ => Reason::Undrawn,
-    };
-    let kind = match fault.kind {
-        1 => FaultKind::Order,
-        2 => FaultKind::Wrong,
-        3 => FaultKind::NotAbove,
-        4 => FaultKind::Twice,
-        _ => FaultKind::Stray,
-    };
-    Fault { line: fault.line, kind, reason }
+/// What the end of a log answers: whether there is a fault.
+pub(crate) fn ended(end: impl FnOnce(&mut sys::fdb_refused) -> u8) -> Result<bool, LogError> {
+    let mut refused = sys::fdb_refused::default();
+    match end(&mut refused) {
+        sys::FDB_FAULT => Ok(true),
+        status => done(status, &refused).map(|()| false),
+    }
 }
 
 /// What a call writes, with as much room as that needs.
 fn told<T: Clone + Default>(
     mut room: usize,
-    call: impl Fn(&mut [T], &mut u64, &mut raw::Refused) -> u8,
+    call: impl Fn(&mut [T], &mut u64, &mut sys::fdb_refused) -> u8,
 ) -> Result<Vec<T>, LogError> {
     loop {
         let (mut found, mut size) = (vec![T::default(); room], 0);
-        let mut refused = raw::Refused::default();
+        let mut refused = sys::fdb_refused::default();
         match call(&mut found, &mut size, &mut refused) {
-            0 | 32 => {
+            sys::FDB_OK | sys::FDB_FAULT => {
                 found.truncate(size as usize);
                 return Ok(found);
             }
-            8 => room = size as usize,
+            sys::FDB_ROOM => room = size as usize,
             status => return Err(error_of(status, &refused)),
         }
     }
 }
 
+/// All that a handle has to write.
+pub(crate) fn written<T: Clone + Default>(
+    mut call: impl FnMut(*mut T, usize, &mut u64) -> u8,
+) -> Vec<T> {
+    let (mut found, mut size) = (Vec::new(), 0);
+    while call(found.as_mut_ptr(), found.len(), &mut size) == sys::FDB_ROOM {
+        found = vec![T::default(); size as usize];
+    }
+    found
+}
+
 fn said(text: Vec<u8>) -> String {
     String::from_utf8(text).expect("a text is UTF-8")
+}
+
+/// The text that a handle has to write.
+pub(crate) fn text(call: impl FnMut(*mut u8, usize, &mut u64) -> u8) -> String {
+    said(written(call))
 }
 
 /// All faults of a log of JSON Lines, by line: none exactly where some history explains it.
@@ -313,14 +521,14 @@ fn said(text: Vec<u8>) -> String {
 /// `Refused` for the first line that is wrong or for a text without a line, or `Memory`.
 pub fn audit_log(log: &[u8], options: &AuditOptions) -> Result<Vec<Fault>, LogError> {
     let options = raw_options(options, Wanted::default());
-    let found = told(64, |found: &mut [raw::Fault], size, refused| {
+    let found = told(64, |found: &mut [sys::fdb_fault], size, refused| {
         let (at, length) = (found.as_mut_ptr(), found.len());
         // SAFETY: the lengths are those of the two.
         unsafe {
-            raw::fdb_audit_log_faults(log.as_ptr(), log.len(), &options, at, length, size, refused)
+            sys::fdb_audit_log_faults(log.as_ptr(), log.len(), &options, at, length, size, refused)
         }
     })?;
-    Ok(found.iter().map(fault_of).collect())
+    found.iter().map(fault_of).collect()
 }
 
 /// What `fdb_audit` prints of a log of JSON Lines.
@@ -332,12 +540,19 @@ pub fn audit_log_text(
     options: &AuditOptions,
     wanted: Wanted,
 ) -> Result<String, LogError> {
+    if wanted.all || wanted.history {
+        // (what may be long is found once, whatever room it needs)
+        let mut audit = Audit::new(options, wanted)?;
+        audit.push(log)?;
+        audit.end()?;
+        return Ok(audit.text());
+    }
     let options = raw_options(options, wanted);
     let text = told(4096, |text: &mut [u8], size, refused| {
         let (at, length) = (text.as_mut_ptr(), text.len());
         // SAFETY: the lengths are those of the two.
         unsafe {
-            raw::fdb_audit_log_text(log.as_ptr(), log.len(), &options, at, length, size, refused)
+            sys::fdb_audit_log_text(log.as_ptr(), log.len(), &options, at, length, size, refused)
         }
     })?;
     Ok(said(text))
@@ -348,15 +563,15 @@ pub fn audit_log_text(
 /// # Errors
 /// As [`audit_log`].
 pub fn audit_lines(lines: &[Line], options: &AuditOptions) -> Result<Vec<Fault>, LogError> {
-    let given: Vec<raw::Call> = lines.iter().map(raw_line).collect();
+    let given: Vec<sys::fdb_call> = lines.iter().map(raw_line).collect();
     let options = raw_options(options, Wanted::default());
-    let found = told(64, |found: &mut [raw::Fault], size, refused| {
+    let found = told(64, |found: &mut [sys::fdb_fault], size, refused| {
         let (from, count) = (given.as_ptr(), given.len());
         let (at, length) = (found.as_mut_ptr(), found.len());
         // SAFETY: the lengths are those of the two.
-        unsafe { raw::fdb_audit_calls_faults(from, count, &options, at, length, size, refused) }
+        unsafe { sys::fdb_audit_calls_faults(from, count, &options, at, length, size, refused) }
     })?;
-    Ok(found.iter().map(fault_of).collect())
+    found.iter().map(fault_of).collect()
 }
 
 /// What `fdb_audit` prints of a log with these lines; it names a client by its number.
@@ -368,13 +583,124 @@ pub fn audit_lines_text(
     options: &AuditOptions,
     wanted: Wanted,
 ) -> Result<String, LogError> {
-    let given: Vec<raw::Call> = lines.iter().map(raw_line).collect();
+    let given: Vec<sys::fdb_call> = lines.iter().map(raw_line).collect();
     let options = raw_options(options, wanted);
     let text = told(4096, |text: &mut [u8], size, refused| {
         let (from, count) = (given.as_ptr(), given.len());
         let (at, length) = (text.as_mut_ptr(), text.len());
         // SAFETY: the lengths are those of the two.
-        unsafe { raw::fdb_audit_calls_text(from, count, &options, at, length, size, refused) }
+        unsafe { sys::fdb_audit_calls_text(from, count, &options, at, length, size, refused) }
     })?;
     Ok(said(text))
+}
+
+#[cfg(test)]
+mod tests {
+    use super::*;
+
+    #[test]
+    fn numbers_of_refusals() {
+        let refused = |member| sys::fdb_refused { line: 77, member };
+        for status in 1..=u8::MAX {
+            let wrong = match status {
+                33 => Wrong::TooLong,
+                34 => Wrong::TooMany,
+                35 => Wrong::NotJson,
+                36 => Wrong::NoCall,
+                37 => Wrong::TwoCalls,
+                38 => Wrong::SomeTimes,
+                39 => Wrong::BadMember(Member::Client),
+                40 => Wrong::Empty,
+                other => {
+                    let wanted = match other {
+                        7 => LogError::Memory,
+                        41 => LogError::Over,
+                        _ => LogError::Unknown(other),
+                    };
+                    assert_eq!(error_of(status, &refused(1)), wanted);
+                    continue;
+                }
+            };
+            let wanted = LogError::Refused { line: 77, wrong };
+            assert_eq!(error_of(status, &refused(1)), wanted);
+        }
+        let members = [
+            (Member::Client, "client"),
+            (Member::Read, "read"),
+            (Member::Commit, "commit"),
+            (Member::Ask, "ask"),
+            (Member::Report, "report"),
+            (Member::Learn, "learn"),
+            (Member::Began, "began"),
+            (Member::Ended, "ended"),
+        ];
+        for (number, (member, name)) in (1..).zip(members) {
+            let wanted = LogError::Refused { line: 77, wrong: Wrong::BadMember(member) };
+            assert_eq!(error_of(39, &refused(number)), wanted);
+            assert_eq!(wanted.to_string(), format!("line 77: its member {name} is bad"));
+        }
+        let wanted = LogError::Refused { line: 77, wrong: Wrong::BadKey };
+        assert_eq!(error_of(39, &refused(0)), wanted);
+        assert_eq!(error_of(39, &refused(9)), LogError::Unknown(9));
+    }
+
+    #[test]
+    fn numbers_of_faults() {
+        let fault = |kind, reason, means| {
+            let (known, line, other, by, learnt) = (1 << 40, 2, 3, 4, 5);
+            fault_of(&sys::fdb_fault { known, line, other, by, learnt, kind, reason, means })
+        };
+        let version = 1 << 40;
+        let kinds = [
+            FaultKind::Order,
+            FaultKind::Wrong,
+            FaultKind::NotAbove,
+            FaultKind::Twice,
+            FaultKind::Stray,
+        ];
+        for (number, kind) in (1..).zip(kinds) {
+            let wanted = Fault { line: 2, kind, reason: Reason::Unreported };
+            assert_eq!(fault(number, 2, 0), Ok(wanted));
+        }
+        let all = [Means::Start, Means::Ended(4), Means::Own(4), Means::Learnt { of: 4, by: 5 }];
+        for (number, means) in (1..).zip(all) {
+            let known = Reason::Known { version, means };
+            let reported = Reason::Reported { line: 3, version, means };
+            assert_eq!(fault(1, 1, number).map(|it| it.reason), Ok(known));
+            assert_eq!(fault(1, 3, number).map(|it| it.reason), Ok(reported));
+        }
+        assert_eq!(fault(1, 4, 0).map(|it| it.reason), Ok(Reason::Drawn(3)));
+        assert_eq!(fault(1, 5, 0).map(|it| it.reason), Ok(Reason::Undrawn));
+        for (kind, reason, means) in [(6, 2, 0), (0, 2, 0), (1, 6, 0), (1, 0, 0), (1, 1, 5)] {
+            assert!(matches!(fault(kind, reason, means), Err(LogError::Unknown(_))));
+        }
+    }
+
+    #[test]
+    fn numbers_of_calls() {
+        let calls = [Call::Read(7), Call::Commit(7), Call::Ask(7), Call::Report(7), Call::Learn(7)];
+        for (number, call) in (2..).zip(calls) {
+            let raw = raw_line(&Line { client: Some(8), call, times: None });
+            assert_eq!(
+                (raw.kind, raw.client, raw.has_client, raw.has_times),
+                (number, 8, true, false)
+            );
+            let given = if number == 6 { (0, 7) } else { (7, 0) };
+            assert_eq!((raw.version, raw.teller), given);
+        }
+        for (ended, given) in [(None, (9, 0, true, false)), (Some(10), (9, 10, true, true))] {
+            let times = Some(Times { began: 9, ended });
+            let raw = raw_line(&Line { client: None, call: calls[0], times });
+            assert_eq!((raw.began, raw.ended, raw.has_times, raw.has_ended), given);
+            assert!(!raw.has_client);
+        }
+        for (complete, all, history) in
+            [(None, false, true), (Some(0), true, false), (None, true, true)]
+        {
+            let options = AuditOptions { complete, margin: 1 << 40 };
+            let raw = raw_options(&options, Wanted { all, history });
+            assert_eq!((raw.complete, raw.start, raw.margin), (complete.is_some(), 0, 1 << 40));
+            assert_eq!((raw.all, raw.history), (all, history));
+        }
+    }
 }

@@ -1,9 +1,18 @@
 //! The register.
 
-use crate::raw;
+use fdb_read_version_sys as sys;
 
 /// What the sequencer keeps of the newest commit that was reported.
-#[derive(Clone, Copy, Debug, Default, PartialEq, Eq)]
+///
+/// ```
+/// use fdb_read_version::Record;
+///
+/// let kept = Record { version: 100, ..Record::default() };
+/// let reported = Record { version: 200, locked: true, ..kept };
+/// assert_eq!(kept.after_report(&reported), reported);
+/// assert_eq!(reported.after_report(&kept), reported);
+/// ```
+#[derive(Clone, Copy, Debug, Default, PartialEq, Eq, Hash, PartialOrd, Ord)]
 pub struct Record {
     /// The live committed version.
     pub version: u64,
@@ -16,8 +25,8 @@ pub struct Record {
 }
 
 impl Record {
-    fn raw(&self) -> raw::Record {
-        raw::Record {
+    fn raw(&self) -> sys::fdb_record {
+        sys::fdb_record {
             version: self.version,
             min_known: self.min_known,
             metadata: self.metadata.unwrap_or_default(),
@@ -26,12 +35,13 @@ impl Record {
         }
     }
 
-    /// The record after a report: of the greater version, with the greater minimum.
+    /// The record after a report: one of a greater version replaces version, lock and metadata
+    /// version, and the greater minimum stays.
     #[must_use]
     pub fn after_report(&self, reported: &Record) -> Record {
         let mut kept = self.raw();
         // SAFETY: both are records, and apart.
-        unsafe { raw::fdb_record_after_report(&mut kept, &reported.raw()) };
+        unsafe { sys::fdb_record_after_report(&mut kept, &reported.raw()) };
         Record {
             version: kept.version,
             locked: kept.locked,
@@ -44,6 +54,6 @@ impl Record {
     #[must_use]
     pub fn version_for(&self, use_min: bool) -> u64 {
         // SAFETY: it is a record.
-        unsafe { raw::fdb_record_version_for(&self.raw(), use_min) }
+        unsafe { sys::fdb_record_version_for(&self.raw(), use_min) }
     }
 }

@@ -1,8 +1,8 @@
 //! Handles and arrays answer the same, and what was worked out by hand, at random and at the edges.
 
 use fdb_read_version::{
-    answers, outcomes, Ask, Chain, ChainError, GrvQueue, Limit, Op, Priority, QueueConfig,
-    QueueError, Record, Request, TurnedAway,
+    answers, outcomes, Ask, Chain, ChainError, GrvQueue, Issued, Limit, Op, Outcome, Priority,
+    QueueConfig, QueueError, Record, Request, State, TurnedAway,
 };
 use std::thread;
 
@@ -45,16 +45,39 @@ fn chains_agree() {
 }
 
 #[test]
-fn refusals_of_a_chain() {
-    assert_eq!(Chain::new(100, 100, 1).err(), Some(ChainError::BadEpoch));
-    assert_eq!(Chain::new(100, 200, 65).err(), Some(ChainError::NoProxy));
+fn the_chain_by_hand() {
+    let ask = |proxy, num, at, processed| Ask { proxy, num, processed, at };
+    let issued = |ordinal, proxy, num, processed, prev, version, at, fresh| {
+        Ok(Issued { ordinal, proxy, num, processed, prev, version, at, fresh })
+    };
+    let rows = [
+        (ask(1, 1, 50, 0), issued(0, 1, 1, 0, 100, 200, 50, true)),
+        (ask(1, 1, 99, 7), issued(0, 1, 1, 0, 100, 200, 50, false)),
+        (ask(0, 1, 80, 0), issued(1, 0, 1, 0, 200, 230, 80, true)),
+        (ask(1, 2, 81, 1), issued(2, 1, 2, 1, 230, 231, 81, true)),
+        (ask(1, 1, 82, 0), Err(ChainError::Forgotten)),
+        (ask(1, 9, 82, 0), Err(ChainError::Early { expected: 3 })),
+        (ask(2, 1, 82, 0), Err(ChainError::UnknownProxy)),
+    ];
+    let asks = rows.map(|it| it.0);
+    assert_eq!(answers(100, 200, 2, &asks), Ok(rows.map(|it| it.1).to_vec()));
     let mut chain = Chain::new(100, 200, 2).unwrap();
-    let ask = Ask { proxy: 0, num: 1, processed: 0, at: 5 };
-    let first = chain.ask(ask).unwrap();
-    assert_eq!((first.prev, first.version, first.fresh), (100, 200, true));
-    assert!(!chain.ask(ask).unwrap().fresh);
-    assert_eq!(chain.ask(Ask { num: 3, ..ask }), Err(ChainError::Early { expected: 2 }));
-    assert_eq!(chain.ask(Ask { proxy: 2, ..ask }), Err(ChainError::UnknownProxy));
+    for (ask, answer) in rows {
+        assert_eq!(chain.ask(ask), answer);
+    }
+    for (status, epoch_end, recovery, proxies) in [
+        (ChainError::BadEpoch, 100, 100, 1),
+        (ChainError::BadEpoch, 0, 1 << 63, 1),
+        (ChainError::NoProxy, 100, 200, 0),
+        (ChainError::NoProxy, 100, 200, 65),
+    ] {
+        assert_eq!(Chain::new(epoch_end, recovery, proxies).unwrap_err(), status);
+        assert_eq!(answers(epoch_end, recovery, proxies, &[]), Err(status));
+    }
+    let mut last = Chain::new(0, (1 << 63) - 1, 64).unwrap();
+    assert_eq!(last.ask(ask(63, 1, 0, 0)).unwrap().version, (1 << 63) - 1);
+    assert_eq!(last.ask(ask(0, 1, 0, 0)), Err(ChainError::Exhausted));
+    assert_eq!(format!("{last:?}"), "Chain { .. }");
 }
 
 #[test]
@@ -79,10 +102,54 @@ fn queues_agree() {
             Op::Offer(request) => assert_eq!(queue.offer(*request), *outcome),
             Op::Window(elapsed) => assert_eq!(queue.window(*elapsed), *outcome),
             Op::Pop => assert_eq!(queue.pop(), outcome.clone().unwrap().out),
+            other => unreachable!("{other:?}"),
         }
     }
     assert!(all.contains(&Err(QueueError::Full)));
     assert!(all.iter().flatten().any(|it| it.started.len() > 1));
+}
+
+#[test]
+fn offers_and_windows_by_hand() {
+    let config = QueueConfig { normal: 10, batch: 5, room: 3 };
+    let request = |priority, count, payload| Request { priority, count, payload };
+    let (system, batch) = (Priority::System, Priority::Batch);
+    let outcome = |normal, batch, waits, started: &[Request], out| {
+        let state = State { normal, batch, waits };
+        Ok(Outcome { state, started: started.to_vec(), out })
+    };
+    let (first, second) = (request(Priority::Default, 3, 1), request(batch, 2, 2));
+    let (third, fourth) = (request(system, 1, 3), request(system, 1, u64::MAX));
+    let rows = [
+        (Op::Offer(first), outcome(0, 0, [0, 1, 0], &[], None)),
+        (Op::Offer(second), outcome(0, 0, [0, 1, 1], &[], None)),
+        (Op::Offer(third), outcome(0, 0, [1, 1, 1], &[], None)),
+        (Op::Offer(fourth), outcome(0, 0, [2, 1, 0], &[], Some(second))),
+        (Op::Offer(second), Err(QueueError::Full)),
+        (Op::Offer(request(batch, 21, 5)), Err(QueueError::BadCount)),
+        // Of 10 transactions in two seconds 5 start, and of 5 as many.
+        (Op::Window(1_000_000), outcome(5_000_000, 0, [0; 3], &[third, fourth, first], None)),
+        (Op::Window(10_000_001), Err(QueueError::BadConfig)),
+        (Op::Offer(second), outcome(5_000_000, 0, [0, 0, 1], &[], None)),
+        (Op::Pop, outcome(5_000_000, 0, [0; 3], &[], Some(second))),
+        (Op::Pop, outcome(5_000_000, 0, [0; 3], &[], None)),
+    ];
+    let (ops, wanted) = rows.into_iter().unzip::<_, _, Vec<_>, Vec<_>>();
+    assert_eq!(outcomes(config, &ops), Ok(wanted));
+    assert_eq!(outcomes(QueueConfig { room: 0, ..config }, &ops), Err(QueueError::BadConfig));
+}
+
+#[test]
+fn a_window_starts_10_000_at_most() {
+    let mut queue = GrvQueue::new(QueueConfig { normal: 1, batch: 0, room: 10_001 }).unwrap();
+    let request = |payload| Request { priority: Priority::System, count: 1, payload };
+    for payload in 0..10_001 {
+        queue.offer(request(payload)).unwrap();
+    }
+    let started: Vec<u64> =
+        queue.window(1000).unwrap().started.iter().map(|it| it.payload).collect();
+    assert_eq!(started, Vec::from_iter(0..10_000));
+    assert_eq!(queue.pop(), Some(request(10_000)));
 }
 
 #[test]
@@ -158,6 +225,9 @@ fn the_register_by_hand() {
     let metadata = Some([1, 2, 3, 4, 5, 6, 7, 8, 9, 10]);
     let second = Record { version: 200, locked: true, metadata, min_known: 150 };
     assert_eq!(kept.after_report(&second), second);
+    assert_eq!(second.after_report(&kept), second);
+    let zeros = Record { version: 160, metadata: Some([0; 10]), ..Record::default() };
+    assert_eq!(kept.after_report(&zeros), zeros);
     let third = Record { version: 150, min_known: 180, ..Record::default() };
     assert_eq!(second.after_report(&third), Record { min_known: 180, ..second });
     assert_eq!((second.version_for(false), second.version_for(true)), (200, 150));

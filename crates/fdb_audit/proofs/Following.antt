@@ -1,5 +1,6 @@
 -- The lines that are taken, of those that were read, and the numbers under which they are printed.
-use Rattle.std.proofs.Common.{◌≡◌, ◌∙◌, ℕ, zero, suc, ◌+◌, ◌-◌, ◌<◌, ◌≤◌, Bool, true, false, cond, List, [], ◌∷◌, ◌++◌, Option, Result, Ok, Err, ap, arith, count_by, get_or, length, map, nat_le, refl, slice_index, subst, sym, take}
+use Rattle.std.proofs.Common.{◌≡◌, ◌∙◌, ℕ, zero, suc, ◌+◌, ◌-◌, ◌<◌, ◌≤◌, Bool, true, false, cond, List, [], ◌∷◌, ◌++◌, Option, Result, Ok, Err, ap, arith, count_by, get_or, length, map, nat_le, refl, slice_get, slice_index, subst, sym, take}
+use Rattle.std.specs.Prelude.{unwrap_or}
 use Rattle.std.specs.List.{All}
 use Rattle.std.specs.List.Sorted.{IsNonDecreasingBy, IsPartitionPoint}
 use Rattle.std.proofs.lemmas.List.{get_or_append_left, get_or_push, length-map, length_push, map_push, take_more}
@@ -10,9 +11,10 @@ use Rattle.fdb_lines.specs.Keys.{key_at, places_below, places_of, same_key}
 use Rattle.fdb_lines.specs.KeyWatch.{HasSeenByKey}
 use Rattle.fdb_log_reader.specs.declared.error.Why.{Why}
 use Rattle.fdb_log_reader.specs.ReadLine.{SaidLine}
+use Rattle.fdb_audit.specs.declared.numbering.Numbering.{Numbering}
 use Rattle.fdb_audit.specs.declared.taking.Taking.{Taking}
-use Rattle.fdb_audit.specs.Following.{keys_taken, lines_taken, number_in, taken, taken_above}
-use Rattle.fdb_audit.specs.private.Followed.{AreTaken}
+use Rattle.fdb_audit.specs.Following.{KeptNumbers, keys_taken, lines_taken, number_in, taken, taken_above}
+use Rattle.fdb_audit.specs.Taken.{AreTaken, kept_by}
 use Rattle.fdb_audit.specs.private.Numbering.{AreNumbersOf}
 
 -- ---- with one more line
@@ -69,12 +71,12 @@ above_within above (Err why ∷ read) =
 
 -- ---- what is held of them, with one more line
 
-pub takes : (old new : Taking) (read : List (Result SaidLine Why)) (said : SaidLine) → AreTaken old read
-    → old.counts.lines + length old.numbering.above.items < 18446744073709551614
+pub takes : (kept : KeptNumbers) (old new : Taking) (read : List (Result SaidLine Why)) (said : SaidLine) → AreTaken kept old read
+    → old.taken + old.numbering.more + length old.numbering.above.items < 18446744073709551614
     → HasSeenByKey new.watch (lines_taken read ++ said.line ∷ []) (keys_taken read ++ said.key ∷ [])
-    → new.numbering.above.items ≡ old.numbering.above.items → new.counts.lines ≡ old.counts.lines + 1
-    → AreTaken new (read ++ Ok said ∷ [])
-takes old new read said are room seen above count =
+    → new.numbering ≡ old.numbering → new.taken ≡ old.taken + 1
+    → AreTaken kept new (read ++ Ok said ∷ [])
+takes kept old new read said are room seen numbering count =
     let more = read ++ Ok said ∷ [] in
     let all = counted 0 read in
     let refused = ap length are.numbered.above in
@@ -83,17 +85,18 @@ takes old new read said are room seen above count =
       seen = subst (λ lines. HasSeenByKey new.watch lines (keys_taken more)) (sym (lines_more read said))
           (subst (HasSeenByKey new.watch (lines_taken read ++ said.line ∷ [])) (sym (keys_more read said)) seen);
       numbered = record {
-        above = above ∙ (are.numbered.above ∙ sym (above_same 0 read said));
-        few = (let was = are.count in omega arith);
+        above = ap (λ (numbering : Numbering). numbering.above.items) numbering ∙ (are.numbered.above ∙ sym (above_same 0 read said));
+        front = ap kept_by numbering ∙ are.numbered.front;
+        few = (let was = are.count in let more = ap (λ (kept : KeptNumbers). kept.more) are.numbered.front in omega arith);
       };
       count = count ∙ (ap (λ n. n + 1) are.count ∙ (sym (length_push (taken read) said) ∙ ap length (sym (taken_more read said))));
     }
 
-pub leaves_out : (old new : Taking) (read : List (Result SaidLine Why)) (why : Why) → AreTaken old read
-    → old.counts.lines + length old.numbering.above.items < 18446744073709551614
-    → new.watch ≡ old.watch → new.numbering.above.items ≡ old.numbering.above.items ++ old.counts.lines ∷ [] → new.counts ≡ old.counts
-    → AreTaken new (read ++ Err why ∷ [])
-leaves_out old new read why are room watch above counts =
+pub leaves_out : (kept : KeptNumbers) (old new : Taking) (read : List (Result SaidLine Why)) (why : Why) → AreTaken kept old read
+    → old.taken + old.numbering.more + length old.numbering.above.items < 18446744073709551614
+    → new.watch ≡ old.watch → new.numbering.above.items ≡ old.numbering.above.items ++ old.taken ∷ [] → kept_by new.numbering ≡ kept_by old.numbering
+    → new.taken ≡ old.taken → AreTaken kept new (read ++ Err why ∷ [])
+leaves_out kept old new read why are room watch above same count =
     let more = read ++ Err why ∷ [] in
     let all = counted 0 read in
     let refused = ap length are.numbered.above in
@@ -104,11 +107,12 @@ leaves_out old new read why are room watch above counts =
           (subst (HasSeenByKey new.watch (lines_taken read)) (sym (keys_same read why))
           (subst (λ watch. HasSeenByKey watch (lines_taken read) (keys_taken read)) (sym watch) are.seen));
       numbered = record {
-        above = above ∙ (ap (λ part. part ++ old.counts.lines ∷ []) are.numbered.above
+        above = above ∙ (ap (λ part. part ++ old.taken ∷ []) are.numbered.above
             ∙ (ap (λ n. taken_above 0 read ++ n ∷ []) (are.count ∙ from_none) ∙ sym (above_more 0 read why)));
-        few = (let was = are.count in omega arith);
+        front = same ∙ are.numbered.front;
+        few = (let was = are.count in let more = ap (λ (kept : KeptNumbers). kept.more) are.numbered.front in omega arith);
       };
-      count = ap (λ counts. counts.lines) counts ∙ (are.count ∙ ap length (sym (taken_same read why)));
+      count = count ∙ (are.count ∙ ap length (sym (taken_same read why)));
     }
 
 -- ---- the numbers of lines
@@ -135,10 +139,11 @@ pub counted_by_search : (above : List ℕ) (taken front : ℕ) → front ≤ len
     → IsPartitionPoint (λ one. nat_le one taken ≡ true) (λ one. nat_le one taken ≡ false) above front → front ≡ count_by (λ one. nat_le one taken) above
 counted_by_search above taken front le point = front_counted (λ one. nat_le one taken) above front le point
 
-pub numbers_more : (above places numbers more : List ℕ) (i place number : ℕ) → i < length places → place ≡ get_or places i place
-    → (place + length above < 18446744073709551615 → number ≡ place + 1 + count_by (λ one. nat_le one place) above)
-    → more ≡ numbers ++ number ∷ [] → AreNumbersOf above (take i places) numbers → AreNumbersOf above (take (i + 1) places) more
-numbers_more above places numbers more i place number lt at is pushed so_far read same few low =
+pub numbers_more : (kept : KeptNumbers) (above places numbers more : List ℕ) (i place number : ℕ) → i < length places → place ≡ get_or places i place
+    → (place + kept.more + length above < 18446744073709551615
+    → number ≡ unwrap_or (slice_get kept.numbers place) (place + 1 + kept.more + count_by (λ one. nat_le one place) above))
+    → more ≡ numbers ++ number ∷ [] → AreNumbersOf kept above (take i places) numbers → AreNumbersOf kept above (take (i + 1) places) more
+numbers_more kept above places numbers more i place number lt at is pushed so_far read same few low =
     let split : take (i + 1) places ≡ take i places ++ place ∷ [] = take_more places i place lt ∙ ap (λ one. take i places ++ one ∷ []) (sym at) in
     let lows : All (λ one. one ≤ length (taken read)) (take i places ++ place ∷ []) = subst (All (λ one. one ≤ length (taken read))) split low in
     let size = length_push (take i places) place in
@@ -148,10 +153,10 @@ numbers_more above places numbers more i place number lt at is pushed so_far rea
     subst (λ one. one ≤ length (taken read)) (get_or_append_left (take i places) (place ∷ []) d k less) (lows k d (omega arith)) in
     let all = counted 0 read in
     let refused = ap length same in
-    let one : number ≡ number_in read place = is (omega arith) ∙ ap (λ list. place + 1 + count_by (λ one. nat_le one place) list) same in
+    let one : number ≡ number_in kept read place = is (omega arith) ∙ ap (λ list. unwrap_or (slice_get kept.numbers place) (place + 1 + kept.more + count_by (λ one. nat_le one place) list)) same in
     pushed ∙ (ap (λ part. part ++ number ∷ []) (so_far read same few front)
-    ∙ (ap (λ n. map (number_in read) (take i places) ++ n ∷ []) one
-    ∙ (sym (map_push (number_in read) (take i places) place) ∙ ap (map (number_in read)) (sym split))))
+    ∙ (ap (λ n. map (number_in kept read) (take i places) ++ n ∷ []) one
+    ∙ (sym (map_push (number_in kept read) (take i places) place) ∙ ap (map (number_in kept read)) (sym split))))
 
 -- ---- the places of a key
 

@@ -1,10 +1,11 @@
 -- Why a program that audits stops: its log is refused, or memory is.
-use Rattle.std.proofs.Common.{◌≡◌, ◌≢◌, ◌⊎◌, inl, inr, ℕ, Bool, true, false, List, None, Err, ap, refl, subst, sym, ◌∙◌}
+use Rattle.std.proofs.Common.{◌≡◌, ◌≢◌, ◌⊎◌, inl, inr, ℕ, Bool, true, false, List, Option, None, Some, Ok, Err, Result, ap, is_some, refl, string_bytes, subst, sym, ◌∙◌}
+use Rattle.std.specs.Prelude.{IfErr, IsErrAnd, option_map}
 use Rattle.std.proofs.lemmas.Bool.{false≢true}
 use Rattle.clap.specs.Words.{Text}
 use Rattle.fdb_command.specs.Driving.{Stops}
-use Rattle.fdb_command.specs.declared.fault.Fault.{Fault}
-use Rattle.fdb_command.specs.declared.fault.Fault.TheVariants as fault
+use Rattle.fdb_command.specs.declared.failure.Failure.{Failure}
+use Rattle.fdb_command.specs.declared.failure.Failure.TheVariants as fault
 use Rattle.fdb_log_reader.specs.declared.error.ReadError.{ReadError}
 use Rattle.fdb_log_reader.specs.declared.error.Why.{Why}
 use Rattle.fdb_log_reader.specs.declared.error.Why.TheVariants.{Empty, TooLong, TooMany, NotJson, NoCall, TwoCalls, SomeTimes, BadMember, BadKey, Memory}
@@ -13,6 +14,8 @@ use Rattle.fdb_audit.specs.Program.{audit, key_asked, shown_asked, IsAsked, Refu
 use Rattle.fdb_audit.specs.declared.arguments.AuditArguments.{AuditArguments}
 use Rattle.fdb_audit.specs.declared.fault.LogFault.{LogFault}
 use Rattle.fdb_audit.specs.declared.refused.LogsRefused.{LogsRefused}
+use Rattle.fdb_audit.specs.declared.refused.LogsRefused.TheVariants.{Kept, Log}
+use Rattle.fdb_audit.specs.private.Kept.{MayStop}
 
 abbrev pub of_memory : Why → Bool
 of_memory Memory = true
@@ -33,14 +36,39 @@ is_memory SomeTimes = inr (other SomeTimes refl)
 is_memory (BadMember member) = inr (other (BadMember member) refl)
 is_memory BadKey = inr (other BadKey refl)
 
-pub stops : (arguments : List Text) (asked : AuditArguments) (bytes : List ℕ) (error : ReadError) (made : Fault LogsRefused LogFault) → IsAsked arguments asked
+pub stops : (arguments : List Text) (asked : AuditArguments) (bytes : List ℕ) (error : ReadError) (made : Failure LogsRefused LogFault) → IsAsked arguments asked
     → asked.follow ≡ None → (error.why ≡ Memory) ⊎ (reading_with (key_asked asked) (shown_asked asked) bytes ≡ Err error)
-    → (error.why ≡ Memory → made ≡ fault.Memory) → (error.why ≢ Memory → made ≡ fault.Refused (record { error = error })) → Stops audit arguments bytes made
+    → (error.why ≡ Memory → made ≡ fault.Memory) → (error.why ≢ Memory → made ≡ fault.Refused (Log error)) → Stops audit arguments bytes made
 stops arguments asked bytes error made is whole reads memory refused =
     elim (is_memory error.why) [
       | inl m ↦ subst (Stops audit arguments bytes) (sym (memory m)) tt
       | inr differs ↦
-          let why : LogsRefused = record { error = error } in
+          let why : LogsRefused = Log error in
           subst (Stops audit arguments bytes) (sym (refused differs))
           (asked, is, subst (λ follow. RefusesBy follow asked bytes why) (sym whole) (differs, elim (reads) [ inl m ↦ absurd (differs m) | inr h ↦ h ]))
     ]
+
+pub is_some_map : {X Y : Type 0} (f : X → Y) (it : Option X) → is_some (option_map f it) ≡ is_some it
+is_some_map f None = refl
+is_some_map f (Some x) = refl
+
+-- where lines are kept, the arguments say so
+pub keeps_asked : (arguments : List Text) (asked : AuditArguments) → IsAsked arguments asked → is_some asked.keep ≡ true → audit.keeps arguments ≡ true
+keeps_asked arguments asked is keeps = sym (ap is_some is.keep) ∙ (is_some_map string_bytes asked.keep ∙ keeps)
+
+-- a log that is followed stops the program so
+pub stops_following : (arguments : List Text) (asked : AuditArguments) (bytes : List ℕ) (behind : ℕ) (made : Failure LogsRefused LogFault) → IsAsked arguments asked
+    → asked.follow ≡ Some behind → MayStop (is_some asked.keep) made → Stops audit arguments bytes made
+stops_following arguments asked bytes behind (fault.Refused (Log error)) is follows stops = absurd stops
+stops_following arguments asked bytes behind (fault.Refused (Kept refused)) is follows stops =
+    (asked, is, subst (λ follow. RefusesBy follow asked bytes (Kept refused)) (sym follows) stops)
+stops_following arguments asked bytes behind fault.Arguments is follows stops = absurd stops
+stops_following arguments asked bytes behind fault.Memory is follows stops = tt
+stops_following arguments asked bytes behind (fault.Found found) is follows stops = absurd stops
+stops_following arguments asked bytes behind fault.Reading is follows stops = keeps_asked arguments asked is stops
+stops_following arguments asked bytes behind fault.Writing is follows stops = absurd stops
+
+-- what holds of an error holds of it where it is passed on
+pub passed_on : {T E : Type 0} (r : Result T E) (error : E) (P : E → Type 0) → IsErrAnd r (λ e. e ≡ error) → P error → IfErr r P
+passed_on (Ok value) error P is holds = tt
+passed_on (Err e) error P is holds = subst P (sym is) holds

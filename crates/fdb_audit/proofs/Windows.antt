@@ -1,5 +1,5 @@
 -- What is told of a log that is followed, window by window: windows follow one another, and stay as they are while more is read.
-use Rattle.std.proofs.Common.{◌≡◌, ◌∙◌, ℕ, zero, suc, ◌+◌, ◌<◌, ◌≤◌, Bool, true, false, cond, List, [], ◌∷◌, ◌++◌, All, ap, append-nil, append_assoc, arith, inl, inr, length, length-append, map, option_map, refl, slice_get, slice_index, slice_index_or, string_bytes, subst, sym, take, Option, None, Some, Result}
+use Rattle.std.proofs.Common.{◌≡◌, ◌∙◌, ℕ, zero, suc, ◌<◌, ◌≤◌, Bool, true, false, cond, List, [], ◌∷◌, ◌++◌, All, ap, append-nil, append_assoc, arith, inl, inr, length, length-append, map, option_map, refl, slice_get, slice_index, slice_index_or, string_bytes, subst, sym, take, Option, None, Some, Result}
 use Rattle.std.proofs.lemmas.Bool.{cases_lt}
 use Rattle.std.proofs.lemmas.List.{get_or_append_left, get_or_past, get_or_push, length-map, take_all, take-append-le}
 use Rattle.std.proofs.lemmas.List.Elements.{All-append, All-cons, All-map, All-nil}
@@ -20,27 +20,27 @@ use Rattle.fdb_log_reader.specs.Numbers.{IsMore}
 use Rattle.fdb_log_reader.specs.Printed.{printed}
 use Rattle.fdb_log_reader.specs.ReadLine.{SaidLine}
 use Rattle.fdb_audit.specs.declared.fault.LogFault.{LogFault}
-use Rattle.fdb_audit.specs.declared.judging.Wanted.{Wanted}
+use Rattle.fdb_audit.specs.declared.judged.Wanted.{Wanted}
 use Rattle.fdb_audit.specs.declared.teller.Teller.{Teller}
-use Rattle.fdb_audit.specs.Following.{AreWindows, IsFoundIn, IsWindow, Window, first_in, first_told, keys_taken, lines_taken, number_in, places_in, printed_in, taken, told_text}
+use Rattle.fdb_audit.specs.Following.{AreWindows, IsFoundIn, IsWindow, KeptNumbers, Window, first_in, first_told, keys_taken, lines_taken, number_in, printed_in, taken, told_text}
 use Rattle.fdb_audit.specs.Text.{Beside, PrintedLog, fault_of}
 use Rattle.fdb_audit.specs.private.Followed.{TellsOn}
 
 -- ---- windows that follow others
 
-pub windows_on : (margin : ℕ) (wanted : Wanted) (read : List (Result SaidLine Why)) (names : List (List ℕ)) (ws vs : List Window) (text more : List ℕ)
-    → AreWindows margin wanted read names ws text → AreWindows margin wanted read names vs more
-    → AreWindows margin wanted read names (ws ++ vs) (text ++ more)
-windows_on margin wanted read names [] vs text more are other =
-    subst (AreWindows margin wanted read names vs) (sym (ap (λ (bytes : List ℕ). bytes ++ more) are)) other
-windows_on margin wanted read names (w ∷ ws) vs text more are other = (
+pub windows_on : (kept : KeptNumbers) (margin : ℕ) (wanted : Wanted) (read : List (Result SaidLine Why)) (names : List (List ℕ)) (ws vs : List Window) (text more : List ℕ)
+    → AreWindows kept margin wanted read names ws text → AreWindows kept margin wanted read names vs more
+    → AreWindows kept margin wanted read names (ws ++ vs) (text ++ more)
+windows_on kept margin wanted read names [] vs text more are other =
+    subst (AreWindows kept margin wanted read names vs) (sym (ap (λ (bytes : List ℕ). bytes ++ more) are)) other
+windows_on kept margin wanted read names (w ∷ ws) vs text more are other = (
   are.0,
   are.1 ++ more,
   ap (λ (bytes : List ℕ). bytes ++ more) are.2 ∙ append_assoc are.0 are.1 more,
   are.3,
   are.4,
   are.5,
-  windows_on margin wanted read names ws vs are.1 more are.6 other,
+  windows_on kept margin wanted read names ws vs are.1 more are.6 other,
 )
 
 -- ---- windows stay while more is read
@@ -51,10 +51,10 @@ names_yet a b c one two = (one.0 ++ two.0, two.1 ∙ (ap (λ (names : List (List
 same_taken : (read further : List (Result SaidLine Why)) (n : ℕ) → n ≤ length read → take n (read ++ further) ≡ take n read
 same_taken read further n within = take-append-le n read further within
 
-pub windows_stay : (margin : ℕ) (wanted : Wanted) (read further : List (Result SaidLine Why)) (names more : List (List ℕ)) (ws : List Window) (text : List ℕ)
-    → AreWindows margin wanted read names ws text → IsMore names more → AreWindows margin wanted (read ++ further) more ws text
-windows_stay margin wanted read further names more [] text are is = are
-windows_stay margin wanted read further names more (w ∷ ws) text are is =
+pub windows_stay : (kept : KeptNumbers) (margin : ℕ) (wanted : Wanted) (read further : List (Result SaidLine Why)) (names more : List (List ℕ)) (ws : List Window) (text : List ℕ)
+    → AreWindows kept margin wanted read names ws text → IsMore names more → AreWindows kept margin wanted (read ++ further) more ws text
+windows_stay kept margin wanted read further names more [] text are is = are
+windows_stay kept margin wanted read further names more (w ∷ ws) text are is =
     let within = are.3 in
     let size = length-append read further in
     let still : w.read ≤ length (read ++ further) = omega arith in (
@@ -63,8 +63,8 @@ windows_stay margin wanted read further names more (w ∷ ws) text are is =
       are.2,
       still,
       names_yet w.names names more are.4 is,
-      subst (λ (those : List (Result SaidLine Why)). IsWindow margin wanted those w are.0) (sym (same_taken read further w.read within)) are.5,
-      windows_stay margin wanted read further names more ws are.1 are.6 is,
+      subst (λ (those : List (Result SaidLine Why)). IsWindow kept margin wanted those w are.0) (sym (same_taken read further w.read within)) are.5,
+      windows_stay kept margin wanted read further names more ws are.1 are.6 is,
     )
 
 -- ---- the first fault that is told
@@ -77,32 +77,32 @@ or_none : {X : Type 0} (a : Option X) → option_or a None ≡ a
 or_none None = refl
 or_none (Some a) = refl
 
-pub first_on : (read : List (Result SaidLine Why)) (ws vs : List Window) → first_told read (ws ++ vs) ≡ option_or (first_told read ws) (first_told read vs)
-first_on read [] vs = refl
-first_on read (w ∷ ws) vs =
-    let first = first_in (take w.read read) w in
-    ap (option_or first) (first_on read ws vs) ∙ sym (or_else first (first_told read ws) (first_told read vs))
+pub first_on : (kept : KeptNumbers) (read : List (Result SaidLine Why)) (ws vs : List Window) → first_told kept read (ws ++ vs) ≡ option_or (first_told kept read ws) (first_told kept read vs)
+first_on kept read [] vs = refl
+first_on kept read (w ∷ ws) vs =
+    let first = first_in kept (take w.read read) w in
+    ap (option_or first) (first_on kept read ws vs) ∙ sym (or_else first (first_told kept read ws) (first_told kept read vs))
 
-pub first_stays : (read further : List (Result SaidLine Why)) (ws : List Window) → All (λ (w : Window). w.read ≤ length read) ws
-    → first_told (read ++ further) ws ≡ first_told read ws
-first_stays read further [] within = refl
-first_stays read further (w ∷ ws) within =
+pub first_stays : (kept : KeptNumbers) (read further : List (Result SaidLine Why)) (ws : List Window) → All (λ (w : Window). w.read ≤ length read) ws
+    → first_told kept (read ++ further) ws ≡ first_told kept read ws
+first_stays kept read further [] within = refl
+first_stays kept read further (w ∷ ws) within =
     let here : w.read ≤ length read = within 0 w (omega arith) in
     let rest : All (λ (w : Window). w.read ≤ length read) ws = λ k d lt. within (suc k) d (omega arith) in
-    ap (λ (those : List (Result SaidLine Why)). option_or (first_in those w) (first_told (read ++ further) ws)) (same_taken read further w.read here)
-    ∙ ap (option_or (first_in (take w.read read) w)) (first_stays read further ws rest)
+    ap (λ (those : List (Result SaidLine Why)). option_or (first_in kept those w) (first_told kept (read ++ further) ws)) (same_taken read further w.read here)
+    ∙ ap (option_or (first_in kept (take w.read read) w)) (first_stays kept read further ws rest)
 
 -- windows are of lines that were read
-pub windows_within : (margin : ℕ) (wanted : Wanted) (read : List (Result SaidLine Why)) (names : List (List ℕ)) (ws : List Window) (text : List ℕ)
-    → AreWindows margin wanted read names ws text → All (λ (w : Window). w.read ≤ length read) ws
-windows_within margin wanted read names [] text are = All-nil (λ (w : Window). w.read ≤ length read)
-windows_within margin wanted read names (w ∷ ws) text are =
-    All-cons (λ (w : Window). w.read ≤ length read) w ws are.3 (windows_within margin wanted read names ws are.1 are.6)
+pub windows_within : (kept : KeptNumbers) (margin : ℕ) (wanted : Wanted) (read : List (Result SaidLine Why)) (names : List (List ℕ)) (ws : List Window) (text : List ℕ)
+    → AreWindows kept margin wanted read names ws text → All (λ (w : Window). w.read ≤ length read) ws
+windows_within kept margin wanted read names [] text are = All-nil (λ (w : Window). w.read ≤ length read)
+windows_within kept margin wanted read names (w ∷ ws) text are =
+    All-cons (λ (w : Window). w.read ≤ length read) w ws are.3 (windows_within kept margin wanted read names ws are.1 are.6)
 
 -- ---- what is told more
 
-pub tells_nothing : (teller : Teller) (margin : ℕ) (read : List (Result SaidLine Why)) (names : List (List ℕ)) → TellsOn teller teller margin read names
-tells_nothing teller margin read names = record {
+pub tells_nothing : (kept : KeptNumbers) (teller : Teller) (margin : ℕ) (read : List (Result SaidLine Why)) (names : List (List ℕ)) → TellsOn kept teller teller margin read names
+tells_nothing kept teller margin read names = record {
   windows = [];
   at = All-nil (λ (window : Window). window.read ≡ length read);
   text = [];
@@ -112,18 +112,18 @@ tells_nothing teller margin read names = record {
   wanted = refl;
 }
 
-pub tells_yet : (old mid new : Teller) (margin : ℕ) (read : List (Result SaidLine Why)) (names : List (List ℕ))
-    → TellsOn old mid margin read names → TellsOn mid new margin read names → TellsOn old new margin read names
-tells_yet old mid new margin read names one two = record {
+pub tells_yet : (kept : KeptNumbers) (old mid new : Teller) (margin : ℕ) (read : List (Result SaidLine Why)) (names : List (List ℕ))
+    → TellsOn kept old mid margin read names → TellsOn kept mid new margin read names → TellsOn kept old new margin read names
+tells_yet kept old mid new margin read names one two = record {
   windows = one.windows ++ two.windows;
   at = All-append (λ (window : Window). window.read ≡ length read) one.windows two.windows one.at two.at;
   text = one.text ++ two.text;
-  told = windows_on margin new.wanted read names one.windows two.windows one.text two.text
-      (subst (λ (wanted : Wanted). AreWindows margin wanted read names one.windows one.text) (sym two.wanted) one.told) two.told;
+  told = windows_on kept margin new.wanted read names one.windows two.windows one.text two.text
+      (subst (λ (wanted : Wanted). AreWindows kept margin wanted read names one.windows one.text) (sym two.wanted) one.told) two.told;
   appended = two.appended ∙ (ap (λ (bytes : List ℕ). bytes ++ two.text) one.appended ∙ append_assoc (string_bytes old.text) one.text two.text);
-  first = two.first ∙ (ap (λ (first : Option LogFault). option_or first (first_told read two.windows)) one.first
-      ∙ (or_else old.first (first_told read one.windows) (first_told read two.windows)
-      ∙ ap (option_or old.first) (sym (first_on read one.windows two.windows))));
+  first = two.first ∙ (ap (λ (first : Option LogFault). option_or first (first_told kept read two.windows)) one.first
+      ∙ (or_else old.first (first_told kept read one.windows) (first_told kept read two.windows)
+      ∙ ap (option_or old.first) (sym (first_on kept read one.windows two.windows))));
   wanted = two.wanted ∙ one.wanted;
 }
 
@@ -192,37 +192,37 @@ same_log lines names other numbers those beside one two =
     ap (λ (names : List (List ℕ)). log_with lines names numbers beside) one ∙ ap (λ (numbers : List ℕ). log_with lines other numbers beside) two
 
 -- and of the lines of a key that had been kept
-abbrev pub shown_of : List (Result SaidLine Why) → List (List ℕ) → SettledKey → List Beside → PrintedLog
-shown_of read names entry beside = record {
+abbrev pub shown_of : KeptNumbers → List (Result SaidLine Why) → List (List ℕ) → SettledKey → List Beside → PrintedLog
+shown_of kept read names entry beside = record {
   lines = (lines_of entry.settled.log).lines;
   names = map printed names;
-  numbers = map (number_in read) entry.settled.numbers.items;
+  numbers = map (number_in kept read) entry.settled.numbers.items;
   beside = beside;
 }
 
-shown_is : (to : Option ℕ) (read : List (Result SaidLine Why)) (names : List (List ℕ)) (entry : SettledKey) (part : KeyPart) (beside : List Beside)
-    → IsToldOf to (lines_taken read) (keys_taken read) entry part → shown_of read names entry beside ≡ printed_in read (window_of to read names entry part) beside
-shown_is to read names entry part beside told =
-    ap (λ (lines : List Line). log_with lines (map printed names) (map (number_in read) entry.settled.numbers.items) beside) told.log
-    ∙ ap (λ (places : List ℕ). log_with (lines_in (lines_taken read) places) (map printed names) (map (number_in read) places) beside) told.numbers
+shown_is : (kept : KeptNumbers) (to : Option ℕ) (read : List (Result SaidLine Why)) (names : List (List ℕ)) (entry : SettledKey) (part : KeyPart) (beside : List Beside)
+    → IsToldOf to (lines_taken read) (keys_taken read) entry part → shown_of kept read names entry beside ≡ printed_in kept read (window_of to read names entry part) beside
+shown_is kept to read names entry part beside told =
+    ap (λ (lines : List Line). log_with lines (map printed names) (map (number_in kept read) entry.settled.numbers.items) beside) told.log
+    ∙ ap (λ (places : List ℕ). log_with (lines_in (lines_taken read) places) (map printed names) (map (number_in kept read) places) beside) told.numbers
 
 -- the first of some faults, by the number of its line
 abbrev pub first_of : PrintedLog → List Finding → Option LogFault
 first_of it found = option_map (λ (finding : Finding). fault_of it.numbers (found_of finding)) (slice_get found 0)
 
-pub tells_of : (old new : Teller) (margin : ℕ) (to : Option ℕ) (read : List (Result SaidLine Why)) (names : List (List ℕ)) (entry : SettledKey) (part : KeyPart) (beside : List Beside) (it : PrintedLog)
-    → part.watch.margin ≡ margin → IsToldOf to (lines_taken read) (keys_taken read) entry part → it ≡ shown_of read names entry beside
+pub tells_of : (kept : KeptNumbers) (old new : Teller) (margin : ℕ) (to : Option ℕ) (read : List (Result SaidLine Why)) (names : List (List ℕ)) (entry : SettledKey) (part : KeyPart) (beside : List Beside) (it : PrintedLog)
+    → part.watch.margin ≡ margin → IsToldOf to (lines_taken read) (keys_taken read) entry part → it ≡ shown_of kept read names entry beside
     → string_bytes new.text ≡ string_bytes old.text ++ told_text old.wanted it entry.settled.found.items
     → new.first ≡ option_or old.first (first_of it entry.settled.found.items) → new.wanted ≡ old.wanted
-    → TellsOn old new margin read names
-tells_of old new margin to read names entry part beside it same told is added first wanted =
+    → TellsOn kept old new margin read names
+tells_of kept old new margin to read names entry part beside it same told is added first wanted =
     let found = entry.settled.found.items in
     let window = window_of to read names entry part in
-    let log = printed_in read window beside in
-    let shown : it ≡ log = is ∙ shown_is to read names entry part beside told in
+    let log = printed_in kept read window beside in
+    let shown : it ≡ log = is ∙ shown_is kept to read names entry part beside told in
     let text = told_text new.wanted log found in
     let all : take (length read) read ≡ read = take_all (length read) read (omega arith) in
-    let one : IsWindow margin new.wanted read window text = record { found = found_in margin to read names entry part same told; beside = beside; printed = refl } in
+    let one : IsWindow kept margin new.wanted read window text = record { found = found_in margin to read names entry part same told; beside = beside; printed = refl } in
     let here : window.read ≤ length read = omega arith in
     record {
       windows = window ∷ [];
@@ -234,29 +234,29 @@ tells_of old new margin to read names entry part beside it same told is added fi
         sym (append-nil text),
         here,
         ([], sym (append-nil names)),
-        subst (λ (those : List (Result SaidLine Why)). IsWindow margin new.wanted those window text) (sym all) one,
+        subst (λ (those : List (Result SaidLine Why)). IsWindow kept margin new.wanted those window text) (sym all) one,
         refl,
       );
       appended = added ∙ (ap (λ (it : PrintedLog). string_bytes old.text ++ told_text old.wanted it found) shown
           ∙ ap (λ (wanted : Wanted). string_bytes old.text ++ told_text wanted log found) (sym wanted));
       first = first ∙ (ap (λ (it : PrintedLog). option_or old.first (first_of it found)) shown
-          ∙ ap (option_or old.first) (sym (or_none (first_in (take (length read) read) window)
-          ∙ ap (λ (those : List (Result SaidLine Why)). first_in those window) all)));
+          ∙ ap (option_or old.first) (sym (or_none (first_in kept (take (length read) read) window)
+          ∙ ap (λ (those : List (Result SaidLine Why)). first_in kept those window) all)));
       wanted = wanted;
     }
 
-pub tells_for : (old new : Teller) (margin : ℕ) (to : Option ℕ) (read : List (Result SaidLine Why)) (names : List (List ℕ)) (entry : SettledKey) (part : KeyPart)
+pub tells_for : (kept : KeptNumbers) (old new : Teller) (margin : ℕ) (to : Option ℕ) (read : List (Result SaidLine Why)) (names : List (List ℕ)) (entry : SettledKey) (part : KeyPart)
     (texts : List (List ℕ)) (numbers : List ℕ) (beside : List Beside) (found : List Finding)
-    → texts ≡ map printed names → numbers ≡ map (number_in read) entry.settled.numbers.items → found ≡ entry.settled.found.items
+    → texts ≡ map printed names → numbers ≡ map (number_in kept read) entry.settled.numbers.items → found ≡ entry.settled.found.items
     → part.watch.margin ≡ margin → IsToldOf to (lines_taken read) (keys_taken read) entry part
     → string_bytes new.text ≡ string_bytes old.text ++ told_text old.wanted (log_with (lines_of entry.settled.log).lines texts numbers beside) found
     → new.first ≡ option_or old.first (first_of (log_with (lines_of entry.settled.log).lines texts numbers beside) found) → new.wanted ≡ old.wanted
-    → TellsOn old new margin read names
-tells_for old new margin to read names entry part texts numbers beside found named numbered is same told added first wanted =
+    → TellsOn kept old new margin read names
+tells_for kept old new margin to read names entry part texts numbers beside found named numbered is same told added first wanted =
     let lines = (lines_of entry.settled.log).lines in
     let it = log_with lines texts numbers beside in
-    tells_of old new margin to read names entry part beside it same told
-    (same_log lines texts (map printed names) numbers (map (number_in read) entry.settled.numbers.items) beside named numbered)
+    tells_of kept old new margin to read names entry part beside it same told
+    (same_log lines texts (map printed names) numbers (map (number_in kept read) entry.settled.numbers.items) beside named numbered)
     (added ∙ ap (λ (found : List Finding). string_bytes old.text ++ told_text old.wanted it found) is)
     (first ∙ ap (λ (found : List Finding). option_or old.first (first_of it found)) is)
     wanted

@@ -1,5 +1,5 @@
 -- What is told of a log that is followed as it grows. (this product's own)
-use Rattle.std.specs.Prelude.{◌≡◌, ℕ, ◌+◌, ◌≤◌, ◌++◌, ◌||◌, nat_le, not, Bool, List, [], ◌∷◌, All, Option, None, Some, codes, count_by, decimal, length, map, option_map, slice_get, slice_index, take, Result, Ok, Err, if◌then◌else◌}
+use Rattle.std.specs.Prelude.{◌≡◌, ℕ, ◌+◌, ◌≤◌, ◌++◌, ◌||◌, nat_le, not, Bool, List, [], ◌∷◌, All, Option, None, codes, count_by, decimal, length, map, option_map, slice_get, slice_index, take, unwrap_or, Result, Ok, Err, if◌then◌else◌}
 use Rattle.std.specs.List.{flat_map}
 use Rattle.std.specs.Option.{option_or}
 use Rattle.fdb_lines.specs.declared.line.Line.{Line}
@@ -19,7 +19,7 @@ use Rattle.fdb_audit.specs.Judged.{list_text}
 use Rattle.fdb_audit.specs.Objects.{truth}
 use Rattle.fdb_audit.specs.Text.{Beside, PrintedLog, fault_of}
 use Rattle.fdb_audit.specs.declared.fault.LogFault.{LogFault}
-use Rattle.fdb_audit.specs.declared.judging.Wanted.{Wanted}
+use Rattle.fdb_audit.specs.declared.judged.Wanted.{Wanted}
 
 -- ---- the lines that are taken, of those that were read
 
@@ -41,9 +41,20 @@ taken_above above [] = []
 taken_above above (Ok said ∷ read) = taken_above (above + 1) read
 taken_above above (Err why ∷ read) = above ∷ taken_above above read
 
--- The number of a line among all, counted from 1, by how many were taken above it: these, and those that were refused above.
-abbrev pub number_in : List (Result SaidLine Why) → ℕ → ℕ
-number_in read above = above + 1 + count_by (λ refused. nat_le refused above) (taken_above 0 read)
+-- Of what was read before, lines that were kept of it come first: each with its number, counted from 1; and there were so many more.
+pub record KeptNumbers : Type 0 where
+  pub numbers : List ℕ
+  pub more : ℕ
+
+-- nothing was read before
+abbrev pub none_kept : KeptNumbers
+none_kept = record { numbers = []; more = 0 }
+
+-- The number of a line among all, counted from 1, by how many were taken above it: these, those that were not kept, and those
+-- that were refused above.
+abbrev pub number_in : KeptNumbers → List (Result SaidLine Why) → ℕ → ℕ
+number_in kept read above =
+    unwrap_or (slice_get kept.numbers above) (above + 1 + kept.more + count_by (λ refused. nat_le refused above) (taken_above 0 read))
 
 -- ---- what is told of a key at a moment
 
@@ -74,11 +85,11 @@ abbrev pub places_in : List (Result SaidLine Why) → Window → List ℕ
 places_in read window = map (slice_index (places_of (keys_taken read) window.key)) window.kept
 
 -- what is printed of them
-abbrev pub printed_in : List (Result SaidLine Why) → Window → List Beside → PrintedLog
-printed_in read window beside = record {
+abbrev pub printed_in : KeptNumbers → List (Result SaidLine Why) → Window → List Beside → PrintedLog
+printed_in kept read window beside = record {
   lines = lines_in (lines_taken read) (places_in read window);
   names = map printed window.names;
-  numbers = map (number_in read) (places_in read window);
+  numbers = map (number_in kept read) (places_in read window);
   beside = beside;
 }
 
@@ -90,25 +101,25 @@ abbrev pub told_text : Wanted → PrintedLog → List Finding → List ℕ
 told_text wanted it found = if lists wanted then list_text wanted.json it found else []
 
 -- what is told of a key at a moment, of the lines that had been read by then
-pub record IsWindow (margin : ℕ) (wanted : Wanted) (read : List (Result SaidLine Why)) (window : Window) (text : List ℕ) : Type 0 where
+pub record IsWindow (kept : KeptNumbers) (margin : ℕ) (wanted : Wanted) (read : List (Result SaidLine Why)) (window : Window) (text : List ℕ) : Type 0 where
   pub found : IsFoundIn margin (lines_of_one (lines_taken read) (keys_taken read) window.key) window
   pub beside : List Beside
-  pub printed : text ≡ told_text wanted (printed_in read window beside) window.found
+  pub printed : text ≡ told_text wanted (printed_in kept read window beside) window.found
 
 -- the first fault that is told, by the number of its line
-abbrev pub first_in : List (Result SaidLine Why) → Window → Option LogFault
-first_in read window = option_map (λ finding. fault_of (map (number_in read) (places_in read window)) (found_of finding)) (slice_get window.found 0)
+abbrev pub first_in : KeptNumbers → List (Result SaidLine Why) → Window → Option LogFault
+first_in kept read window = option_map (λ finding. fault_of (map (number_in kept read) (places_in read window)) (found_of finding)) (slice_get window.found 0)
 
-abbrev pub first_told : List (Result SaidLine Why) → List Window → Option LogFault
-first_told read [] = None
-first_told read (window ∷ windows) = option_or (first_in (take window.read read) window) (first_told read windows)
+abbrev pub first_told : KeptNumbers → List (Result SaidLine Why) → List Window → Option LogFault
+first_told kept read [] = None
+first_told kept read (window ∷ windows) = option_or (first_in kept (take window.read read) window) (first_told kept read windows)
 
 -- What is told of all lines that were read, one moment after another: names of clients keep their numbers.
-abbrev pub AreWindows : ℕ → Wanted → List (Result SaidLine Why) → List (List ℕ) → List Window → List ℕ → Type 0
-AreWindows margin wanted read names [] text = text ≡ []
-AreWindows margin wanted read names (window ∷ windows) text =
+abbrev pub AreWindows : KeptNumbers → ℕ → Wanted → List (Result SaidLine Why) → List (List ℕ) → List Window → List ℕ → Type 0
+AreWindows kept margin wanted read names [] text = text ≡ []
+AreWindows kept margin wanted read names (window ∷ windows) text =
     (first rest : List ℕ) × (text ≡ first ++ rest) × (window.read ≤ length read) × IsMore window.names names
-    × IsWindow margin wanted (take window.read read) window first × AreWindows margin wanted read names windows rest
+    × IsWindow kept margin wanted (take window.read read) window first × AreWindows kept margin wanted read names windows rest
 
 -- ---- what is printed at the end
 

@@ -6,7 +6,7 @@ use Rattle.fdb_lines.specs.declared.key_order.KeyOrder.{KeyOrder}
 use Rattle.fdb_lines.specs.declared.opts.AuditOpts.{AuditOpts}
 use Rattle.fdb_lines.specs.declared.reason.Finding.{Finding}
 use Rattle.fdb_lines.specs.declared.summed.Summary.{Summary}
-use Rattle.fdb_lines.specs.declared.turn.Turn.{Turn}
+use Rattle.fdb_lines.specs.declared.step.OrderStep.{OrderStep}
 use Rattle.fdb_lines.specs.Audit.{AreExplained, case_of}
 use Rattle.fdb_lines.specs.Keys.{faults_by_key, keys_of, AreExplainedByKey, HasLateByKey, HasReasonByKey}
 use Rattle.fdb_lines.specs.KeyOrders.{IsOrderOfKey}
@@ -15,15 +15,15 @@ use Rattle.fdb_lines.specs.Lines.{Lines, is_ask, is_commit, is_learn, is_read, i
 use Rattle.fdb_lines.specs.Listing.{faults_of}
 use Rattle.fdb_lines.specs.Reasons.{HasReason, found_of}
 use Rattle.fdb_lines.specs.Summary.{how_many, ordered, ordered_by_key, unreported, unreported_by_key}
-use Rattle.fdb_lines.specs.Turns.{IsOrderOf}
+use Rattle.fdb_lines.specs.OrderSteps.{IsOrderOf}
 use Rattle.fdb_log_reader.specs.Columns.{ArePrinted, KeyColumn, ShownColumn}
 use Rattle.fdb_log_reader.specs.Printed.{printed}
 use Rattle.fdb_log_reader.specs.Reading.{Reading, reading_with}
 use Rattle.fdb_audit.specs.Groups.{groupings, AreMostOfEach}
-use Rattle.fdb_audit.specs.Objects.{fault_objects, text_or_null, total_object, turn_objects}
+use Rattle.fdb_audit.specs.Objects.{fault_objects, text_or_null, total_object, step_objects}
 use Rattle.fdb_audit.specs.Text.{Beside, PrintedLog, counts_text, history_lines, line, listing_text, owner_of, summary_text}
 use Rattle.fdb_audit.specs.Totals.{faults_line, value_of}
-use Rattle.fdb_audit.specs.declared.judging.Wanted.{Wanted}
+use Rattle.fdb_audit.specs.declared.judged.Wanted.{Wanted}
 
 -- ---- what is found: of all lines together, or of those of each key by themselves, where they have keys
 
@@ -79,24 +79,24 @@ pub record AreOrders (log : Lines) (keys : List (Option ℕ)) (opts : AuditOpts)
 
 -- ---- what is printed: sentences, or JSON objects
 
-abbrev pub turns_text : Bool → PrintedLog → List ℕ → List Turn → List ℕ
-turns_text false it key turns = history_lines it key 0 turns
-turns_text true it key turns = turn_objects it key 0 turns
+abbrev pub steps_text : Bool → PrintedLog → List ℕ → List OrderStep → List ℕ
+steps_text false it key steps = history_lines it key 0 steps
+steps_text true it key steps = step_objects it key 0 steps
 
--- a key, as it is told of a turn: by the first member that is printed beside the calls
+-- a key, as it is told of a step: by the first member that is printed beside the calls
 abbrev pub key_text : Bool → List Beside → Option ℕ → List ℕ
 key_text json [] key = []
 key_text false (it ∷ more) key = owner_of it key
 key_text true (it ∷ more) key = codes ",\"key\":" ++ text_or_null (value_of it key)
 
 abbrev pub orders_text : Bool → PrintedLog → List KeyOrder → List ℕ
-orders_text json it orders = flat_map (λ order. turns_text json it (key_text json it.beside order.key) order.turns.items) orders
+orders_text json it orders = flat_map (λ order. steps_text json it (key_text json it.beside order.key) order.steps.items) orders
 
 -- an order that explains the lines, if it is wanted
 abbrev pub IsHistory : Lines → PrintedLog → Option (List (Option ℕ)) → AuditOpts → Wanted → Bool → List ℕ → Type 0
 IsHistory log it keys opts wanted false text = text ≡ []
 IsHistory log it None opts wanted true text =
-    (turns : List Turn) × IsOrderOf (case_of log opts) turns × (text ≡ turns_text wanted.json it [] turns)
+    (steps : List OrderStep) × IsOrderOf (case_of log opts) steps × (text ≡ steps_text wanted.json it [] steps)
 IsHistory log it (Some keys) opts wanted true text =
     (orders : List KeyOrder) × AreOrders log keys opts orders × (text ≡ orders_text wanted.json it orders)
 

@@ -1,13 +1,13 @@
 -- What is printed of a log as JSON, an object a line (RFC 8259). (this product's own)
 use Rattle.std.specs.Prelude.{ℕ, ◌+◌, ◌++◌, ◌∷◌, Bool, true, false, List, [], Option, None, Some, codes, decimal, slice_get}
 use Rattle.std.specs.List.{flat_map}
-use Rattle.fdb_lines.specs.declared.act.Act.{Act}
-use Rattle.fdb_lines.specs.declared.act.Act.TheVariants.{Asks, Reports, Reads}
+use Rattle.fdb_lines.specs.declared.effect.Effect.{Effect}
+use Rattle.fdb_lines.specs.declared.effect.Effect.TheVariants.{Asks, Reports, Reads}
 use Rattle.fdb_lines.specs.declared.fault.Fault.{Fault}
 use Rattle.fdb_lines.specs.declared.fault.Fault.TheVariants.{Order, Wrong, NotAbove, Twice, Stray}
 use Rattle.fdb_lines.specs.declared.late.Late.{Late}
-use Rattle.fdb_lines.specs.declared.line.Call.{Call}
-use Rattle.fdb_lines.specs.declared.line.Call.TheVariants.{Read, Commit, Ask, Report, Learn}
+use Rattle.fdb_lines.specs.declared.line.Operation.{Operation}
+use Rattle.fdb_lines.specs.declared.line.Operation.TheVariants.{Read, Commit, Ask, Report, Learn}
 use Rattle.fdb_lines.specs.declared.line.Times.{Times}
 use Rattle.fdb_lines.specs.declared.opts.AuditOpts.{AuditOpts}
 use Rattle.fdb_lines.specs.declared.reason.Finding.{Finding}
@@ -16,7 +16,7 @@ use Rattle.fdb_lines.specs.declared.reason.Means.TheVariants.{Ended, Own, Learnt
 use Rattle.fdb_lines.specs.declared.reason.Reason.{Reason}
 use Rattle.fdb_lines.specs.declared.reason.Reason.TheVariants.{Known, Unreported, Reported, Drawn, Undrawn}
 use Rattle.fdb_lines.specs.declared.reason.Witness.{Witness}
-use Rattle.fdb_lines.specs.declared.turn.Turn.{Turn}
+use Rattle.fdb_lines.specs.declared.step.OrderStep.{OrderStep}
 use Rattle.fdb_lines.specs.declared.summed.Summary.{Summary}
 use Rattle.fdb_lines.specs.Lines.{line_at}
 use Rattle.fdb_log_reader.specs.Columns.{text_at}
@@ -46,7 +46,7 @@ abbrev pub client_field : List (List ℕ) → Option ℕ → List ℕ
 client_field names None = []
 client_field names (Some client) = codes ",\"client\":" ++ name_or_number client (slice_get names client)
 
-abbrev pub call_field : List (List ℕ) → Call → List ℕ
+abbrev pub call_field : List (List ℕ) → Operation → List ℕ
 call_field names (Read version) = codes ",\"read\":" ++ decimal version
 call_field names (Commit version) = codes ",\"commit\":" ++ decimal version
 call_field names (Ask version) = codes ",\"ask\":" ++ decimal version
@@ -115,29 +115,29 @@ fault_objects it found = flat_map (λ finding. line (fault_object it finding)) f
 
 -- ---- an order
 
-abbrev pub act_field : Act → List ℕ
-act_field (Asks version) = codes ",\"ask\":" ++ decimal version
-act_field (Reports version) = codes ",\"report\":" ++ decimal version
-act_field (Reads version) = codes ",\"read\":" ++ decimal version
+abbrev pub effect_field : Effect → List ℕ
+effect_field (Asks version) = codes ",\"ask\":" ++ decimal version
+effect_field (Reports version) = codes ",\"report\":" ++ decimal version
+effect_field (Reads version) = codes ",\"read\":" ++ decimal version
 
--- the line whose turn it is; null for others
-abbrev pub turn_field : PrintedLog → Option ℕ → List ℕ
-turn_field it None = codes ",\"at\":null"
-turn_field it (Some place) = codes ",\"at\":" ++ line_object it place
+-- the line whose step it is; null for others
+abbrev pub step_field : PrintedLog → Option ℕ → List ℕ
+step_field it None = codes ",\"at\":null"
+step_field it (Some place) = codes ",\"at\":" ++ line_object it place
 
--- what stands behind whose turn it is: the key of the lines that are in order, and whether the act is that of the turn above
+-- what stands behind whose step it is: the key of the lines that are in order, and whether the effect is that of the step above
 abbrev pub shared_field : List ℕ → Bool → List ℕ
 shared_field key shared = key ++ codes ",\"shared\":" ++ truth shared ++ codes "}"
 
-abbrev pub acted_field : ℕ → Act → List ℕ
-acted_field number act = codes "{\"history\":" ++ decimal number ++ act_field act
+abbrev pub acted_field : ℕ → Effect → List ℕ
+acted_field number effect = codes "{\"history\":" ++ decimal number ++ effect_field effect
 
-abbrev pub turn_object : PrintedLog → List ℕ → ℕ → Turn → List ℕ
-turn_object it key number turn = acted_field number turn.act ++ turn_field it turn.line ++ shared_field key turn.shared
+abbrev pub step_object : PrintedLog → List ℕ → ℕ → OrderStep → List ℕ
+step_object it key number step = acted_field number step.effect ++ step_field it step.line ++ shared_field key step.shared
 
-abbrev pub turn_objects : PrintedLog → List ℕ → ℕ → List Turn → List ℕ
-turn_objects it key number [] = []
-turn_objects it key number (turn ∷ turns) = line (turn_object it key number turn) ++ turn_objects it key (number + 1) turns
+abbrev pub step_objects : PrintedLog → List ℕ → ℕ → List OrderStep → List ℕ
+step_objects it key number [] = []
+step_objects it key number (step ∷ steps) = line (step_object it key number step) ++ step_objects it key (number + 1) steps
 
 -- ---- how much was judged, and by which arguments
 

@@ -1,5 +1,5 @@
 -- What the program promises of itself. (this product's own)
-use Rattle.std.specs.Prelude.{◌≡◌, ◌≢◌, ℕ, ◌++◌, ◌||◌, ◌&&◌, ◌==◌, not, Bool, List, [], ◌∷◌, Option, None, Some, MatchOption, Err, codes, is_some, map, option_map, pos, string_bytes, unwrap_or}
+use Rattle.std.specs.Prelude.{◌≡◌, ◌≢◌, ℕ, ◌++◌, ◌||◌, ◌&&◌, ◌==◌, not, true, Bool, List, [], ◌∷◌, Option, None, Some, Err, codes, is_some, map, option_map, pos, string_bytes, unwrap_or}
 use Rattle.std.specs.List.{slice_split}
 use Rattle.std.specs.Str.Parse.{digits_value, without_leading_plus}
 use Rattle.clap.specs.Words.{App, Rule, Text, first_of, matches_of, new_rule, one_of}
@@ -14,25 +14,28 @@ use Rattle.fdb_audit.specs.Judged.{IsJudgementBy}
 use Rattle.fdb_audit.specs.Text.{fault_of}
 use Rattle.fdb_audit.specs.declared.arguments.AuditArguments.{AuditArguments}
 use Rattle.fdb_audit.specs.declared.fault.LogFault.{LogFault}
-use Rattle.fdb_audit.specs.declared.judging.Wanted.{Wanted}
+use Rattle.fdb_audit.specs.declared.judged.Wanted.{Wanted}
 use Rattle.fdb_audit.specs.declared.refused.LogsRefused.{LogsRefused}
-use Rattle.fdb_audit.specs.declared.program.AuditIntake.{AuditIntake}
-use Rattle.fdb_audit.specs.declared.program.AuditIntake.TheVariants.{Whole, Followed}
-use Rattle.fdb_audit.specs.declared.program.TheConstants.{MAX_LOG_BYTES}
+use Rattle.fdb_audit.specs.declared.refused.LogsRefused.TheVariants.{Log}
+use Rattle.fdb_audit.specs.declared.refused.LogsRefused.TheVariants.{Kept as Of_kept}
+use Rattle.fdb_audit.specs.Following.{KeptNumbers, none_kept}
+use Rattle.fdb_audit.specs.declared.audit_program.AuditIntake.{AuditIntake}
+use Rattle.fdb_audit.specs.declared.audit_program.AuditIntake.TheVariants.{Whole, Followed}
+use Rattle.fdb_audit.specs.declared.audit_program.TheConstants.{MAX_LOG_BYTES}
 use Rattle.fdb_audit.specs.Watched.{AreAllTaken, AreLeftOut, HasFollowed, IsFollowed}
 
 -- an argument that gives a text, as clap is given it
 abbrev pub text_rule : Text → Rule
 text_rule name = record (new_rule name) { long = Some name; value_names = 1 }
 
--- LOGS, --complete START, --margin N, --follow N, --key MEMBER, --show MEMBER,MEMBER, --all, --summary, --json, --history and --progress
+-- LOGS, --complete START, --margin N, --follow N, --keep FILE, --key MEMBER, --show MEMBER,MEMBER, --all, --summary, --json, --history and --progress
 abbrev pub command : App
 command = command_of (codes "fdb_audit")
     (file_rule
     ∷ number_rule (codes "complete") (pos 0) (pos 9223372036854775807)
     ∷ number_rule (codes "margin") (pos 0) (pos 9223372036854775807)
     ∷ number_rule (codes "follow") (pos 0) (pos 9223372036854775807)
-    ∷ text_rule (codes "key") ∷ text_rule (codes "show") ∷ flag_rule (codes "all") ∷ flag_rule (codes "summary") ∷ flag_rule (codes "json") ∷ flag_rule (codes "history") ∷ flag_rule (codes "progress") ∷ [])
+    ∷ text_rule (codes "keep") ∷ text_rule (codes "key") ∷ text_rule (codes "show") ∷ flag_rule (codes "all") ∷ flag_rule (codes "summary") ∷ flag_rule (codes "json") ∷ flag_rule (codes "history") ∷ flag_rule (codes "progress") ∷ [])
 
 -- the number that an argument gives, if it is given
 abbrev pub number_named : Text → List Text → Option ℕ
@@ -63,6 +66,7 @@ pub record IsAsked (arguments : List Text) (asked : AuditArguments) : Type 0 whe
   pub margin : asked.opts.margin ≡ unwrap_or (number_named (codes "margin") arguments) 0
   pub follow : asked.follow ≡ number_named (codes "follow") arguments
   pub wanted : IsWanted arguments asked.wanted
+  pub keep : option_map string_bytes asked.keep ≡ first_of (codes "keep") (matches_of command arguments)
   pub key : option_map string_bytes asked.key ≡ first_of (codes "key") (matches_of command arguments)
   pub shown : map string_bytes asked.shown.items ≡ members_named (first_of (codes "show") (matches_of command arguments))
   pub progress : asked.progress ≡ is_given (codes "progress") arguments
@@ -89,23 +93,43 @@ Prints asked bytes text found =
     (first : Option Found) × (found ≡ option_map (fault_of []) first)
     × IsJudgementBy (key_asked asked) (shown_asked asked) bytes asked.opts asked.wanted first text
 
+-- What was kept of what was read before, where the arguments say that and where it is kept: lines, as a text that is read in
+-- front of what comes, and the numbers of these.
+pub record Kept : Type 0 where
+  pub text : List ℕ
+  pub numbers : KeptNumbers
+
+abbrev pub IsKeptFor : AuditArguments → Kept → Type 0
+IsKeptFor asked kept = asked.keep ≡ None → (kept.text ≡ []) × (kept.numbers ≡ none_kept)
+
 -- the intake has taken these bytes: of a log that is followed this text has been told so far, of any other none
 abbrev pub HasTaken : AuditArguments → AuditIntake → List ℕ → List ℕ → Type 0
 HasTaken asked (Whole reader) bytes told = (asked.follow ≡ None) × HasRead asked reader bytes × (told ≡ [])
-HasTaken asked (Followed follower) bytes told = (behind : ℕ) × (asked.follow ≡ Some behind) × HasFollowed asked follower bytes told
+HasTaken asked (Followed log) bytes told =
+    (behind : ℕ) × (asked.follow ≡ Some behind) × (kept : Kept) × IsKeptFor asked kept
+    × HasFollowed asked kept.numbers log.follower (kept.text ++ bytes) told
+
+-- each line of a text was taken; or some were refused, and why the last was
+abbrev pub AreLeftBy : Option LogsRefused → AuditArguments → List ℕ → Type 0
+AreLeftBy None asked text = AreAllTaken asked text
+AreLeftBy (Some (Log error)) asked text = AreLeftOut asked text
+AreLeftBy (Some (Of_kept refused)) asked text = ⊥
 
 -- what is printed of a log, which is refused whole or not at all, or of one that is followed, of which lines may be left out
 abbrev pub PrintsBy : Option ℕ → AuditArguments → List ℕ → List ℕ → Option LogFault → Option LogsRefused → Type 0
 PrintsBy None asked bytes text found refused = Prints asked bytes text found × (refused ≡ None)
 PrintsBy (Some behind) asked bytes text found refused =
-    IsFollowed asked bytes text found × MatchOption refused (AreAllTaken asked bytes) (λ _. AreLeftOut asked bytes)
+    (kept : Kept) × IsKeptFor asked kept × IsFollowed asked kept.numbers (kept.text ++ bytes) text found
+    × AreLeftBy refused asked (kept.text ++ bytes)
 
--- why it is refused, or why a part of it is
+-- why it is refused, or why a part of it is; or what was kept is
 abbrev pub RefusesBy : Option ℕ → AuditArguments → List ℕ → LogsRefused → Type 0
-RefusesBy None asked bytes refused = (refused.error.why ≢ Memory) × (reading_with (key_asked asked) (shown_asked asked) bytes ≡ Err refused.error)
-RefusesBy (Some behind) asked bytes refused = AreLeftOut asked bytes
+RefusesBy None asked bytes (Log error) = (error.why ≢ Memory) × (reading_with (key_asked asked) (shown_asked asked) bytes ≡ Err error)
+RefusesBy None asked bytes (Of_kept refused) = ⊥
+RefusesBy (Some behind) asked bytes (Log error) = (kept : Kept) × IsKeptFor asked kept × AreLeftOut asked (kept.text ++ bytes)
+RefusesBy (Some behind) asked bytes (Of_kept refused) = is_some asked.keep ≡ true
 
--- Neither --complete nor --history suits --follow. It prints what an audit of the log finds that the bytes stand for,
+-- Neither --complete nor --history suits --follow, and --keep suits nothing else. It prints what an audit of the log finds that the bytes stand for,
 -- and refuses what stands for none; that memory was refused says nothing of the bytes. Whatever it finds, it prints. Of
 -- a log that is followed it says on standard error which lines it leaves out.
 abbrev pub audit : Promise AuditArguments AuditIntake LogsRefused LogFault
@@ -113,10 +137,12 @@ audit = record {
   app = command;
   most = MAX_LOG_BYTES;
   suits = λ arguments. not (is_some (number_named (codes "follow") arguments)
-      && (is_some (number_named (codes "complete") arguments) || is_given (codes "history") arguments));
+      && (is_some (number_named (codes "complete") arguments) || is_given (codes "history") arguments)
+      || (is_some (first_of (codes "keep") (matches_of command arguments)) && not (is_some (number_named (codes "follow") arguments))));
   asks = IsAsked;
   tells = λ arguments. is_set (codes "progress") command arguments;
   warns = λ arguments. is_some (number_named (codes "follow") arguments);
+  keeps = λ arguments. is_some (first_of (codes "keep") (matches_of command arguments));
   taken = HasTaken;
   prints = λ arguments bytes text found refused. (asked : AuditArguments) × IsAsked arguments asked
       × PrintsBy asked.follow asked bytes text found refused;

@@ -1,12 +1,12 @@
 -- What is printed of a log and its faults. (this product's own)
 use Rattle.std.specs.Prelude.{ℕ, ◌+◌, ◌-◌, ◌++◌, ◌∷◌, ◌==◌, ◌&&◌, nat_lt, not, Bool, true, false, cond, List, [], Option, None, Some, codes, decimal, slice_get, unwrap_or}
 use Rattle.std.specs.List.{flat_map}
-use Rattle.fdb_lines.specs.declared.act.Act.{Act}
-use Rattle.fdb_lines.specs.declared.act.Act.TheVariants.{Asks, Reports, Reads}
+use Rattle.fdb_lines.specs.declared.effect.Effect.{Effect}
+use Rattle.fdb_lines.specs.declared.effect.Effect.TheVariants.{Asks, Reports, Reads}
 use Rattle.fdb_lines.specs.declared.fault.Found.{Found}
 use Rattle.fdb_lines.specs.declared.late.Late.{Late}
-use Rattle.fdb_lines.specs.declared.line.Call.{Call}
-use Rattle.fdb_lines.specs.declared.line.Call.TheVariants.{Read, Commit, Ask, Report, Learn}
+use Rattle.fdb_lines.specs.declared.line.Operation.{Operation}
+use Rattle.fdb_lines.specs.declared.line.Operation.TheVariants.{Read, Commit, Ask, Report, Learn}
 use Rattle.fdb_lines.specs.declared.line.Line.{Line}
 use Rattle.fdb_lines.specs.declared.reason.Finding.{Finding}
 use Rattle.fdb_lines.specs.declared.reason.Means.{Means}
@@ -14,7 +14,7 @@ use Rattle.fdb_lines.specs.declared.reason.Means.TheVariants.{Ended, Own, Learnt
 use Rattle.fdb_lines.specs.declared.reason.Reason.{Reason}
 use Rattle.fdb_lines.specs.declared.reason.Reason.TheVariants.{Known, Unreported, Reported, Drawn, Undrawn}
 use Rattle.fdb_lines.specs.declared.reason.Witness.{Witness}
-use Rattle.fdb_lines.specs.declared.turn.Turn.{Turn}
+use Rattle.fdb_lines.specs.declared.step.OrderStep.{OrderStep}
 use Rattle.fdb_lines.specs.declared.summed.Summary.{Summary}
 use Rattle.fdb_lines.specs.Before.{began, ended}
 use Rattle.fdb_lines.specs.Lines.{draws, kind_of, line_at}
@@ -58,7 +58,7 @@ caller_text names None = codes "its caller"
 caller_text names (Some client) = client_text names client
 
 -- what a line says that was done, with the version, or of whom it has learnt, by number
-abbrev pub call_text : Call → List ℕ
+abbrev pub call_text : Operation → List ℕ
 call_text (Read version) = codes "read " ++ decimal version
 call_text (Commit version) = codes "commit " ++ decimal version
 call_text (Ask version) = codes "ask " ++ decimal version
@@ -124,7 +124,7 @@ known_text it place version None = codes "all began with " ++ decimal version
 known_text it place version (Some by) = means_text it place by.line by.means
 
 -- what the caller of a line did: it read, drew or reported its version
-abbrev pub deed_text : Call → List ℕ
+abbrev pub deed_text : Operation → List ℕ
 deed_text (Read version) = codes " read " ++ decimal version
 deed_text (Commit version) = codes " drew " ++ decimal version
 deed_text (Ask version) = codes " drew " ++ decimal version
@@ -221,19 +221,19 @@ counts_text counts = codes " lines " ++ decimal counts.lines ++ versions_text co
 abbrev pub summary_text : Summary → List ℕ
 summary_text counts = codes "audit ok" ++ counts_text counts
 
-abbrev pub act_text : Act → List ℕ
-act_text (Asks version) = codes "ask " ++ decimal version
-act_text (Reports version) = codes "report " ++ decimal version
-act_text (Reads version) = codes "read " ++ decimal version
+abbrev pub effect_text : Effect → List ℕ
+effect_text (Asks version) = codes "ask " ++ decimal version
+effect_text (Reports version) = codes "report " ++ decimal version
+effect_text (Reads version) = codes "read " ++ decimal version
 
 abbrev pub owner_text : List (List ℕ) → Option ℕ → List ℕ
 owner_text names None = []
 owner_text names (Some client) = codes " " ++ client_text names client
 
--- whose turn it is: of a line, with its client where that is known, or of others, with the key of the lines that are in order
-abbrev pub turn_owner : PrintedLog → List ℕ → Option ℕ → List ℕ
-turn_owner it key None = codes " others" ++ key
-turn_owner it key (Some place) =
+-- whose step it is: of a line, with its client where that is known, or of others, with the key of the lines that are in order
+abbrev pub step_owner : PrintedLog → List ℕ → Option ℕ → List ℕ
+step_owner it key None = codes " others" ++ key
+step_owner it key (Some place) =
     codes " " ++ number_text it.numbers place ++ owner_text it.names (line_at it.lines place).client
     ++ members_text it.beside place
 
@@ -241,11 +241,11 @@ abbrev pub shared_text : Bool → List ℕ
 shared_text true = codes " shared"
 shared_text false = []
 
-abbrev pub turn_line : PrintedLog → List ℕ → ℕ → Turn → List ℕ
-turn_line it key number turn =
-    codes "history " ++ decimal number ++ codes " " ++ act_text turn.act ++ turn_owner it key turn.line ++ shared_text turn.shared
+abbrev pub step_line : PrintedLog → List ℕ → ℕ → OrderStep → List ℕ
+step_line it key number step =
+    codes "history " ++ decimal number ++ codes " " ++ effect_text step.effect ++ step_owner it key step.line ++ shared_text step.shared
 
--- a line for each turn of an order, counted on from a number
-abbrev pub history_lines : PrintedLog → List ℕ → ℕ → List Turn → List ℕ
+-- a line for each step of an order, counted on from a number
+abbrev pub history_lines : PrintedLog → List ℕ → ℕ → List OrderStep → List ℕ
 history_lines it key number [] = []
-history_lines it key number (turn ∷ turns) = line (turn_line it key number turn) ++ history_lines it key (number + 1) turns
+history_lines it key number (step ∷ steps) = line (step_line it key number step) ++ history_lines it key (number + 1) steps

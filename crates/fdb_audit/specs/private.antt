@@ -1,17 +1,18 @@
--- What a view shows, and what is asked of a log. (this product's own)
+-- What a printer shows, and what is asked of a log. (this product's own)
 pub mod Followed
 pub mod Numbering
+pub mod Kept
 use Rattle.std.specs.Prelude.{◌≡◌, ℕ, ◌==◌, Bool, List, [], Option, None, Some, IfSome, count_by, length, map, option_map, string_bytes}
 use Rattle.fdb_lines.specs.declared.opts.AuditOpts.{AuditOpts}
 use Rattle.fdb_lines.specs.Audit.{case_of}
 use Rattle.fdb_lines.specs.Lines.{Lines}
 use Rattle.fdb_lines.specs.Log.{lines_of}
-use Rattle.fdb_lines.specs.Turns.{IsOrderOf}
+use Rattle.fdb_lines.specs.OrderSteps.{IsOrderOf}
 use Rattle.fdb_audit.specs.Groups.{by_client, by_member, number_of, Grouping}
 use Rattle.fdb_audit.specs.Text.{Beside, PrintedLog}
 use Rattle.fdb_log_reader.specs.Columns.{HasCells}
 use Rattle.fdb_log_reader.specs.Reading.{Reading}
-use Rattle.fdb_audit.specs.Judged.{orders_text, turns_text, AreOrders}
+use Rattle.fdb_audit.specs.Judged.{orders_text, steps_text, AreOrders}
 use Rattle.fdb_audit.specs.declared.asked.Asked.{Asked}
 use Rattle.fdb_audit.specs.declared.asked.Order.{Order}
 use Rattle.fdb_audit.specs.declared.asked.Order.TheVariants.{One, ByKey}
@@ -19,23 +20,23 @@ use Rattle.fdb_audit.specs.declared.beside.MemberBeside.{MemberBeside}
 use Rattle.fdb_audit.specs.declared.grouped.By.{By}
 use Rattle.fdb_audit.specs.declared.grouped.By.TheVariants.{Client, Member}
 use Rattle.fdb_audit.specs.declared.groups.Group.{Group}
-use Rattle.fdb_audit.specs.declared.view.View.{View}
+use Rattle.fdb_audit.specs.declared.printer.Printer.{Printer}
 
 abbrev pub beside_of : MemberBeside → Beside
 beside_of it = record { member = string_bytes it.member; texts = map string_bytes it.texts.items; numbers = it.numbers.now }
 
-abbrev pub shown_in : View → PrintedLog
-shown_in view = record {
-  lines = (lines_of view.log.now).lines;
-  names = map string_bytes view.names.now;
-  numbers = view.numbers.now;
-  beside = map beside_of view.beside.now;
+abbrev pub shown_in : Printer → PrintedLog
+shown_in printer = record {
+  lines = (lines_of printer.log.now).lines;
+  names = map string_bytes printer.names.now;
+  numbers = printer.numbers.now;
+  beside = map beside_of printer.beside.now;
 }
 
 -- what is asked of a log
 
 abbrev pub log_in : Asked → Lines
-log_in asked = lines_of asked.view.log.now
+log_in asked = lines_of asked.printer.log.now
 
 abbrev pub keys_in : Asked → Option (List (Option ℕ))
 keys_in asked = option_map (λ keys. keys.now) asked.keys
@@ -46,13 +47,13 @@ HasKeys asked = IfSome (keys_in asked) (λ keys. length keys ≡ length (log_in 
 
 -- an order for all lines where they have no keys, and else one for each key
 abbrev pub HasOrders : Lines → Option (List (Option ℕ)) → AuditOpts → Order → Type 0
-HasOrders log None opts (One turns) = IsOrderOf (case_of log opts) turns.items
+HasOrders log None opts (One steps) = IsOrderOf (case_of log opts) steps.items
 HasOrders log None opts (ByKey orders) = ⊥
-HasOrders log (Some keys) opts (One turns) = ⊥
+HasOrders log (Some keys) opts (One steps) = ⊥
 HasOrders log (Some keys) opts (ByKey orders) = AreOrders log keys opts orders.items
 
 abbrev pub order_text : Bool → PrintedLog → Order → List ℕ
-order_text json it (One turns) = turns_text json it [] turns.items
+order_text json it (One steps) = steps_text json it [] steps.items
 order_text json it (ByKey orders) = orders_text json it orders.items
 
 -- where keys were kept, each line has its own
@@ -62,7 +63,7 @@ HasOwnKeys reading = HasCells reading.keys reading.log
 -- ---- groups of faults
 
 abbrev pub grouping_of : By → Grouping
-grouping_of (Client view) = by_client (shown_in view)
+grouping_of (Client printer) = by_client (shown_in printer)
 grouping_of (Member member) = by_member (beside_of member.now)
 
 -- how many of some owners are a group's

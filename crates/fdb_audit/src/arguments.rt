@@ -8,7 +8,7 @@ ghost use Rattle.fdb_command.specs.Arguments.{AreMatches};
 ghost use Rattle.fdb_audit.specs.Program.{command, is_comma, members_named, text_rule};
 ghost use Rattle.fdb_audit.specs.Program.{IsWanted};
 
-use crate::judging::Wanted;
+use crate::judged::Wanted;
 use clap::{Arg, ArgMatches, Command};
 use fdb_command::{file_argument, flag_argument, is_given, new_command, number_argument};
 use fdb_lines::AuditOpts;
@@ -31,6 +31,8 @@ const MARGIN_HELP: &str = "How far the clocks of two clients may be apart [defau
 
 const FOLLOW_HELP: &str = "Watch the log as it grows: lines may begin N behind the newest end";
 
+const KEEP_HELP: &str = "Go on from the lines in FILE, and keep there those that yet matter";
+
 const KEY_HELP: &str = "The member that names a line's key: each key is judged by itself";
 
 const SHOW_HELP: &str = "Members, parted by commas, that are printed with each line that is told";
@@ -44,6 +46,8 @@ pub struct AuditArguments {
     /// it grows.
     pub follow: Option<u64>,
     pub wanted: Wanted,
+    /// Where the lines are kept of a log that is followed, if they are to be.
+    pub keep: Option<String>,
     /// The member that names a line's key, if each key is to be judged by itself.
     pub key: Option<String>,
     /// The members that are printed beside each call.
@@ -138,7 +142,7 @@ fn members_in(alloc: Global, text: &str) -> Result<Vec<String>, AllocError>
     Ok(members)
 }
 
-/// The command that clap is given: one file, three numbers from 0 to 2^63 - 1, two texts, and
+/// The command that clap is given: one file, three numbers from 0 to 2^63 - 1, three texts, and
 /// five flags.
 pub(crate) fn command<'a>(alloc: Global) -> Result<Command<'a>, AllocError>
     ensures { IfOk result (λ made. app_of made ≡ command) }
@@ -157,6 +161,7 @@ pub(crate) fn command<'a>(alloc: Global) -> Result<Command<'a>, AllocError>
     .arg(number_argument(alloc, "complete", 0, i64::MAX, "START", COMPLETE_HELP))?
     .arg(number_argument(alloc, "margin", 0, i64::MAX, "N", MARGIN_HELP))?
     .arg(number_argument(alloc, "follow", 0, i64::MAX, "N", FOLLOW_HELP))?
+    .arg(text_argument(alloc, "keep", "FILE", KEEP_HELP))?
     .arg(text_argument(alloc, "key", "MEMBER", KEY_HELP))?
     .arg(text_argument(alloc, "show", "MEMBERS", SHOW_HELP))?
     .arg(flag_argument(

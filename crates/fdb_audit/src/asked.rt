@@ -7,9 +7,9 @@ ghost use Rattle.fdb_audit.specs.Judged.{faults_in, AreExplainedIn, HasLateIn, H
 ghost use Rattle.fdb_audit.specs.Judged.{IsSummary};
 ghost use Rattle.fdb_audit.specs.private.{keys_in, log_in, HasKeys, HasOrders};
 
-use crate::view::View;
+use crate::printer::Printer;
 use fdb_lines::{
-    AuditOpts, Finding, KeyOrder, Summary, Turn, findings, findings_by_key, first_finding,
+    AuditOpts, Finding, KeyOrder, OrderStep, Summary, findings, findings_by_key, first_finding,
     order_or_finding, orders_by_key, summary, summary_by_key,
 };
 use std::alloc::{AllocError, Global};
@@ -18,7 +18,7 @@ use std::alloc::{AllocError, Global};
 /// as one for each key.
 #[derive(Clone, Copy)]
 pub(crate) struct Asked<'a> {
-    pub view: View<'a>,
+    pub printer: Printer<'a>,
     pub keys: Option<&'a [Option<u32>]>,
     pub opts: &'a AuditOpts,
 }
@@ -26,7 +26,7 @@ pub(crate) struct Asked<'a> {
 /// An order that explains all lines, or one for each key.
 #[derive(Drop)]
 pub(crate) enum Order {
-    One(Vec<Turn>),
+    One(Vec<OrderStep>),
     ByKey(Vec<KeyOrder>),
 }
 
@@ -44,8 +44,8 @@ impl Asked<'_> {
             (HasLateIn (log_in self.entry) (keys_in self.entry) self.entry.opts.now) found.items) }
     {
         match self.keys {
-            Some(keys) => findings_by_key(alloc, self.view.log, keys, self.opts),
-            None => findings(alloc, self.view.log, self.opts),
+            Some(keys) => findings_by_key(alloc, self.printer.log, keys, self.opts),
+            None => findings(alloc, self.printer.log, self.opts),
         }
     }
 
@@ -66,7 +66,7 @@ impl Asked<'_> {
                 let found = self.findings(alloc)?;
                 Ok(found.first().copied())
             }
-            None => first_finding(alloc, self.view.log, self.opts),
+            None => first_finding(alloc, self.printer.log, self.opts),
         }
     }
 
@@ -77,8 +77,8 @@ impl Asked<'_> {
             (IsSummary (log_in self.entry) (keys_in self.entry) self.entry.opts.now) }
     {
         match self.keys {
-            Some(keys) => summary_by_key(alloc, self.view.log, keys, self.opts),
-            None => summary(alloc, self.view.log, self.opts),
+            Some(keys) => summary_by_key(alloc, self.printer.log, keys, self.opts),
+            None => summary(alloc, self.printer.log, self.opts),
         }
     }
 
@@ -99,12 +99,12 @@ impl Asked<'_> {
             (HasLateIn (log_in self.entry) (keys_in self.entry) self.entry.opts.now)) }
     {
         match self.keys {
-            Some(keys) => match orders_by_key(alloc, self.view.log, keys, self.opts)? {
+            Some(keys) => match orders_by_key(alloc, self.printer.log, keys, self.opts)? {
                 Ok(orders) => Ok(Ok(Order::ByKey(orders))),
                 Err(first) => Ok(Err(first)),
             },
-            None => match order_or_finding(alloc, self.view.log, self.opts)? {
-                Ok(turns) => Ok(Ok(Order::One(turns))),
+            None => match order_or_finding(alloc, self.printer.log, self.opts)? {
+                Ok(steps) => Ok(Ok(Order::One(steps))),
                 Err(first) => Ok(Err(first)),
             },
         }

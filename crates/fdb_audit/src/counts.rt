@@ -5,7 +5,7 @@ ghost use Rattle.fdb_audit.specs.Following.{came_members, counted_object, counte
 ghost use Rattle.fdb_audit.specs.Following.{draws_members, lines_members};
 ghost use Rattle.fdb_audit.specs.private.Followed.{counted_in};
 
-use fdb_lines::{Call, Line};
+use fdb_lines::{Line, Operation};
 use std::alloc::AllocError;
 use std::fmt::Write;
 
@@ -46,11 +46,11 @@ impl Counts {
             add_one(&mut self.early);
         }
         match line.call {
-            Call::Read(_) => add_one(&mut self.reads),
-            Call::Commit(_) => add_one(&mut self.commits),
-            Call::Ask(_) => add_one(&mut self.asks),
-            Call::Report(_) => add_one(&mut self.reports),
-            Call::Learn(_) => {}
+            Operation::Read(_) => add_one(&mut self.reads),
+            Operation::Commit(_) => add_one(&mut self.commits),
+            Operation::Ask(_) => add_one(&mut self.asks),
+            Operation::Report(_) => add_one(&mut self.reports),
+            Operation::Learn(_) => {}
         }
     }
 

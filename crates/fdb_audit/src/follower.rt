@@ -1,14 +1,18 @@
 //! An audit that follows a log as it grows.
 
 ghost use Rattle.std.specs.Prelude.{◌≡◌, ◌⊎◌, ◌++◌, ℕ, [], IfOk, List, MatchOption, OnOk};
-ghost use Rattle.std.specs.Prelude.{Result, string_bytes};
+ghost use Rattle.std.specs.Prelude.{◌<◌, Result, string_bytes};
 ghost use Rattle.fdb_log_reader.specs.ReadLine.{SaidLine};
 ghost use Rattle.fdb_log_reader.specs.declared.error.Why.{Why};
+ghost use Rattle.fdb_audit.specs.Following.{KeptNumbers, none_kept};
 ghost use Rattle.fdb_audit.specs.Watched.{AreAllTaken, AreLeftOut, IsFollowed};
 ghost use Rattle.fdb_audit.specs.declared.arguments.AuditArguments.{AuditArguments};
 
 use crate::arguments::AuditArguments;
 use crate::fault::LogFault;
+use crate::kept::{KeptText, kept_text};
+use crate::numbering::Numbering;
+use crate::refused::KeptRefused;
 use crate::taking::Taking;
 use crate::teller::Teller;
 use fdb_lines::KeyWatch;
@@ -51,18 +55,44 @@ pub struct Followed {
     pub refused: Option<ReadError>,
 }
 
+/// A log that is no longer followed, to be followed on later.
+#[derive(Debug, Drop)]
+pub struct Stopped {
+    pub followed: Followed,
+    /// What [`Follower::restore`] goes on from.
+    pub kept: String,
+}
+
 impl Follower {
     ghost use Rattle.fdb_audit.specs.Watched.{lines_asked, names_asked, HasFollowed, HasToldAll};
     ghost use Rattle.fdb_audit.specs.Watched.{IsTelling};
+    ghost use Rattle.fdb_audit.specs.Taken.{kept_by};
     ghost use Rattle.fdb_log_reader.specs.LineReader.{line_names};
 
     /// An audit that has read no line, as the arguments ask for it. A line that comes may begin so far
     /// behind the newest end. It fails only where memory is refused.
     pub fn new(alloc: Global, asked: &AuditArguments, behind: u64) -> Result<Self, AllocError>
-        ensures { IfOk result (λ follower. HasFollowed asked.now follower [] []) }
+        ensures { IfOk result (λ follower. HasFollowed asked.now none_kept follower [] []) }
+    {
+        let none = Numbering::new(alloc, Vec::new(alloc), 0);
+        let follower = Follower::numbered(alloc, asked, behind, none)?;
+        Ok(follower)
+    }
+
+    /// The same, where lines with numbers of their own come first.
+    fn numbered(
+        alloc: Global,
+        asked: &AuditArguments,
+        behind: u64,
+        numbering: Numbering,
+    ) -> Result<Self, AllocError>
+        requires none { numbering.above.items ≡ [] }
+        requires few { numbering.more < 18446744073709551615 }
+        ensures { IfOk result
+            (λ follower. HasFollowed asked.now (kept_by numbering) follower [] []) }
     {
         let reader = LineReader::new(alloc, asked.key.as_deref(), &asked.shown)?;
-        let taking = Taking::new(alloc, asked.opts.margin, behind, &asked.shown)?;
+        let taking = Taking::new(alloc, asked.opts.margin, behind, &asked.shown, numbering)?;
         let teller = Teller::new(alloc, asked, taking.rows.members())?;
         Ok(Follower {
             alloc,
@@ -73,40 +103,92 @@ impl Follower {
         })
     }
 
-    /// How many lines have been taken.
+    /// An audit that goes on from the lines that one like it kept, by the text that
+    /// [`kept`](Follower::kept) gave, with the same arguments: it tells of the lines that come what
+    /// that one would have told. The inner error says why the text is refused.
+    pub fn restore(
+        alloc: Global,
+        asked: &AuditArguments,
+        behind: u64,
+        text: &[u8],
+    ) -> Result<Result<Self, KeptRefused>, AllocError>
+        ensures { IfOk result (λ it. IfOk it (λ follower.
+            (kept : KeptNumbers) × HasFollowed asked.now kept follower text.now [])) }
+    {
+        let kept = match KeptText::read(alloc, asked.key.as_deref(), text)? {
+            Ok(kept) => kept,
+            Err(refused) => return Ok(Err(refused)),
+        };
+        let numbering = Numbering::new(alloc, kept.numbers, kept.more);
+        let mut follower = Follower::numbered(alloc, asked, behind, numbering)?;
+        follower.feed_kept(text, kept.told, kept.settled)?;
+        Ok(Ok(follower))
+    }
+
+    /// How many lines have been taken, those that were kept not counted.
     pub fn line_count(&self) -> u64 {
         self.taking.counts.lines
     }
 
     /// Reads on. An error says that memory was refused.
     pub fn feed(&mut self, bytes: &[u8]) -> Result<(), AllocError>
-        ensures { OnOk result ((asked : AuditArguments) → (before told : List ℕ)
-            → HasFollowed asked self.old before told
-            → HasFollowed asked self.new (before ++ bytes.now) told) }
+        ensures { OnOk result ((asked : AuditArguments) → (kept : KeptNumbers)
+            → (before told : List ℕ) → HasFollowed asked kept self.old before told
+            → HasFollowed asked kept self.new (before ++ bytes.now) told) }
     {
         let lines = self.reader.feed(self.alloc, bytes)?;
         self.taking.take_all(lines)?;
         Ok(())
     }
 
+    /// Reads lines that were kept, of which so many had come when it had settled up to a moment: what
+    /// was to be told then has been told.
+    fn feed_kept(&mut self, bytes: &[u8], told: usize, settled: u64) -> Result<(), AllocError>
+        ensures { OnOk result ((asked : AuditArguments) → (kept : KeptNumbers)
+            → (before told : List ℕ) → HasFollowed asked kept self.old before told
+            → HasFollowed asked kept self.new (before ++ bytes.now) told) }
+    {
+        let lines = self.reader.feed(self.alloc, bytes)?;
+        self.taking.take_kept(lines, told, settled)?;
+        self.taking.newest = self.taking.newest.max(settled.saturating_add(self.behind));
+        Ok(())
+    }
+
     /// What is to be said before more is read: what has become certain, once some thousand lines have
     /// come since it was said, or where no more may come for a while.
     pub fn tell(&mut self, is_idle: bool) -> Result<Said, AllocError>
-        ensures { IfOk result (λ said. (asked : AuditArguments) → (bytes told : List ℕ)
-            → HasFollowed asked self.old bytes told
-            → HasFollowed asked self.new bytes (told ++ string_bytes said.text)) }
+        ensures { IfOk result (λ said. (asked : AuditArguments) → (kept : KeptNumbers)
+            → (bytes told : List ℕ) → HasFollowed asked kept self.old bytes told
+            → HasFollowed asked kept self.new bytes (told ++ string_bytes said.text)) }
     {
         let unsettled = self.taking.unsettled;
         self.settle_if(unsettled >= STRIDE || (is_idle && unsettled > 0))?;
         Ok(self.say())
     }
 
+    /// The lines that may yet come to matter, as a log, for [`restore`](Follower::restore): whoever
+    /// goes on from them after what was told so far has been written tells each fault of lines that
+    /// come later. They stand in the order in which they came.
+    pub fn kept(&self) -> Result<String, AllocError> {
+        kept_text(
+            self.alloc,
+            &self.reader,
+            &self.taking,
+            self.teller.key.as_deref(),
+        )
+    }
+
+    /// How many lines had been taken when it settled last, those that were kept included.
+    pub fn settled_count(&self) -> u64 {
+        self.taking.settled
+    }
+
     /// Settles, if it is time to.
     fn settle_if(&mut self, is_time: bool) -> Result<(), AllocError>
         ensures reader { self.new.reader ≡ self.old.reader }
-        ensures told { OnOk result ((asked : AuditArguments)
+        ensures told { OnOk result ((asked : AuditArguments) → (kept : KeptNumbers)
             → (read : List (Result SaidLine Why)) → (told : List ℕ)
-            → IsTelling asked self.old read told → IsTelling asked self.new read told) }
+            → IsTelling asked kept self.old read told → IsTelling asked kept self.new read told) }
     {
         if is_time {
             self.settle()?;
@@ -117,16 +199,16 @@ impl Follower {
     /// Settles as far as lines that come may not begin any more.
     fn settle(&mut self) -> Result<(), AllocError>
         ensures reader { self.new.reader ≡ self.old.reader }
-        ensures told { OnOk result ((asked : AuditArguments)
+        ensures told { OnOk result ((asked : AuditArguments) → (kept : KeptNumbers)
             → (read : List (Result SaidLine Why)) → (told : List ℕ)
-            → IsTelling asked self.old read told → IsTelling asked self.new read told) }
+            → IsTelling asked kept self.old read told → IsTelling asked kept self.new read told) }
     {
         let at = self.taking.newest.saturating_sub(self.behind);
         let told = self.taking.watch.settle(self.alloc, at)?;
-        self.taking.unsettled = 0;
         self.teller
             .tell_all(self.alloc, &self.reader, &self.taking, &told)?;
         self.taking.rows.let_go_all(&told);
+        self.taking.note_settled();
         Ok(())
     }
 
@@ -135,9 +217,10 @@ impl Follower {
         ensures reader { self.new.reader ≡ self.old.reader }
         ensures text { string_bytes result.text ≡ string_bytes self.old.teller.text }
         ensures first { self.new.teller.first ≡ self.old.teller.first }
-        ensures told { (asked : AuditArguments) → (read : List (Result SaidLine Why))
-            → (told : List ℕ) → IsTelling asked self.old read told
-            → IsTelling asked self.new read (told ++ string_bytes result.text) }
+        ensures told { (asked : AuditArguments) → (kept : KeptNumbers)
+            → (read : List (Result SaidLine Why)) → (told : List ℕ)
+            → IsTelling asked kept self.old read told
+            → IsTelling asked kept self.new read (told ++ string_bytes result.text) }
     {
         Said {
             text: replace(&mut self.teller.text, String::new(self.alloc)),
@@ -147,33 +230,46 @@ impl Follower {
 
     /// What is left to be said, where the log ends here: what is open, and the totals.
     pub fn finish(mut self) -> Result<Followed, AllocError>
-        ensures told { IfOk result (λ it. (asked : AuditArguments) → (bytes told : List ℕ)
-            → HasFollowed asked self bytes told
-            → IsFollowed asked bytes (told ++ string_bytes it.said.text) it.found) }
-        ensures refused { IfOk result (λ it. (asked : AuditArguments) → (bytes told : List ℕ)
-            → HasFollowed asked self bytes told
+        ensures told { IfOk result (λ it. (asked : AuditArguments) → (kept : KeptNumbers)
+            → (bytes told : List ℕ) → HasFollowed asked kept self bytes told
+            → IsFollowed asked kept bytes (told ++ string_bytes it.said.text) it.found) }
+        ensures refused { IfOk result (λ it. (asked : AuditArguments) → (kept : KeptNumbers)
+            → (bytes told : List ℕ) → HasFollowed asked kept self bytes told
             → MatchOption it.refused (AreAllTaken asked bytes) (λ _. AreLeftOut asked bytes)) }
     {
         self.take_last()?;
         let refused = self.taking.left_out();
         self.settle_for_good()?;
-        self.teller
-            .end(self.alloc, &self.reader, &self.taking, self.behind)?;
-        let said = self.say();
-        Ok(Followed {
-            said,
-            found: self.teller.first,
-            refused,
-        })
+        let followed = self.conclude(refused)?;
+        Ok(followed)
+    }
+
+    /// What is left to be said, where the log is to be followed on later: the totals. What is open is
+    /// kept, and not told.
+    pub fn stop(mut self) -> Result<Stopped, AllocError>
+        ensures told { IfOk result (λ it. (asked : AuditArguments) → (kept : KeptNumbers)
+            → (bytes told : List ℕ) → HasFollowed asked kept self bytes told
+            → IsFollowed asked kept bytes (told ++ string_bytes it.followed.said.text)
+            it.followed.found) }
+        ensures refused { IfOk result (λ it. (asked : AuditArguments) → (kept : KeptNumbers)
+            → (bytes told : List ℕ) → HasFollowed asked kept self bytes told
+            → MatchOption it.followed.refused (AreAllTaken asked bytes)
+            (λ _. AreLeftOut asked bytes)) }
+    {
+        self.take_last()?;
+        let refused = self.taking.left_out();
+        let kept = self.kept()?;
+        let followed = self.conclude(refused)?;
+        Ok(Stopped { followed, kept })
     }
 
     /// Takes the line that has not ended, if there is one.
     fn take_last(&mut self) -> Result<(), AllocError>
-        ensures told { OnOk result ((asked : AuditArguments) → (bytes told : List ℕ)
-            → HasFollowed asked self.old bytes told
-            → IsTelling asked self.new (lines_asked asked bytes) told) }
-        ensures names { OnOk result ((asked : AuditArguments) → (bytes told : List ℕ)
-            → HasFollowed asked self.old bytes told
+        ensures told { OnOk result ((asked : AuditArguments) → (kept : KeptNumbers)
+            → (bytes told : List ℕ) → HasFollowed asked kept self.old bytes told
+            → IsTelling asked kept self.new (lines_asked asked bytes) told) }
+        ensures names { OnOk result ((asked : AuditArguments) → (kept : KeptNumbers)
+            → (bytes told : List ℕ) → HasFollowed asked kept self.old bytes told
             → names_asked asked bytes ≡ line_names self.new.reader) }
     {
         let last = self.reader.finish(self.alloc)?;
@@ -186,9 +282,10 @@ impl Follower {
     /// Settles all.
     fn settle_for_good(&mut self) -> Result<(), AllocError>
         ensures reader { self.new.reader ≡ self.old.reader }
-        ensures told { OnOk result ((asked : AuditArguments)
+        ensures told { OnOk result ((asked : AuditArguments) → (kept : KeptNumbers)
             → (read : List (Result SaidLine Why)) → (told : List ℕ)
-            → IsTelling asked self.old read told → HasToldAll asked self.new read told) }
+            → IsTelling asked kept self.old read told
+            → HasToldAll asked kept self.new read told) }
     {
         let none = KeyWatch::new(self.alloc, 0, 0);
         let watch = replace(&mut self.taking.watch, none);
@@ -196,5 +293,24 @@ impl Follower {
         self.teller
             .tell_all(self.alloc, &self.reader, &self.taking, &told)?;
         Ok(())
+    }
+
+    /// Says how much was read, behind all that was told.
+    fn conclude(mut self, refused: Option<ReadError>) -> Result<Followed, AllocError>
+        ensures told { IfOk result (λ it. (asked : AuditArguments) → (kept : KeptNumbers)
+            → (bytes told : List ℕ)
+            → HasToldAll asked kept self (lines_asked asked bytes) told
+            → names_asked asked bytes ≡ line_names self.reader
+            → IsFollowed asked kept bytes (told ++ string_bytes it.said.text) it.found) }
+        ensures refused { IfOk result (λ it. it.refused ≡ refused) }
+    {
+        self.teller
+            .end(self.alloc, &self.reader, &self.taking, self.behind)?;
+        let said = self.say();
+        Ok(Followed {
+            said,
+            found: self.teller.first,
+            refused,
+        })
     }
 }

@@ -12,8 +12,8 @@ ghost use Rattle.fdb_audit.specs.private.{beside_of, grouping_of, owners_in, sho
 use crate::beside::MemberBeside;
 use crate::groups::{Group, most_of, number_of};
 use crate::object::push_or_null;
+use crate::printer::Printer;
 use crate::totals::push_kinds;
-use crate::view::View;
 use fdb_lines::Finding;
 use std::alloc::{AllocError, Global};
 use std::fmt::Write;
@@ -21,7 +21,7 @@ use std::fmt::Write;
 /// What faults are grouped by: whose calls they are of, or the texts of a member.
 #[derive(Clone, Copy)]
 pub(crate) enum By<'a> {
-    Client(View<'a>),
+    Client(Printer<'a>),
     Member(&'a MemberBeside<'a>),
 }
 
@@ -31,15 +31,15 @@ pub(crate) fn push_most_of_each(
     alloc: Global,
     out: &mut String,
     json: bool,
-    view: View<'_>,
+    printer: Printer<'_>,
     found: &[Finding],
 ) -> Result<(), AllocError>
     ensures { OnOk result ((text : List ℕ)
-        × AreMostOfEach json (groupings (shown_in view.entry)) found.now text
+        × AreMostOfEach json (groupings (shown_in printer.entry)) found.now text
         × (string_bytes out.new ≡ string_bytes out.old ++ text)) }
 {
-    By::Client(view).push_most(alloc, out, json, found)?;
-    for member in view.beside {
+    By::Client(printer).push_most(alloc, out, json, found)?;
+    for member in printer.beside {
         By::Member(member).push_most(alloc, out, json, found)?;
     }
     Ok(())
@@ -148,7 +148,7 @@ impl By<'_> {
         ensures { result ≡ (grouping_of self.entry).owner place }
     {
         match self {
-            By::Client(view) => view.line(place).client,
+            By::Client(printer) => printer.line(place).client,
             By::Member(member) => *member.numbers.get(place as usize)?,
         }
     }
@@ -159,7 +159,7 @@ impl By<'_> {
             ≡ string_bytes out.old ++ (grouping_of self.entry).words owner) }
     {
         match self {
-            By::Client(view) => view.push_client_words(out, owner),
+            By::Client(printer) => printer.push_client_words(out, owner),
             By::Member(member) => member.push_owner(out, owner),
         }
     }
@@ -170,13 +170,13 @@ impl By<'_> {
             ≡ string_bytes out.old ++ (grouping_of self.entry).field owner) }
     {
         match self {
-            By::Client(view) => view.push_client_or_null(out, owner),
+            By::Client(printer) => printer.push_client_or_null(out, owner),
             By::Member(member) => member.push_value_or_null(out, owner),
         }
     }
 }
 
-impl View<'_> {
+impl Printer<'_> {
     /// Writes a client, or that there is none.
     fn push_client_words(self, out: &mut String, client: Option<u32>) -> Result<(), AllocError>
         ensures { OnOk result (string_bytes out.new

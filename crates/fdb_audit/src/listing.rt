@@ -10,10 +10,10 @@ ghost use Rattle.fdb_audit.specs.private.{keys_in, log_in, shown_in, HasKeys};
 
 use crate::asked::Asked;
 use crate::grouped::push_most_of_each;
-use crate::judging::{Judgement, Wanted};
+use crate::judged::{Judgement, Wanted};
 use crate::passing::push_total_line;
+use crate::printer::Printer;
 use crate::totals::push_faults;
-use crate::view::View;
 use fdb_lines::Finding;
 use std::alloc::{AllocError, Global};
 
@@ -28,11 +28,11 @@ pub(crate) fn one_fault(
     requires reason { HasReasonIn (log_in asked) (keys_in asked) asked.opts.now first }
     requires late { HasLateIn (log_in asked) (keys_in asked) asked.opts.now first }
     ensures fault { IfOk result (λ found. found.fault ≡ Some first.found) }
-    ensures text { IfOk result (λ found. IsFaulted (log_in asked.entry) (shown_in asked.entry.view)
+    ensures text { IfOk result (λ found. IsFaulted (log_in asked.entry) (shown_in asked.entry.printer)
         (keys_in asked.entry) asked.entry.opts.now wanted first.found (string_bytes found.text)) }
 {
     let mut text = String::new(alloc);
-    asked.view.push_list(&mut text, wanted.json, &[first])?;
+    asked.printer.push_list(&mut text, wanted.json, &[first])?;
     Ok(Judgement {
         fault: Some(first.found),
         text,
@@ -52,7 +52,7 @@ pub(crate) fn listed(
     requires all { AreAll (log_in asked) (keys_in asked) asked.opts.now found.now }
     ensures { IfOk result (λ it. (first : Found) × (it.fault ≡ Some first)
         × (slice_get (map found_of found.entry.now) 0 ≡ Some first)
-        × IsFaulted (log_in asked.entry) (shown_in asked.entry.view) (keys_in asked.entry)
+        × IsFaulted (log_in asked.entry) (shown_in asked.entry.printer) (keys_in asked.entry)
         asked.entry.opts.now wanted first (string_bytes it.text)) }
 {
     let mut text = String::new(alloc);
@@ -74,12 +74,12 @@ fn add_listing(
     requires more { (wanted.all ≡ true) ⊎ (wanted.totals ≡ true) }
     requires all { AreAll (log_in asked) (keys_in asked) asked.opts.now found.now }
     ensures { OnOk result ((first : Found) → (text : List ℕ)
-        × IsListing (log_in asked.entry) (shown_in asked.entry.view) (keys_in asked.entry)
+        × IsListing (log_in asked.entry) (shown_in asked.entry.printer) (keys_in asked.entry)
         asked.entry.opts.now wanted wanted.all wanted.totals first text
         × (string_bytes out.new ≡ string_bytes out.old ++ text)) }
 {
     if wanted.all {
-        asked.view.push_list(out, wanted.json, found)
+        asked.printer.push_list(out, wanted.json, found)
     } else {
         Ok(())
     }
@@ -95,7 +95,7 @@ fn add_totals(
 ) -> Result<(), AllocError>
     requires keys { HasKeys asked }
     requires all { AreAll (log_in asked) (keys_in asked) asked.opts.now found.now }
-    ensures { OnOk result ((text : List ℕ) × AreTotals (log_in asked.entry) (shown_in asked.entry.view)
+    ensures { OnOk result ((text : List ℕ) × AreTotals (log_in asked.entry) (shown_in asked.entry.printer)
         (keys_in asked.entry) asked.entry.opts.now wanted wanted.totals text
         × (string_bytes out.new ≡ string_bytes out.old ++ text)) }
 {
@@ -105,10 +105,10 @@ fn add_totals(
     let counts = asked.summary(alloc)?;
     push_total_line(out, asked, counts, wanted.json)?;
     push_faults(out, wanted.json, found)?;
-    push_most_of_each(alloc, out, wanted.json, asked.view, found)
+    push_most_of_each(alloc, out, wanted.json, asked.printer, found)
 }
 
-impl View<'_> {
+impl Printer<'_> {
     /// Writes some faults, in their order: a sentence or an object for each.
     pub(crate) fn push_list(
         self,

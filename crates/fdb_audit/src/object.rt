@@ -12,12 +12,12 @@ ghost use Rattle.fdb_audit.specs.Text.{line};
 ghost use Rattle.fdb_audit.specs.private.{beside_of, shown_in};
 
 use crate::beside::MemberBeside;
-use crate::view::View;
-use fdb_lines::{Call, Fault, Finding, Late, Means, Reason, Times, Witness};
+use crate::printer::Printer;
+use fdb_lines::{Fault, Finding, Late, Means, Operation, Reason, Times, Witness};
 use std::alloc::AllocError;
 use std::fmt::Write;
 
-impl View<'_> {
+impl Printer<'_> {
     /// Writes an object for each of some faults, in their order.
     pub(crate) fn push_fault_objects(
         self,
@@ -87,16 +87,16 @@ impl View<'_> {
     }
 
     /// Writes what was done.
-    fn push_call_field(self, out: &mut String, call: Call) -> Result<(), AllocError>
+    fn push_call_field(self, out: &mut String, call: Operation) -> Result<(), AllocError>
         ensures { OnOk result (string_bytes out.new
             ≡ string_bytes out.old ++ call_field (shown_in self.entry).names call) }
     {
         match call {
-            Call::Read(version) => write!(out, ",\"read\":{version}"),
-            Call::Commit(version) => write!(out, ",\"commit\":{version}"),
-            Call::Ask(version) => write!(out, ",\"ask\":{version}"),
-            Call::Report(version) => write!(out, ",\"report\":{version}"),
-            Call::Learn(client) => {
+            Operation::Read(version) => write!(out, ",\"read\":{version}"),
+            Operation::Commit(version) => write!(out, ",\"commit\":{version}"),
+            Operation::Ask(version) => write!(out, ",\"ask\":{version}"),
+            Operation::Report(version) => write!(out, ",\"report\":{version}"),
+            Operation::Learn(client) => {
                 write!(out, ",\"learn\":")?;
                 self.push_name(out, client)
             }

@@ -3,7 +3,7 @@
 ghost use Rattle.std.specs.Prelude.{◌≡◌, ◌++◌, IfOk, None, OnOk, Option, false, map, string_bytes};
 ghost use Rattle.std.specs.Prelude.{true};
 ghost use Rattle.fdb_audit.specs.Judged.{head_text, key_text, orders_text, passed_text};
-ghost use Rattle.fdb_audit.specs.Judged.{total_line, turns_text};
+ghost use Rattle.fdb_audit.specs.Judged.{total_line, steps_text};
 ghost use Rattle.fdb_audit.specs.Judged.{IsPassed, IsSummary};
 ghost use Rattle.fdb_audit.specs.Text.{line};
 ghost use Rattle.fdb_audit.specs.private.{beside_of, keys_in, log_in, order_text, shown_in};
@@ -11,13 +11,13 @@ ghost use Rattle.fdb_audit.specs.private.{HasKeys, HasOrders};
 
 use crate::asked::{Asked, Order};
 use crate::beside::MemberBeside;
-use crate::judging::{Judgement, Wanted};
+use crate::judged::{Judgement, Wanted};
 use crate::object::push_or_null;
+use crate::printer::Printer;
 use crate::total_object::push_total_object;
 use crate::totals::push_faults;
 use crate::verdict::{push_counts, push_verdict};
-use crate::view::View;
-use fdb_lines::{KeyOrder, Summary, Turn};
+use fdb_lines::{KeyOrder, OrderStep, Summary};
 use std::alloc::{AllocError, Global};
 use std::fmt::Write;
 
@@ -31,7 +31,7 @@ pub(crate) fn passed(
     requires counts { IsSummary (log_in asked) (keys_in asked) asked.opts.now counts }
     requires unwanted { wanted.history ≡ false }
     ensures none { IfOk result (λ found. found.fault ≡ None) }
-    ensures text { IfOk result (λ found. IsPassed (log_in asked.entry) (shown_in asked.entry.view)
+    ensures text { IfOk result (λ found. IsPassed (log_in asked.entry) (shown_in asked.entry.printer)
         (keys_in asked.entry) asked.entry.opts.now wanted (string_bytes found.text)) }
 {
     let mut text = String::new(alloc);
@@ -50,7 +50,7 @@ pub(crate) fn explained(
     requires order { HasOrders (log_in asked) (keys_in asked) asked.opts.now order.now }
     requires wanted { wanted.history ≡ true }
     ensures none { IfOk result (λ found. found.fault ≡ None) }
-    ensures text { IfOk result (λ found. IsPassed (log_in asked.entry) (shown_in asked.entry.view)
+    ensures text { IfOk result (λ found. IsPassed (log_in asked.entry) (shown_in asked.entry.printer)
         (keys_in asked.entry) asked.entry.opts.now wanted (string_bytes found.text)) }
 {
     let counts = asked.summary(alloc)?;
@@ -67,17 +67,17 @@ fn push_explained(
     order: &Order,
     json: bool,
 ) -> Result<(), AllocError>
-    ensures { let it = shown_in asked.entry.view in OnOk result (string_bytes out.new
+    ensures { let it = shown_in asked.entry.printer in OnOk result (string_bytes out.new
         ≡ string_bytes out.old ++ passed_text json
         (head_text json it (keys_in asked.entry) asked.entry.opts.now counts)
         (order_text json it order.now)) }
 {
     if json {
-        asked.view.push_order(out, true, order)?;
+        asked.printer.push_order(out, true, order)?;
         push_head(out, asked, counts, true)
     } else {
         push_head(out, asked, counts, false)?;
-        asked.view.push_order(out, false, order)
+        asked.printer.push_order(out, false, order)
     }
 }
 
@@ -89,7 +89,7 @@ fn push_head(
     json: bool,
 ) -> Result<(), AllocError>
     ensures { OnOk result (string_bytes out.new ≡ string_bytes out.old ++ head_text json
-        (shown_in asked.entry.view) (keys_in asked.entry) asked.entry.opts.now counts) }
+        (shown_in asked.entry.printer) (keys_in asked.entry) asked.entry.opts.now counts) }
 {
     if json {
         push_total_line(out, asked, counts, true)?;
@@ -107,14 +107,14 @@ pub(crate) fn push_total_line(
     json: bool,
 ) -> Result<(), AllocError>
     ensures { OnOk result (string_bytes out.new ≡ string_bytes out.old ++ line (total_line json
-        (shown_in asked.entry.view) (keys_in asked.entry) asked.entry.opts.now counts)) }
+        (shown_in asked.entry.printer) (keys_in asked.entry) asked.entry.opts.now counts)) }
 {
     if json {
         push_total_object(
             out,
             asked.opts,
             asked.keys.is_some(),
-            asked.view.beside,
+            asked.printer.beside,
             counts,
         )
     } else {
@@ -124,19 +124,19 @@ pub(crate) fn push_total_line(
     }
 }
 
-impl View<'_> {
-    /// Writes the turns of an order, or of one for each key.
+impl Printer<'_> {
+    /// Writes the steps of an order, or of one for each key.
     fn push_order(self, out: &mut String, json: bool, order: &Order) -> Result<(), AllocError>
         ensures { OnOk result (string_bytes out.new
             ≡ string_bytes out.old ++ order_text json (shown_in self.entry) order.now) }
     {
         match order {
-            Order::One(turns) => self.push_turns(out, json, "", turns),
+            Order::One(steps) => self.push_steps(out, json, "", steps),
             Order::ByKey(orders) => self.push_orders(out, json, orders),
         }
     }
 
-    /// Writes the turns of each key, one key behind the other.
+    /// Writes the steps of each key, one key behind the other.
     fn push_orders(
         self,
         out: &mut String,
@@ -152,7 +152,7 @@ impl View<'_> {
         Ok(())
     }
 
-    /// Writes the turns of a key.
+    /// Writes the steps of a key.
     fn push_key_order(
         self,
         out: &mut String,
@@ -160,33 +160,33 @@ impl View<'_> {
         order: &KeyOrder,
     ) -> Result<(), AllocError>
         ensures { let it = shown_in self.entry in OnOk result (string_bytes out.new ≡ string_bytes out.old
-            ++ turns_text json it (key_text json it.beside order.now.key) order.now.turns.items) }
+            ++ steps_text json it (key_text json it.beside order.now.key) order.now.steps.items) }
     {
         let mut key = String::new(*out.allocator());
         push_key(&mut key, json, self.beside, order.key)?;
-        self.push_turns(out, json, &key, &order.turns)
+        self.push_steps(out, json, &key, &order.steps)
     }
 
-    /// Writes a line for each turn of an order, counted from 0, with the key of its lines.
-    fn push_turns(
+    /// Writes a line for each step of an order, counted from 0, with the key of its lines.
+    fn push_steps(
         self,
         out: &mut String,
         json: bool,
         key: &str,
-        turns: &[Turn],
+        steps: &[OrderStep],
     ) -> Result<(), AllocError>
         ensures { OnOk result (string_bytes out.new
-            ≡ string_bytes out.old ++ turns_text json (shown_in self.entry) key.now turns.now) }
+            ≡ string_bytes out.old ++ steps_text json (shown_in self.entry) key.now steps.now) }
     {
         if json {
-            self.push_turn_objects(out, key, turns)
+            self.push_step_objects(out, key, steps)
         } else {
-            self.push_history(out, key, turns)
+            self.push_history(out, key, steps)
         }
     }
 }
 
-/// Writes a key as it is told of a turn: by the first member that is printed beside the calls.
+/// Writes a key as it is told of a step: by the first member that is printed beside the calls.
 fn push_key(
     out: &mut String,
     json: bool,

@@ -8,12 +8,12 @@ ghost use Rattle.fdb_audit.specs.Text.{is_told, known_text, late_text, line, lis
 ghost use Rattle.fdb_audit.specs.Text.{reason_text, sentence_text, since, wait_text};
 ghost use Rattle.fdb_audit.specs.private.{shown_in};
 
-use crate::view::View;
-use fdb_lines::{Call, Finding, Late, Means, Reason, Witness};
+use crate::printer::Printer;
+use fdb_lines::{Finding, Late, Means, Operation, Reason, Witness};
 use std::alloc::AllocError;
 use std::fmt::Write;
 
-impl View<'_> {
+impl Printer<'_> {
     /// Writes a line for each of some faults, in their order.
     pub(crate) fn push_findings(self, out: &mut String, found: &[Finding]) -> Result<(), AllocError>
         ensures { OnOk result (string_bytes out.new ≡ string_bytes out.old
@@ -190,14 +190,14 @@ impl View<'_> {
 }
 
 /// Writes what a caller did: it read, drew or reported a version.
-fn push_deed(out: &mut String, call: Call) -> Result<(), AllocError>
+fn push_deed(out: &mut String, call: Operation) -> Result<(), AllocError>
     ensures { OnOk result (string_bytes out.new ≡ string_bytes out.old ++ deed_text call) }
 {
     match call {
-        Call::Read(version) => write!(out, " read {version}"),
-        Call::Commit(version) | Call::Ask(version) => write!(out, " drew {version}"),
-        Call::Report(version) => write!(out, " reported {version}"),
-        Call::Learn(client) => write!(out, " learnt of {client}"),
+        Operation::Read(version) => write!(out, " read {version}"),
+        Operation::Commit(version) | Operation::Ask(version) => write!(out, " drew {version}"),
+        Operation::Report(version) => write!(out, " reported {version}"),
+        Operation::Learn(client) => write!(out, " learnt of {client}"),
     }
 }
 

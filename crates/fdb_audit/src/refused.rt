@@ -4,11 +4,23 @@ use fdb_log_reader::{Member, ReadError, Why};
 use std::error::Error;
 use std::fmt;
 
-/// Why a log is refused: the text of the line on standard error, behind the program's name.
+/// Why a log is refused, or what was kept of one: the text of the line on standard error, behind the
+/// program's name.
 #[derive(Clone, Copy, Debug, PartialEq, Eq)]
-pub struct LogsRefused {
-    /// The first line with which something is wrong, and what.
-    pub error: ReadError,
+pub enum LogsRefused {
+    /// The first line of the log with which something is wrong, and what.
+    Log(ReadError),
+    /// Why lines that were kept are refused.
+    Kept(KeptRefused),
+}
+
+/// Why lines that were kept are refused: the first with which something is wrong.
+#[derive(Clone, Copy, Debug, PartialEq, Eq)]
+pub struct KeptRefused {
+    /// Its number among them, counted from 1.
+    pub line: u64,
+    /// What is wrong; none where it does not say as what it was kept.
+    pub why: Option<Why>,
 }
 
 impl fmt::Display for LogsRefused {
@@ -18,11 +30,39 @@ impl fmt::Display for LogsRefused {
     ghost output = { λ _. None };
 
     fn fmt<W: fmt::Write>(&self, f: &mut fmt::Formatter<W>) -> fmt::Result {
-        let error = self.error;
-        let cause = cause_of(error.why);
-        write!(f, "logs refused: {error}: {cause}")
+        match *self {
+            LogsRefused::Log(error) => {
+                let cause = cause_of(error.why);
+                write!(f, "logs refused: {error}: {cause}")
+            }
+            LogsRefused::Kept(refused) => write!(f, "{refused}"),
+        }
     }
 }
+
+impl fmt::Display for KeptRefused {
+    ghost use Rattle.std.specs.Prelude.{None};
+
+    // What is said beside the name of the refusal and its line is for people.
+    ghost output = { λ _. None };
+
+    fn fmt<W: fmt::Write>(&self, f: &mut fmt::Formatter<W>) -> fmt::Result {
+        let line = self.line;
+        match self.why {
+            Some(why) => {
+                let error = ReadError { line, why };
+                let cause = cause_of(why);
+                write!(f, "kept lines refused: {error}: {cause}")
+            }
+            None => write!(
+                f,
+                "kept lines refused: NotKept {line}: no line as it is kept"
+            ),
+        }
+    }
+}
+
+impl Error for KeptRefused {}
 
 impl Error for LogsRefused {}
 
@@ -46,6 +86,6 @@ fn cause_of(why: Why) -> &'static str {
             "no whole number below 2^64 and not null, or before began"
         }
         Why::BadKey => "no name",
-        Why::Memory => "want of memory",
+        Why::Memory => "out of memory",
     }
 }

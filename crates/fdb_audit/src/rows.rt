@@ -5,6 +5,7 @@ use fdb_lines::{Settled, SettledKey};
 use fdb_log_reader::{printed_name, shown_text};
 use std::alloc::{AllocError, Global};
 use std::collections::BTreeMap;
+use std::fmt::Write;
 
 /// The texts of the members that are shown, of each line that a watch keeps. Where no member is
 /// shown, nothing is kept.
@@ -94,6 +95,16 @@ impl Rows {
     fn text(&self, line: u64, column: usize) -> Option<&str> {
         let texts = self.texts.get(&line)?;
         texts.get(column)?.as_deref()
+    }
+
+    /// Writes the members of a line that it has.
+    pub(crate) fn push_texts(&self, out: &mut String, line: u64) -> Result<(), AllocError> {
+        for (column, member) in self.members.iter().enumerate() {
+            if let Some(text) = self.text(line, column) {
+                write!(out, ",{member}:{text}")?;
+            }
+        }
+        Ok(())
     }
 
     /// Adds the members as they are printed beside the lines that a watch had kept.

@@ -23,6 +23,10 @@ pub(crate) struct Taking {
     pub(crate) numbering: Numbering,
     pub(crate) rows: Rows,
     pub(crate) counts: Counts,
+    /// How many lines were taken, those that were kept of others included.
+    pub(crate) taken: u64,
+    /// How many of them had come when it settled last.
+    pub(crate) settled: u64,
     /// The newest moment at which a call has ended.
     pub(crate) newest: u64,
     /// How many lines came since it settled.
@@ -31,29 +35,37 @@ pub(crate) struct Taking {
     pub(crate) refused: Option<ReadError>,
     /// A line for standard error for each line that was refused since these were last said.
     pub(crate) warnings: String,
-    ghost above: { All (λ above. above ≤ counts.lines) numbering.above.items },
+    ghost above: { All (λ above. above ≤ taken) numbering.above.items },
 }
 
 impl Taking {
+    ghost use Rattle.fdb_audit.specs.Following.{KeptNumbers};
+    ghost use Rattle.fdb_audit.specs.Taken.{kept_by};
     ghost use Rattle.fdb_audit.specs.private.Followed.{AreTaken};
 
-    /// No line has been taken. It fails only where memory is refused.
+    /// No line has been taken; those of these numbers come first. It fails only where memory is
+    /// refused.
     pub(crate) fn new(
         alloc: Global,
         margin: u64,
         behind: u64,
         shown: &[String],
+        numbering: Numbering,
     ) -> Result<Self, AllocError>
-        ensures taken { IfOk result (λ taking. AreTaken taking []) }
+        requires none { numbering.above.items ≡ [] }
+        requires few { numbering.more < 18446744073709551615 }
+        ensures taken { IfOk result (λ taking. AreTaken (kept_by numbering) taking []) }
         ensures margin { IfOk result (λ taking. taking.watch.margin ≡ margin) }
     {
         let rows = Rows::new(alloc, shown)?;
         Ok(Taking {
             alloc,
             watch: KeyWatch::new(alloc, margin, behind),
-            numbering: Numbering::new(alloc),
+            numbering,
             rows,
             counts: Counts::new(),
+            taken: 0,
+            settled: 0,
             newest: 0,
             unsettled: 0,
             refused: None,
@@ -64,8 +76,9 @@ impl Taking {
     /// Takes some lines, or leaves those out that are refused. An error says that memory was refused.
     pub(crate) fn take_all(&mut self, lines: Vec<Result<ReadLine, Why>>) -> Result<(), AllocError>
         requires timed { All (λ read. IfOk read IsTimed) lines.items }
-        ensures taken { OnOk result ((read : List (Result SaidLine Why))
-            → AreTaken self.old read → AreTaken self.new (read ++ map said_in lines.items)) }
+        ensures taken { OnOk result ((kept : KeptNumbers) → (read : List (Result SaidLine Why))
+            → AreTaken kept self.old read
+            → AreTaken kept self.new (read ++ map said_in lines.items)) }
         ensures margin { self.new.watch.margin ≡ self.old.watch.margin }
     {
         for line in lines {
@@ -74,11 +87,34 @@ impl Taking {
         Ok(())
     }
 
+    /// Takes lines that were kept, of which so many had come when it had settled up to a moment. They
+    /// are not counted. An error says that memory was refused.
+    pub(crate) fn take_kept(
+        &mut self,
+        mut lines: Vec<Result<ReadLine, Why>>,
+        told: usize,
+        settled: u64,
+    ) -> Result<(), AllocError>
+        requires timed { All (λ read. IfOk read IsTimed) lines.items }
+        ensures taken { OnOk result ((kept : KeptNumbers) → (read : List (Result SaidLine Why))
+            → AreTaken kept self.old read
+            → AreTaken kept self.new (read ++ map said_in lines.items)) }
+        ensures margin { self.new.watch.margin ≡ self.old.watch.margin }
+    {
+        let since = lines.split_off(told.min(lines.len()))?;
+        self.take_all(lines)?;
+        self.settle_untold(settled)?;
+        self.take_all(since)?;
+        self.counts = Counts::new();
+        Ok(())
+    }
+
     /// Takes a line, or leaves it out where it is refused. An error says that memory was refused.
     pub(crate) fn take(&mut self, read: Result<ReadLine, Why>) -> Result<(), AllocError>
         requires timed { IfOk read IsTimed }
-        ensures taken { OnOk result ((lines : List (Result SaidLine Why))
-            → AreTaken self.old lines → AreTaken self.new (lines ++ said_in read ∷ [])) }
+        ensures taken { OnOk result ((kept : KeptNumbers) → (lines : List (Result SaidLine Why))
+            → AreTaken kept self.old lines
+            → AreTaken kept self.new (lines ++ said_in read ∷ [])) }
         ensures margin { self.new.watch.margin ≡ self.old.watch.margin }
     {
         // No more lines are read than have numbers.
@@ -91,13 +127,36 @@ impl Taking {
         }
     }
 
+    /// Settles up to a moment, and tells nothing of it. An error says that memory was refused.
+    pub(crate) fn settle_untold(&mut self, at: u64) -> Result<(), AllocError>
+        ensures taken { OnOk result ((kept : KeptNumbers) → (lines : List (Result SaidLine Why))
+            → AreTaken kept self.old lines → AreTaken kept self.new lines) }
+        ensures margin { self.new.watch.margin ≡ self.old.watch.margin }
+    {
+        let told = self.watch.settle(self.alloc, at)?;
+        self.rows.let_go_all(&told);
+        self.note_settled();
+        Ok(())
+    }
+
+    /// Notes that it has settled.
+    pub(crate) fn note_settled(&mut self)
+        ensures taken { (kept : KeptNumbers) → (lines : List (Result SaidLine Why))
+            → AreTaken kept self.old lines → AreTaken kept self.new lines }
+        ensures watch { self.new.watch ≡ self.old.watch }
+    {
+        self.unsettled = 0;
+        self.settled = self.taken;
+    }
+
     /// The last line that was refused, if one was, or that none was taken.
     pub(crate) fn left_out(&self) -> Option<ReadError>
-        ensures { (read : List (Result SaidLine Why)) → AreTaken self.now read → MatchOption result
+        ensures { (kept : KeptNumbers) → (read : List (Result SaidLine Why))
+            → AreTaken kept self.now read → MatchOption result
             ((taken_above 0 read ≡ []) × (0 < length (taken read)))
             (λ _. (taken read ≡ []) ⊎ (0 < length (taken_above 0 read))) }
     {
-        if self.counts.lines > 0 && self.numbering.count() == 0 {
+        if self.taken > 0 && self.numbering.count() == 0 {
             return None;
         }
         let none = ReadError {
@@ -109,19 +168,20 @@ impl Taking {
 
     /// How many lines were read.
     pub(crate) fn line_count(&self) -> u64
-        ensures { result
-            ≡ min (self.now.counts.lines + length self.now.numbering.above.items) (2 ^ 64 - 1) }
+        ensures { result ≡ min (self.now.taken + self.now.numbering.more
+            + length self.now.numbering.above.items) (2 ^ 64 - 1) }
     {
-        self.counts.lines.saturating_add(self.numbering.count())
+        self.taken.saturating_add(self.numbering.others())
     }
 
     /// Adds a line.
     fn add(&mut self, read: ReadLine) -> Result<(), AllocError>
         requires timed { IsTimed read }
-        requires room { self.old.counts.lines + length self.old.numbering.above.items
-            < 18446744073709551614 }
-        ensures taken { OnOk result ((lines : List (Result SaidLine Why)) → AreTaken self.old lines
-            → AreTaken self.new (lines ++ Ok (said_by read) ∷ [])) }
+        requires room { self.old.taken + self.old.numbering.more
+            + length self.old.numbering.above.items < 18446744073709551614 }
+        ensures taken { OnOk result ((kept : KeptNumbers) → (lines : List (Result SaidLine Why))
+            → AreTaken kept self.old lines
+            → AreTaken kept self.new (lines ++ Ok (said_by read) ∷ [])) }
         ensures margin { self.new.watch.margin ≡ self.old.watch.margin }
     {
         let ReadLine { line, key, shown } = read;
@@ -130,36 +190,37 @@ impl Taking {
             Err(WatchError::NoTimes) => unreachable!(),
             Err(WatchError::Line(_)) => return Err(AllocError),
         }
-        self.rows.add(self.counts.lines, shown)?;
+        self.rows.add(self.taken, shown)?;
         self.note(&line);
         Ok(())
     }
 
     /// Notes when a line that was added began and ended, and counts it.
     fn note(&mut self, line: &Line)
-        requires room { self.old.counts.lines < 18446744073709551615 }
+        requires room { self.old.taken < 18446744073709551615 }
         ensures watch { self.new.watch ≡ self.old.watch }
-        ensures above { self.new.numbering.above.items ≡ self.old.numbering.above.items }
-        ensures count { self.new.counts.lines ≡ self.old.counts.lines + 1 }
+        ensures numbering { self.new.numbering ≡ self.old.numbering }
+        ensures count { self.new.taken ≡ self.old.taken + 1 }
     {
         self.counts.add(line, self.watch.settled_to());
         self.newest = self.newest.max(line.ended().unwrap_or(0));
         self.unsettled = self.unsettled.saturating_add(1);
+        self.taken += 1;
     }
 
     /// Leaves a line out, and says why.
     fn leave_out(&mut self, why: Why) -> Result<(), AllocError>
-        requires room { self.old.counts.lines + length self.old.numbering.above.items
-            < 18446744073709551614 }
-        ensures taken { OnOk result ((lines : List (Result SaidLine Why)) → AreTaken self.old lines
-            → AreTaken self.new (lines ++ Err why ∷ [])) }
+        requires room { self.old.taken + self.old.numbering.more
+            + length self.old.numbering.above.items < 18446744073709551614 }
+        ensures taken { OnOk result ((kept : KeptNumbers) → (lines : List (Result SaidLine Why))
+            → AreTaken kept self.old lines → AreTaken kept self.new (lines ++ Err why ∷ [])) }
         ensures margin { self.new.watch.margin ≡ self.old.watch.margin }
     {
-        self.numbering.leave_out(self.counts.lines)?;
+        self.numbering.leave_out(self.taken)?;
         let line = self.line_count();
         let error = ReadError { line, why };
         self.refused = Some(error);
-        let refused = LogsRefused { error };
+        let refused = LogsRefused::Log(error);
         writeln!(self.warnings, "fdb_audit: {refused}")
     }
 }

@@ -10,7 +10,7 @@ ghost use Rattle.fdb_log_reader.specs.LineReader.{line_names};
 ghost use Rattle.fdb_log_reader.specs.ReadLine.{SaidLine};
 ghost use Rattle.fdb_log_reader.specs.declared.error.Why.{Why};
 ghost use Rattle.fdb_audit.specs.Following.{arguments_member, counted_words, followed_object};
-ghost use Rattle.fdb_audit.specs.Following.{keys_taken};
+ghost use Rattle.fdb_audit.specs.Following.{keys_taken, KeptNumbers};
 ghost use Rattle.fdb_audit.specs.Following.{lines_taken, listed, told_text, total_of};
 ghost use Rattle.fdb_audit.specs.Text.{fault_of, line};
 ghost use Rattle.fdb_audit.specs.private.{shown_in};
@@ -21,11 +21,11 @@ use crate::arguments::AuditArguments;
 use crate::beside::MemberBeside;
 use crate::counts::Counts;
 use crate::fault::LogFault;
-use crate::judging::Wanted;
+use crate::judged::Wanted;
 use crate::object::push_truth;
+use crate::printer::Printer;
 use crate::taking::Taking;
 use crate::told_faults::{Column, ToldFaults};
-use crate::view::View;
 use fdb_lines::{Finding, SettledKey};
 use fdb_log_reader::{LineReader, Names, printed_name};
 use std::alloc::{AllocError, Global};
@@ -85,11 +85,11 @@ impl Teller {
         taking: &Taking,
         told: &[SettledKey],
     ) -> Result<(), AllocError>
-        ensures { OnOk result ((read : List (Result SaidLine Why)) → (to : Option ℕ)
-            → (parts : List KeyPart) → (margin : ℕ)
-            → AreNumbered taking.now read → All (λ part. part.watch.margin ≡ margin) parts
+        ensures { OnOk result ((kept : KeptNumbers) → (read : List (Result SaidLine Why))
+            → (to : Option ℕ) → (parts : List KeyPart) → (margin : ℕ)
+            → AreNumbered kept taking.now read → All (λ part. part.watch.margin ≡ margin) parts
             → AreTold to (lines_taken read) (keys_taken read) parts told.now
-            → TellsOn self.old self.new margin read (line_names reader.now).clients) }
+            → TellsOn kept self.old self.new margin read (line_names reader.now).clients) }
     {
         for entry in told {
             if !entry.settled.found.is_empty() {
@@ -107,11 +107,11 @@ impl Teller {
         taking: &Taking,
         entry: &SettledKey,
     ) -> Result<(), AllocError>
-        ensures { OnOk result ((read : List (Result SaidLine Why)) → (to : Option ℕ)
-            → (part : KeyPart) → (margin : ℕ)
-            → AreNumbered taking.now read → (part.watch.margin ≡ margin)
+        ensures { OnOk result ((kept : KeptNumbers) → (read : List (Result SaidLine Why))
+            → (to : Option ℕ) → (part : KeyPart) → (margin : ℕ)
+            → AreNumbered kept taking.now read → (part.watch.margin ≡ margin)
             → IsToldOf to (lines_taken read) (keys_taken read) entry.now part
-            → TellsOn self.old self.new margin read (line_names reader.now).clients) }
+            → TellsOn kept self.old self.new margin read (line_names reader.now).clients) }
     {
         let settled = &entry.settled;
         let names = reader.names().printed(alloc)?;
@@ -121,13 +121,13 @@ impl Teller {
         let mut beside = Vec::new(alloc);
         self.add_key(alloc, reader, entry.key, &keys, &mut beside)?;
         taking.rows.add_beside(alloc, settled, &texts, &mut beside)?;
-        let view = View {
+        let printer = Printer {
             log: &settled.log,
             names: &names,
             numbers: &numbers,
             beside: &beside,
         };
-        self.add(alloc, view, &settled.found)?;
+        self.add(alloc, printer, &settled.found)?;
         Ok(())
     }
 
@@ -150,26 +150,31 @@ impl Teller {
         Ok(())
     }
 
-    /// Adds faults of a view.
-    fn add(&mut self, alloc: Global, view: View<'_>, found: &[Finding]) -> Result<(), AllocError>
+    /// Adds faults of the lines.
+    fn add(
+        &mut self,
+        alloc: Global,
+        printer: Printer<'_>,
+        found: &[Finding],
+    ) -> Result<(), AllocError>
         ensures text { OnOk result (string_bytes self.new.text ≡ string_bytes self.old.text
-            ++ told_text self.old.wanted (shown_in view.entry) found.now) }
+            ++ told_text self.old.wanted (shown_in printer.entry) found.now) }
         ensures first { OnOk result (self.new.first ≡ option_or self.old.first (option_map
-            (λ finding. fault_of (shown_in view.entry).numbers (found_of finding))
+            (λ finding. fault_of (shown_in printer.entry).numbers (found_of finding))
             (slice_get found.now 0))) }
         ensures wanted { self.new.wanted ≡ self.old.wanted }
     {
         if self.wanted.all || !self.wanted.totals {
-            view.push_list(&mut self.text, self.wanted.json, found)?;
+            printer.push_list(&mut self.text, self.wanted.json, found)?;
         }
-        self.note_first(view, found);
-        count(alloc, &mut self.told, view, found)
+        self.note_first(printer, found);
+        count(alloc, &mut self.told, printer, found)
     }
 
     /// Notes the first fault that was found.
-    fn note_first(&mut self, view: View<'_>, found: &[Finding])
+    fn note_first(&mut self, printer: Printer<'_>, found: &[Finding])
         ensures first { self.new.first ≡ option_or self.old.first (option_map
-            (λ finding. fault_of (shown_in view.entry).numbers (found_of finding))
+            (λ finding. fault_of (shown_in printer.entry).numbers (found_of finding))
             (slice_get found.now 0)) }
         ensures text { self.new.text ≡ self.old.text }
         ensures wanted { self.new.wanted ≡ self.old.wanted }
@@ -179,7 +184,7 @@ impl Teller {
         {
             self.first = Some(LogFault {
                 fault: finding.found.fault,
-                number: view.number(finding.found.line),
+                number: printer.number(finding.found.line),
             });
         }
     }
@@ -339,14 +344,14 @@ fn key_text(
 fn count(
     alloc: Global,
     told: &mut Option<ToldFaults>,
-    view: View<'_>,
+    printer: Printer<'_>,
     found: &[Finding],
 ) -> Result<(), AllocError> {
     let Some(told) = told else {
         return Ok(());
     };
     for finding in found {
-        told.add(alloc, view, finding.found.fault, finding.found.line)?;
+        told.add(alloc, printer, finding.found.fault, finding.found.line)?;
     }
     Ok(())
 }

@@ -8,8 +8,8 @@ ghost use Rattle.fdb_audit.specs.private.{shown_in};
 
 use crate::beside::MemberBeside;
 use crate::grouped::push_most_of_each;
+use crate::printer::Printer;
 use crate::totals::push_faults;
-use crate::view::View;
 use fdb_lines::{Fault, Finding, Found, Log, Reason};
 use std::alloc::{AllocError, Global};
 use std::collections::BTreeMap;
@@ -99,18 +99,18 @@ impl ToldFaults {
         &self.columns
     }
 
-    /// Adds a fault that is told of a view.
+    /// Adds a fault that is told of the lines.
     pub(crate) fn add(
         &mut self,
         alloc: Global,
-        view: View<'_>,
+        printer: Printer<'_>,
         fault: Fault,
         place: u32,
     ) -> Result<(), AllocError> {
         let Ok(line) = u32::try_from(self.log.lines().len()) else {
             return Err(AllocError);
         };
-        if self.log.push(view.line(place)).is_err() {
+        if self.log.push(printer.line(place)).is_err() {
             return Err(AllocError);
         }
         self.found.push(Finding {
@@ -118,7 +118,7 @@ impl ToldFaults {
             reason: Reason::Unreported,
             late: None,
         })?;
-        for (column, member) in self.columns.iter_mut().zip(view.beside) {
+        for (column, member) in self.columns.iter_mut().zip(printer.beside) {
             column.add(alloc, member.text(place))?;
         }
         Ok(())
@@ -147,30 +147,30 @@ impl ToldFaults {
                 numbers,
             })?;
         }
-        let view = View {
+        let printer = Printer {
             log: &self.log,
             names,
             numbers: &[],
             beside: &beside,
         };
-        push_totals(alloc, out, json, view, &self.found)?;
+        push_totals(alloc, out, json, printer, &self.found)?;
         Ok(())
     }
 }
 
-/// Writes how many faults of a view there are, in all, of each kind, and of the groups with most.
+/// Writes how many faults of the lines there are, in all, of each kind, and of the groups with most.
 fn push_totals(
     alloc: Global,
     out: &mut String,
     json: bool,
-    view: View<'_>,
+    printer: Printer<'_>,
     found: &[Finding],
 ) -> Result<(), AllocError>
     ensures { OnOk result ((groups : List ℕ)
-        × AreMostOfEach json (groupings (shown_in view.entry)) found.now groups
+        × AreMostOfEach json (groupings (shown_in printer.entry)) found.now groups
         × (string_bytes out.new
         ≡ string_bytes out.old ++ line (faults_line json found.now) ++ groups)) }
 {
     push_faults(out, json, found)?;
-    push_most_of_each(alloc, out, json, view, found)
+    push_most_of_each(alloc, out, json, printer, found)
 }

@@ -1,14 +1,14 @@
 //! What is printed of a log without a fault: how much that stands on, and an order.
 
 ghost use Rattle.std.specs.Prelude.{◌≡◌, ◌++◌, OnOk, string_bytes};
-ghost use Rattle.fdb_audit.specs.Text.{act_text, counts_text, evidence_text, history_lines};
+ghost use Rattle.fdb_audit.specs.Text.{effect_text, counts_text, evidence_text, history_lines};
 ghost use Rattle.fdb_audit.specs.Text.{line};
 ghost use Rattle.fdb_audit.specs.Text.{ordered_text, owner_text, parts_text, summary_text};
-ghost use Rattle.fdb_audit.specs.Text.{turn_line, turn_owner, versions_text};
+ghost use Rattle.fdb_audit.specs.Text.{step_line, step_owner, versions_text};
 ghost use Rattle.fdb_audit.specs.private.{shown_in};
 
-use crate::view::View;
-use fdb_lines::{Act, Summary, Turn};
+use crate::printer::Printer;
+use fdb_lines::{Effect, OrderStep, Summary};
 use std::alloc::AllocError;
 use std::fmt::Write;
 
@@ -66,54 +66,54 @@ fn push_ordered(out: &mut String, pairs: Option<u64>) -> Result<(), AllocError>
     }
 }
 
-impl View<'_> {
-    /// Writes a line for each turn of an order, counted from 0, with the key of its lines.
+impl Printer<'_> {
+    /// Writes a line for each step of an order, counted from 0, with the key of its lines.
     pub(crate) fn push_history(
         self,
         out: &mut String,
         key: &str,
-        turns: &[Turn],
+        steps: &[OrderStep],
     ) -> Result<(), AllocError>
         ensures { OnOk result (string_bytes out.new ≡ string_bytes out.old
-            ++ history_lines (shown_in self.entry) key.now 0 turns.now) }
+            ++ history_lines (shown_in self.entry) key.now 0 steps.now) }
     {
-        for (number, turn) in turns.iter().enumerate() {
-            self.push_turn(out, key, number as u64, turn)?;
+        for (number, step) in steps.iter().enumerate() {
+            self.push_step(out, key, number as u64, step)?;
         }
         Ok(())
     }
 
-    /// Writes a line for a turn of an order, with its number.
-    fn push_turn(
+    /// Writes a line for a step of an order, with its number.
+    fn push_step(
         self,
         out: &mut String,
         key: &str,
         number: u64,
-        turn: &Turn,
+        step: &OrderStep,
     ) -> Result<(), AllocError>
         ensures { OnOk result (string_bytes out.new ≡ string_bytes out.old
-            ++ line (turn_line (shown_in self.entry) key.now number turn.now)) }
+            ++ line (step_line (shown_in self.entry) key.now number step.now)) }
     {
         write!(out, "history {number} ")?;
-        push_act(out, turn.act)?;
-        self.push_whose_turn(out, key, turn.line)?;
-        if turn.shared {
+        push_effect(out, step.effect)?;
+        self.push_whose_step(out, key, step.line)?;
+        if step.shared {
             writeln!(out, " shared")
         } else {
             writeln!(out)
         }
     }
 
-    /// Writes whose a turn is: of a line, by number, with its client, or of callers who logged
+    /// Writes whose a step is: of a line, by number, with its client, or of callers who logged
     /// nothing, with the key.
-    fn push_whose_turn(
+    fn push_whose_step(
         self,
         out: &mut String,
         key: &str,
         line: Option<u32>,
     ) -> Result<(), AllocError>
         ensures { OnOk result (string_bytes out.new ≡ string_bytes out.old
-            ++ turn_owner (shown_in self.entry) key.now line) }
+            ++ step_owner (shown_in self.entry) key.now line) }
     {
         match line {
             Some(place) => {
@@ -126,7 +126,7 @@ impl View<'_> {
         }
     }
 
-    /// Writes the client of a turn's line, behind a space; nothing where the line names none.
+    /// Writes the client of a step's line, behind a space; nothing where the line names none.
     fn push_owner(self, out: &mut String, client: Option<u32>) -> Result<(), AllocError>
         ensures { OnOk result (string_bytes out.new
             ≡ string_bytes out.old ++ owner_text (shown_in self.entry).names client) }
@@ -141,13 +141,13 @@ impl View<'_> {
     }
 }
 
-/// Writes an act with its version, in the words that name it in a log.
-fn push_act(out: &mut String, act: Act) -> Result<(), AllocError>
-    ensures { OnOk result (string_bytes out.new ≡ string_bytes out.old ++ act_text act) }
+/// Writes an effect with its version, in the words that name it in a log.
+fn push_effect(out: &mut String, effect: Effect) -> Result<(), AllocError>
+    ensures { OnOk result (string_bytes out.new ≡ string_bytes out.old ++ effect_text effect) }
 {
-    match act {
-        Act::Asks(version) => write!(out, "ask {version}"),
-        Act::Reports(version) => write!(out, "report {version}"),
-        Act::Reads(version) => write!(out, "read {version}"),
+    match effect {
+        Effect::Asks(version) => write!(out, "ask {version}"),
+        Effect::Reports(version) => write!(out, "report {version}"),
+        Effect::Reads(version) => write!(out, "read {version}"),
     }
 }

@@ -5,7 +5,7 @@ use anyhow::{Result, anyhow};
 use crossbeam_channel::{Receiver, bounded};
 use fdb_history::{GrvOpts, Priority, Sequence};
 use fdb_live::{Live, LiveRecord, Seen};
-use fdb_proxy::{Answer, Request, serve_batch};
+use fdb_proxy::{Addressed, Answer, Reply, Request, serve_batch};
 use fdb_queue::{GrvQueue, QueueConfig, Req};
 use std::alloc::Global;
 use std::sync::Wait;
@@ -39,16 +39,11 @@ fn queue<J: Live>(alloc: Global) -> Result<GrvQueue<Request<J>>> {
     Ok(GrvQueue::new(alloc, config)?)
 }
 
-/// What is added of an answer: version, position and serial, or 0 where it is no reply.
-fn answer_word<J: Live>(answer: &Answer<J>) -> u64 {
-    match answer {
-        Answer::Reply(reply) => {
-            let position = reply.position.wrapping_mul(31);
-            let word = reply.rec.version.wrapping_add(position);
-            word.wrapping_add(reply.serial.wrapping_mul(3))
-        }
-        Answer::Refused(_) => 0,
-    }
+/// What is added of a reply: version, position and serial.
+fn reply_word<J: Live>(reply: &Reply<J>) -> u64 {
+    let position = reply.position.wrapping_mul(31);
+    let word = reply.rec.version.wrapping_add(position);
+    word.wrapping_add(reply.serial.wrapping_mul(3))
 }
 
 /// Serves batches of so many requests each, which were made before.
@@ -68,15 +63,15 @@ pub(crate) fn batches<J: Live, R: CpuClock + Wait>(
     let mut checksum = Checksum::EMPTY;
     let watch = Stopwatch::start(rt)?;
     for batch in batches {
-        let Ok(answers) = serve_batch(rt, job.alloc, live, seen, &queue, batch) else {
+        let Ok(replies) = serve_batch(rt, job.alloc, live, seen, &queue, batch) else {
             return Err(anyhow!("out of memory"));
         };
-        add(answers.as_slice(), &mut checksum);
+        add(replies.as_slice(), &mut checksum);
     }
     watch.measured(rt, u64::from(times) * u64::from(job.size), checksum)
 }
 
-/// A batch of requests by the client 0, whose answers would come to the waiters.
+/// A batch of requests by the client 0, whose replies would come to the waiters.
 fn batch<J: Live>(
     job: Job,
     live: &LiveRecord<J>,
@@ -104,8 +99,8 @@ fn batch<J: Live>(
     Ok(batch)
 }
 
-fn add<J: Live>(answers: &[Answer<J>], checksum: &mut Checksum) {
-    for answer in answers {
-        checksum.add(answer_word(answer));
+fn add<J: Live>(replies: &[Addressed<J>], checksum: &mut Checksum) {
+    for addressed in replies {
+        checksum.add(reply_word(&addressed.reply));
     }
 }

@@ -64,7 +64,7 @@ fn measure_named<J: Live + Send + Sync, R: Clock + CpuClock + Threads + Wait + S
         live,
         reading: AtomicU64::new(u64::from(job.threads)),
     };
-    let mut served = Served {
+    let mut served = ServedRecord {
         shared,
         reader,
         reporters,
@@ -91,13 +91,13 @@ struct Shared<J: Live> {
 
 /// A live record and what threads share beside it, and the tokens that nobody works with.
 #[derive(Drop)]
-struct Served<J: Live> {
+struct ServedRecord<J: Live> {
     shared: Shared<J>,
     reader: Seen<J>,
     reporters: Vec<Seen<J>>,
 }
 
-impl<J: Live + Send + Sync> Served<J> {
+impl<J: Live + Send + Sync> ServedRecord<J> {
     /// Reads after so many raises, maybe beside a thread that reports for as long as they last.
     /// Which records they then find is a matter of the schedule; that no position falls is not.
     fn reads<R>(&mut self, rt: &R, job: Job, beside: bool) -> Result<Measured>

@@ -1,13 +1,17 @@
 -- What C asks of an audit, and what it is told.
-use Rattle.std.specs.Prelude.{◌≡◌, ◌≢◌, ℕ, ◌+◌, ◌<◌, ◌==◌, ◌++◌, false, List, [], ◌∷◌, All, drop, length, map, Option, None, Some, option_map, Result, Ok, Err, if◌then◌else◌}
+use Rattle.std.specs.Prelude.{◌≡◌, ◌≢◌, ℕ, ◌+◌, ◌<◌, ◌==◌, ◌++◌, Bool, false, List, [], ◌∷◌, All, drop, length, map, Option, None, Some, option_map, Result, Ok, Err, if◌then◌else◌}
+use Rattle.std.specs.BTreeSet.{BTreeSet, contains}
+use Rattle.std.specs.List.{list_any}
+use Rattle.std.specs.Ordering.{nat_cmp}
 use Rattle.fdb_lines.specs.Audit.{case_of}
-use Rattle.fdb_lines.specs.Lines.{Lines}
+use Rattle.fdb_lines.specs.Lines.{Lines, same_client}
 use Rattle.fdb_lines.specs.Listing.{faults_of}
 use Rattle.fdb_lines.specs.Reasons.{HasReason, found_of}
 use Rattle.fdb_lines.specs.declared.fault.Fault.{Fault}
 use Rattle.fdb_lines.specs.declared.fault.Fault.TheVariants as fault
-use Rattle.fdb_lines.specs.declared.line.Call.{Call}
-use Rattle.fdb_lines.specs.declared.line.Call.TheVariants as made
+use Rattle.fdb_lines.specs.declared.line.Operation.{Operation}
+use Rattle.fdb_lines.specs.declared.line.Operation.TheVariants as made
+use Rattle.fdb_lines.specs.declared.line.Line.{Line}
 use Rattle.fdb_lines.specs.declared.line.Times.{Times}
 use Rattle.fdb_lines.specs.declared.opts.AuditOpts.{AuditOpts}
 use Rattle.fdb_lines.specs.declared.reason.Finding.{Finding}
@@ -23,7 +27,7 @@ use Rattle.fdb_log_reader.specs.declared.error.Why.{Why}
 use Rattle.fdb_log_reader.specs.declared.error.Why.TheVariants as why
 use Rattle.fdb_log_reader.specs.declared.member.Member.{Member}
 use Rattle.fdb_log_reader.specs.declared.member.Member.TheVariants as member
-use Rattle.fdb_audit.specs.declared.judging.Wanted.{Wanted}
+use Rattle.fdb_audit.specs.declared.judged.Wanted.{Wanted}
 use Rattle.fdb_c.specs.declared.audit.FdbAuditOptions.{FdbAuditOptions}
 use Rattle.fdb_c.specs.declared.audit.FdbRefused.{FdbRefused}
 use Rattle.fdb_c.specs.declared.audit.TheConstants.{FDB_CLIENT, FDB_READ, FDB_COMMIT, FDB_ASK, FDB_REPORT, FDB_LEARN, FDB_BEGAN, FDB_ENDED}
@@ -49,14 +53,26 @@ wanted_of options = record { history = options.history; all = options.all; total
 abbrev pub client_of : FdbCall → Option ℕ
 client_of call = if call.has_client then Some call.client else None
 
--- what was done, if it is one of the five
-abbrev pub made_of : FdbCall → Result Call Why
-made_of call =
+-- whether a log has a line of this client
+abbrev pub has_line_of : Lines → ℕ → Bool
+has_line_of log client = list_any (λ (line : Line). same_client line.client (Some client)) log.lines
+
+-- These are the clients of whom a log has lines.
+abbrev pub AreClients : Lines → BTreeSet ℕ → Type 0
+AreClients log clients = (client : ℕ) → contains nat_cmp clients client ≡ has_line_of log client
+
+-- One learns from a client that is known: a line above is its.
+abbrev pub learnt_from : ℕ → Bool → Result Operation Why
+learnt_from teller is_known = if is_known then Ok (made.Learn teller) else Err (why.BadMember member.Learn)
+
+-- what was done, if it is one of the five, where the client from whom one has learnt is known or not
+abbrev pub made_of : FdbCall → Bool → Result Operation Why
+made_of call is_known =
     if call.kind == FDB_READ then Ok (made.Read call.version)
     else (if call.kind == FDB_COMMIT then Ok (made.Commit call.version)
     else (if call.kind == FDB_ASK then Ok (made.Ask call.version)
     else (if call.kind == FDB_REPORT then Ok (made.Report call.version)
-    else (if call.kind == FDB_LEARN then Ok (made.Learn call.teller)
+    else (if call.kind == FDB_LEARN then learnt_from call.teller is_known
     else Err why.NoCall))))
 
 -- when it ended, where that is known
@@ -71,7 +87,7 @@ times_of call =
 -- a log with a call more, or what is wrong with that
 abbrev pub with_call : Lines → FdbCall → Result Lines Why
 with_call log call =
-    and_then (made_of call) (λ made.
+    and_then (made_of call (has_line_of log call.teller)) (λ made.
     and_then (times_of call) (λ times.
     pushed log (record { client = client_of call; call = made; times = times })))
 

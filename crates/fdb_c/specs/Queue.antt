@@ -152,6 +152,11 @@ abbrev pub told : Queue ℕ → Option Op → FdbOutcome
 told queue None = shown FDB_BAD_OP None 0 queue
 told queue (Some op) = outcome queue op
 
+-- the status of it
+abbrev pub status_told : Queue ℕ → Option Op → ℕ
+status_told queue None = FDB_BAD_OP
+status_told queue (Some op) = status_at queue op
+
 -- the queue after what C asks for
 abbrev pub after : Queue ℕ → Option Op → Queue ℕ
 after queue None = queue

@@ -1,8 +1,9 @@
 //! The audit of a log: what C asks for, and why a log is refused.
 
-ghost use Rattle.std.specs.Prelude.{◌≡◌, ◌⊎◌};
+ghost use Rattle.std.specs.Prelude.{◌≡◌, ◌≢◌, ◌⊎◌};
 ghost use Rattle.fdb_c.specs.Audit.{IsRefusal, complete_of, member_of, number_of, opts_of};
 ghost use Rattle.fdb_c.specs.Audit.{refused_of, status_of, wanted_of};
+ghost use Rattle.fdb_c.specs.declared.status.TheConstants.{FDB_OVER};
 
 use crate::status::{
     FDB_BAD_MEMBER, FDB_EMPTY, FDB_MEMORY, FDB_NO_CALL, FDB_NOT_JSON, FDB_SOME_TIMES, FDB_TOO_LONG,
@@ -113,7 +114,8 @@ fn number_of(member: Member) -> u8
 
 /// A refusal's number.
 fn status_of(why: Why) -> u8
-    ensures { result ≡ status_of why }
+    ensures number { result ≡ status_of why }
+    ensures known { result ≢ FDB_OVER }
 {
     match why {
         Why::Empty => FDB_EMPTY,
@@ -143,6 +145,7 @@ pub(crate) fn refuse(error: ReadError, refused: &mut FdbRefused) -> u8
     ensures status { result ≡ status_of error.why }
     ensures told { ((error.why ≡ Why.Memory) × (refused.new ≡ refused.old))
         ⊎ (IsRefusal result × (refused.new ≡ refused_of error)) }
+    ensures known { result ≢ FDB_OVER }
 {
     let status = status_of(error.why);
     if status != FDB_MEMORY {

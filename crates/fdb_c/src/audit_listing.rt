@@ -1,6 +1,7 @@
 //! The audit of a log, as a list of faults.
 
 ghost use Rattle.std.specs.Prelude.{◌≡◌, ◌⊎◌, ◌+◌, ◌≤◌, ◌++◌, List, Ok, Err, IfOk};
+ghost use Rattle.std.specs.Prelude.{false, true};
 ghost use Rattle.std.specs.Prelude.{OnErr, drop, length, map};
 ghost use Rattle.fdb_lines.specs.Audit.{AreExplained, case_of};
 ghost use Rattle.fdb_lines.specs.Lines.{Lines};
@@ -26,6 +27,21 @@ fn write_all(faults: &mut [FdbFault], found: &[Finding])
     for (place, finding) in found.iter().enumerate() {
         faults[place] = told(*finding);
     }
+}
+
+/// Writes faults to the start of a slice, and how many there are, unless there is no room for them.
+pub(crate) fn write_faults(found: &[Finding], faults: &mut [FdbFault], size: &mut u64) -> bool
+    ensures fits { (result ≡ true)
+        → IsWritten (map told found.now) faults.old faults.new size.new }
+    ensures no_room { (result ≡ false)
+        → HasNoRoom (map told found.now) faults.old faults.new size.new }
+{
+    *size = found.len() as u64;
+    if faults.len() < found.len() {
+        return false;
+    }
+    write_all(faults, found);
+    true
 }
 
 /// Writes the faults of a log, and how many there are. The status is the verdict, or that there is

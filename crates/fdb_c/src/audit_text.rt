@@ -17,7 +17,7 @@ use fdb_audit::{Judgement, judge, judge_text};
 use std::alloc::Global;
 
 /// Writes a text to the start of a slice, and its size, unless there is no room for it.
-fn write_text(written: &str, text: &mut [u8], size: &mut u64) -> bool
+pub(crate) fn write_text(written: &str, text: &mut [u8], size: &mut u64) -> bool
     ensures fits { (result ≡ true) → IsWritten written.now text.old text.new size.new }
     ensures no_room { (result ≡ false) → HasNoRoom written.now text.old text.new size.new }
 {

@@ -10,11 +10,11 @@ ghost use Rattle.fdb_c.specs.Chain.{StandsFor, ask_of, told};
 
 use crate::chain::{FdbAnswer, FdbAsk, step};
 use crate::chain_handle::FdbChain;
-use crate::parts::{Parts, boxed};
+use crate::held::Held;
+use crate::parts::boxed;
 use crate::status::{FDB_BAD_EPOCH, FDB_MEMORY, FDB_NO_PROXY, FDB_OK};
 use fdb_chain::{ChainError, RecentChain};
 use std::alloc::Global;
-use std::mem;
 
 /// Opens a chain with no answers yet. Refused, it leaves the handle none.
 #[unsafe(no_mangle)]
@@ -37,7 +37,7 @@ pub extern "C" fn fdb_chain_new(
     match RecentChain::new(alloc, epoch_end, recovery, proxies) {
         Ok(core) => match boxed(alloc, core) {
             Ok(core) => {
-                mem::replace(chain, FdbChain::of(Parts::of(core))).gone();
+                chain.swap(Held::new(core)).gone();
                 FDB_OK
             }
             Err(_) => FDB_MEMORY,
@@ -70,10 +70,9 @@ pub extern "C" fn fdb_chain_ask(
         → IsOkAnd (answer_to before (ask_of ask.now)) (λ issued. issued.fresh ≡ true) }
     ensures held { IsSome chain.new.chain }
 {
-    let held = mem::replace(chain, FdbChain::none());
-    let mut core = held.into_parts(alloc).into_box();
+    let mut core = chain.swap(Held::none()).into_box(alloc).unwrap();
     let answered = step(&mut core, *ask);
-    mem::replace(chain, FdbChain::of(Parts::of(core))).gone();
+    chain.swap(Held::new(core)).gone();
     match answered {
         Some(given) => {
             *answer = given;
@@ -83,12 +82,10 @@ pub extern "C" fn fdb_chain_ask(
     }
 }
 
-/// Frees a chain. The handle is then none.
+/// Frees a chain, if the handle has one. The handle is then none.
 #[unsafe(no_mangle)]
 pub extern "C" fn fdb_chain_free(alloc: Global, chain: &mut FdbChain)
-    requires { IsSome chain.old.chain }
     ensures { chain.new.chain ≡ None }
 {
-    let held = mem::replace(chain, FdbChain::none());
-    let _core = held.into_parts(alloc).into_box();
+    let _core = chain.swap(Held::none()).into_box(alloc);
 }

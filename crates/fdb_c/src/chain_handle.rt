@@ -1,16 +1,14 @@
 //! A chain, as C holds it.
 
-ghost use Rattle.std.specs.Prelude.{◌≡◌, Option, None, Some, IsNone, IsSome};
+ghost use Rattle.std.specs.Prelude.{◌≡◌, Option};
 ghost use Rattle.fdb_chain.specs.Recent.{Recent};
 
-use crate::parts::Parts;
+use crate::held::Held;
 use fdb_chain::RecentChain;
-use std::alloc::Global;
 use std::marker::Model;
-use std::ptr;
+use std::mem;
 
-/// A chain that C holds, or none. It has no drop, so that none is let go by the way: what is here
-/// is handed back to C, or its box is taken out.
+/// A chain that C holds, or none.
 #[repr(C)]
 pub struct FdbChain {
     at: *mut u8,
@@ -24,39 +22,29 @@ impl Model for FdbChain {
 }
 
 impl FdbChain {
-    /// No chain.
-    pub(crate) fn none() -> FdbChain
-        ensures { result.chain ≡ None }
+    /// A handle that has this.
+    fn of(held: Held<RecentChain>) -> FdbChain
+        ensures { result.chain ≡ held.it }
     {
-        FdbChain {
-            at: ptr::null_mut(),
-        }
+        let Held { at } = held;
+        FdbChain { at: at as *mut u8 }
     }
 
-    /// This chain.
-    pub(crate) fn of(parts: Parts<RecentChain, Global>) -> FdbChain
-        ensures { result.chain ≡ Some parts.value }
-    {
-        let Parts { ptr, alloc: _ } = parts;
-        FdbChain { at: ptr as *mut u8 }
-    }
-
-    /// The chain.
-    pub(crate) fn into_parts(self, alloc: Global) -> Parts<RecentChain, Global>
-        requires { IsSome self.chain }
-        ensures { Some result.value ≡ self.chain }
+    /// What it has.
+    fn into_held(self) -> Held<RecentChain>
+        ensures { result.it ≡ self.chain }
     {
         let FdbChain { at } = self;
-        Parts {
-            ptr: at as *mut RecentChain,
-            alloc,
+        Held {
+            at: at as *mut RecentChain,
         }
     }
 
-    /// Lets go of a handle that has no chain.
-    pub(crate) fn gone(self)
-        requires { IsNone self.chain }
+    /// Gives it this, and takes what it had.
+    pub(crate) fn swap(&mut self, held: Held<RecentChain>) -> Held<RecentChain>
+        ensures taken { result.it ≡ self.old.chain }
+        ensures given { self.new.chain ≡ held.it }
     {
-        let FdbChain { at: _ } = self;
+        mem::replace(self, FdbChain::of(held)).into_held()
     }
 }

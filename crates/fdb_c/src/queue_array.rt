@@ -125,6 +125,9 @@ pub extern "C" fn fdb_queue_outcomes(
         ≡ length (started_each (new_queue (config_of config.now)) ops.now) }
     ensures bad_config { (length ops.now ≤ length outcomes.old)
         → ((result ≡ FDB_BAD_CONFIG) ↔ ¬ IsConfig (config_of config.now)) }
+    ensures no_room { (length outcomes.old < length ops.now)
+        → (result ≡ FDB_ROOM) × (outcomes.new ≡ outcomes.old) × (size.new ≡ size.old) }
+    ensures untouched { (result ≡ FDB_OK → ⊥) → started.new ≡ started.old }
 {
     if outcomes.len() < ops.len() {
         return FDB_ROOM;

@@ -5,9 +5,11 @@ ghost use Rattle.std.specs.Prelude.{IsNone, IsSome, IfSome, Err, OnOk, OnErr, If
 ghost use Rattle.fdb_queue.specs.Config.{IsConfig};
 ghost use Rattle.fdb_queue.specs.Queue.{new_queue};
 ghost use Rattle.fdb_queue.specs.Waiting.{row};
-ghost use Rattle.fdb_c.specs.Queue.{after, config_of, IsDone, offered, started_by, told};
+ghost use Rattle.fdb_c.specs.Queue.{after, config_of, IsDone, offered, started_by, status_told};
+ghost use Rattle.fdb_c.specs.Queue.{told};
 
-use crate::parts::{Parts, boxed};
+use crate::held::Held;
+use crate::parts::boxed;
 use crate::queue::{FdbOutcome, FdbQueueConfig, FdbRequest, Op, priority_of, shown};
 use crate::queue_handle::FdbQueue;
 use crate::queue_steps::{offer_shown, pop_shown};
@@ -15,7 +17,6 @@ use crate::queue_window::{room_for, window_shown};
 use crate::status::{FDB_BAD_CONFIG, FDB_BAD_OP, FDB_MEMORY, FDB_OK, FDB_ROOM};
 use fdb_queue::{GrvQueue, QueueConfig, Req};
 use std::alloc::Global;
-use std::mem;
 
 /// Opens a queue in which nothing waits. Refused, it leaves the handle none.
 #[unsafe(no_mangle)]
@@ -35,7 +36,7 @@ pub extern "C" fn fdb_queue_new(alloc: Global, config: &FdbQueueConfig, queue: &
     };
     match boxed(alloc, made) {
         Ok(made) => {
-            mem::replace(queue, FdbQueue::of(Parts::of(made))).gone();
+            queue.swap(Held::new(made)).gone();
             FDB_OK
         }
         Err(_) => FDB_MEMORY,
@@ -48,6 +49,7 @@ fn offer_told(queue: &mut GrvQueue<u64>, request: FdbRequest) -> Option<FdbOutco
     ensures after { IfSome result (λ _. queue.new ≡ after queue.old (offered request)) }
     ensures not_memory { IfSome result (λ given. given.status ≡ FDB_MEMORY → ⊥) }
     ensures memory { IsNone result → queue.new ≡ queue.old }
+    ensures due { IsNone result → status_told queue.old (offered request) ≡ FDB_OK }
 {
     match priority_of(request.priority) {
         Some(priority) => offer_shown(
@@ -78,12 +80,13 @@ pub extern "C" fn fdb_queue_offer(
         (λ before. queue.new.queue ≡ Some (after before (offered request.now))) }
     ensures memory { (result ≡ FDB_MEMORY)
         → (queue.new.queue ≡ queue.old.queue) × (outcome.new ≡ outcome.old) }
+    ensures due { (result ≡ FDB_MEMORY) → IfSome queue.old.queue
+        (λ before. status_told before (offered request.now) ≡ FDB_OK) }
     ensures held { IsSome queue.new.queue }
 {
-    let held = mem::replace(queue, FdbQueue::none());
-    let mut core = held.into_parts(alloc).into_box();
+    let mut core = queue.swap(Held::none()).into_box(alloc).unwrap();
     let carried = offer_told(&mut core, *request);
-    mem::replace(queue, FdbQueue::of(Parts::of(core))).gone();
+    queue.swap(Held::new(core)).gone();
     match carried {
         Some(given) => {
             *outcome = given;
@@ -101,10 +104,9 @@ pub extern "C" fn fdb_queue_pop(alloc: Global, queue: &mut FdbQueue, outcome: &m
     ensures after { IfSome queue.old.queue
         (λ before. queue.new.queue ≡ Some (after before (Some Op.Pop))) }
 {
-    let held = mem::replace(queue, FdbQueue::none());
-    let mut core = held.into_parts(alloc).into_box();
+    let mut core = queue.swap(Held::none()).into_box(alloc).unwrap();
     *outcome = pop_shown(&mut core);
-    mem::replace(queue, FdbQueue::of(Parts::of(core))).gone();
+    queue.swap(Held::new(core)).gone();
 }
 
 /// Holds a window, if there is room for what it may start.
@@ -121,6 +123,8 @@ fn window_told(
     ensures not_done { IfErr result (λ status. ¬ IsDone status) }
     ensures unchanged { OnErr result ((queue.new ≡ queue.old) × (started.new ≡ started.old)) }
     ensures room { (result ≡ Err FDB_ROOM) → length started.old < length (row queue.old.waiting) }
+    ensures due { (result ≡ Err FDB_MEMORY)
+        → 0 < length (started_by queue.old (Some (Op.Window elapsed))) }
 {
     if started.len() < room_for(queue) {
         return Err(FDB_ROOM);
@@ -155,12 +159,13 @@ pub extern "C" fn fdb_queue_window(
         × (outcome.new ≡ outcome.old) × (started.new ≡ started.old) }
     ensures room { (result ≡ FDB_ROOM) → IfSome queue.old.queue
         (λ before. length started.old < length (row before.waiting)) }
+    ensures due { (result ≡ FDB_MEMORY) → IfSome queue.old.queue
+        (λ before. 0 < length (started_by before (Some (Op.Window elapsed)))) }
     ensures held { IsSome queue.new.queue }
 {
-    let held = mem::replace(queue, FdbQueue::none());
-    let mut core = held.into_parts(alloc).into_box();
+    let mut core = queue.swap(Held::none()).into_box(alloc).unwrap();
     let carried = window_told(&mut core, elapsed, started);
-    mem::replace(queue, FdbQueue::of(Parts::of(core))).gone();
+    queue.swap(Held::new(core)).gone();
     match carried {
         Ok(given) => {
             *outcome = given;
@@ -170,12 +175,10 @@ pub extern "C" fn fdb_queue_window(
     }
 }
 
-/// Frees a queue. The handle is then none.
+/// Frees a queue, if the handle has one. The handle is then none.
 #[unsafe(no_mangle)]
 pub extern "C" fn fdb_queue_free(alloc: Global, queue: &mut FdbQueue)
-    requires { IsSome queue.old.queue }
     ensures { queue.new.queue ≡ None }
 {
-    let held = mem::replace(queue, FdbQueue::none());
-    let _core = held.into_parts(alloc).into_box();
+    let _core = queue.swap(Held::none()).into_box(alloc);
 }

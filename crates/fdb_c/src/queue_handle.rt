@@ -1,16 +1,14 @@
 //! A queue, as C holds it.
 
-ghost use Rattle.std.specs.Prelude.{◌≡◌, ℕ, Option, None, Some, IsNone, IsSome};
+ghost use Rattle.std.specs.Prelude.{◌≡◌, ℕ, Option};
 ghost use Rattle.fdb_queue.specs.Queue.{Queue};
 
-use crate::parts::Parts;
+use crate::held::Held;
 use fdb_queue::GrvQueue;
-use std::alloc::Global;
 use std::marker::Model;
-use std::ptr;
+use std::mem;
 
-/// A queue that C holds, or none. It has no drop, so that none is let go by the way: what is here
-/// is handed back to C, or its box is taken out.
+/// A queue that C holds, or none.
 #[repr(C)]
 pub struct FdbQueue {
     at: *mut u8,
@@ -24,39 +22,29 @@ impl Model for FdbQueue {
 }
 
 impl FdbQueue {
-    /// No queue.
-    pub(crate) fn none() -> FdbQueue
-        ensures { result.queue ≡ None }
+    /// A handle that has this.
+    fn of(held: Held<GrvQueue<u64>>) -> FdbQueue
+        ensures { result.queue ≡ held.it }
     {
-        FdbQueue {
-            at: ptr::null_mut(),
-        }
+        let Held { at } = held;
+        FdbQueue { at: at as *mut u8 }
     }
 
-    /// This queue.
-    pub(crate) fn of(parts: Parts<GrvQueue<u64>, Global>) -> FdbQueue
-        ensures { result.queue ≡ Some parts.value }
-    {
-        let Parts { ptr, alloc: _ } = parts;
-        FdbQueue { at: ptr as *mut u8 }
-    }
-
-    /// The queue.
-    pub(crate) fn into_parts(self, alloc: Global) -> Parts<GrvQueue<u64>, Global>
-        requires { IsSome self.queue }
-        ensures { Some result.value ≡ self.queue }
+    /// What it has.
+    fn into_held(self) -> Held<GrvQueue<u64>>
+        ensures { result.it ≡ self.queue }
     {
         let FdbQueue { at } = self;
-        Parts {
-            ptr: at as *mut GrvQueue<u64>,
-            alloc,
+        Held {
+            at: at as *mut GrvQueue<u64>,
         }
     }
 
-    /// Lets go of a handle that has no queue.
-    pub(crate) fn gone(self)
-        requires { IsNone self.queue }
+    /// Gives it this, and takes what it had.
+    pub(crate) fn swap(&mut self, held: Held<GrvQueue<u64>>) -> Held<GrvQueue<u64>>
+        ensures taken { result.it ≡ self.old.queue }
+        ensures given { self.new.queue ≡ held.it }
     {
-        let FdbQueue { at: _ } = self;
+        mem::replace(self, FdbQueue::of(held)).into_held()
     }
 }

@@ -6,13 +6,12 @@ ghost use Rattle.fdb_queue.specs.Config.{IsConfig};
 ghost use Rattle.fdb_queue.specs.NewRates.{under_rates, with_rates};
 ghost use Rattle.fdb_c.specs.Rates.{IsForgotten, turned_away_by, turned_away_of};
 
-use crate::parts::Parts;
+use crate::held::Held;
 use crate::queue::{FdbRequest, request_of};
 use crate::queue_handle::FdbQueue;
 use crate::status::{FDB_BAD_CONFIG, FDB_MEMORY, FDB_OK, FDB_ROOM, status_of};
 use fdb_queue::{GrvQueue, QueueError, TurnedAway, laws};
 use std::alloc::Global;
-use std::mem;
 
 /// A request that new rates turned away, and why.
 #[repr(C)]
@@ -128,10 +127,9 @@ pub extern "C" fn fdb_queue_set_rates(
     ensures size_stays { (result ≡ FDB_OK → ⊥) → (result ≡ FDB_ROOM → ⊥) → size.new ≡ size.old }
     ensures held { IsSome queue.new.queue }
 {
-    let held = mem::replace(queue, FdbQueue::none());
-    let mut core = held.into_parts(alloc).into_box();
+    let mut core = queue.swap(Held::none()).into_box(alloc).unwrap();
     let status = set_told(&mut core, normal, batch, turned_away, size);
-    mem::replace(queue, FdbQueue::of(Parts::of(core))).gone();
+    queue.swap(Held::new(core)).gone();
     status
 }
 
@@ -144,8 +142,7 @@ pub extern "C" fn fdb_queue_forget_throttles(alloc: Global, queue: &mut FdbQueue
         (λ before. IfSome queue.new.queue (λ after. IsForgotten at before after)) }
     ensures held { IsSome queue.new.queue }
 {
-    let held = mem::replace(queue, FdbQueue::none());
-    let mut core = held.into_parts(alloc).into_box();
+    let mut core = queue.swap(Held::none()).into_box(alloc).unwrap();
     core.forget_throttles(at);
-    mem::replace(queue, FdbQueue::of(Parts::of(core))).gone();
+    queue.swap(Held::new(core)).gone();
 }

@@ -26,6 +26,7 @@ fn offer(queue: &mut GrvQueue<u64>, request: Req<u64>) -> Option<(u8, Option<Req
         (λ _. queue.new ≡ after_offer (refusal_of queue.old request) queue.old request) }
     ensures not_memory { IfSome result (λ given. given.0 ≡ FDB_MEMORY → ⊥) }
     ensures memory { IsNone result → queue.new ≡ queue.old }
+    ensures due { IsNone result → refusal_of queue.old request ≡ None }
 {
     match queue.offer(request) {
         Ok(out) => Some((FDB_OK, out)),
@@ -44,6 +45,7 @@ pub(crate) fn offer_shown(queue: &mut GrvQueue<u64>, request: Req<u64>) -> Optio
     ensures after { IfSome result (λ _. queue.new ≡ after_op queue.old (Op.Offer request)) }
     ensures not_memory { IfSome result (λ given. given.status ≡ FDB_MEMORY → ⊥) }
     ensures memory { IsNone result → queue.new ≡ queue.old }
+    ensures due { IsNone result → status_at queue.old (Op.Offer request) ≡ FDB_OK }
 {
     match offer(queue, request) {
         Some((status, out)) => Some(shown(queue, status, out, 0)),

@@ -10,14 +10,13 @@ ghost use Rattle.fdb_queue.specs.Waits.{IsSure, StartsAfter};
 ghost use Rattle.fdb_queue.specs.declared.config.TheConstants.{MAX_TAG};
 ghost use Rattle.fdb_c.specs.Queue.{IsSet, limit_shown, priority_of};
 
-use crate::parts::Parts;
+use crate::held::Held;
 use crate::queue::priority_of;
 use crate::queue_handle::FdbQueue;
 use crate::status::{FDB_BAD_OP, FDB_MEMORY, FDB_OK, FDB_TAG_TOO_LONG};
 use fdb_history::{Priority, Tag};
 use fdb_queue::{GrvQueue, MAX_TAG, QueueError};
 use std::alloc::{AllocError, Global};
-use std::mem;
 
 /// The throttle of a tag that holds at a moment, if there is one; else it is 0.
 #[repr(C)]
@@ -49,10 +48,9 @@ pub extern "C" fn fdb_queue_waits(
     ensures untold { (result ≡ false) → windows.new ≡ windows.old }
     ensures kept { queue.new.queue ≡ queue.old.queue }
 {
-    let held = mem::replace(queue, FdbQueue::none());
-    let core = held.into_parts(alloc).into_box();
+    let core = queue.swap(Held::none()).into_box(alloc).unwrap();
     let told = core.waits(elapsed);
-    mem::replace(queue, FdbQueue::of(Parts::of(core))).gone();
+    queue.swap(Held::new(core)).gone();
     match told {
         Some(count) => {
             *windows = count;
@@ -121,10 +119,9 @@ pub extern "C" fn fdb_queue_set_throttle(
     let Some(priority) = priority_of(priority) else {
         return FDB_BAD_OP;
     };
-    let held = mem::replace(queue, FdbQueue::none());
-    let mut core = held.into_parts(alloc).into_box();
+    let mut core = queue.swap(Held::none()).into_box(alloc).unwrap();
     let status = set(alloc, &mut core, priority, tag, rate, expires);
-    mem::replace(queue, FdbQueue::of(Parts::of(core))).gone();
+    queue.swap(Held::new(core)).gone();
     status
 }
 
@@ -182,10 +179,9 @@ pub extern "C" fn fdb_queue_throttle(
     let Some(priority) = priority_of(priority) else {
         return FDB_BAD_OP;
     };
-    let held = mem::replace(queue, FdbQueue::none());
-    let core = held.into_parts(alloc).into_box();
+    let core = queue.swap(Held::none()).into_box(alloc).unwrap();
     let found = limit_of_tag(alloc, &core, priority, tag, at);
-    mem::replace(queue, FdbQueue::of(Parts::of(core))).gone();
+    queue.swap(Held::new(core)).gone();
     match found {
         Some(found) => {
             *limit = found;

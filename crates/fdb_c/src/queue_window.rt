@@ -1,6 +1,6 @@
 //! A window whose requests go to a slice.
 
-ghost use Rattle.std.specs.Prelude.{◌≡◌, ◌+◌, ◌≤◌, ◌++◌, map, length, drop, IfSome, IsNone};
+ghost use Rattle.std.specs.Prelude.{◌≡◌, ◌+◌, ◌<◌, ◌≤◌, ◌++◌, map, length, drop, IfSome, IsNone};
 ghost use Rattle.fdb_queue.specs.Window.{window};
 ghost use Rattle.fdb_queue.specs.declared.config.TheConstants.{MAX_STARTED};
 ghost use Rattle.fdb_c.specs.Queue.{after_op, outcome, request_of, started_at};
@@ -52,6 +52,7 @@ pub(crate) fn window_shown(
         ++ drop (length (started_at queue.old (Op.Window elapsed))) started.old) }
     ensures not_memory { IfSome result (λ given. given.status ≡ FDB_MEMORY → ⊥) }
     ensures memory { IsNone result → (queue.new ≡ queue.old) × (started.new ≡ started.old) }
+    ensures due { IsNone result → 0 < length (started_at queue.old (Op.Window elapsed)) }
 {
     match queue.window(elapsed) {
         Ok(requests) => {

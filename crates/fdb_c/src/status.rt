@@ -1,6 +1,6 @@
 //! What a call answers: 0, or the number of a refusal.
 
-ghost use Rattle.std.specs.Prelude.{◌≡◌, Some};
+ghost use Rattle.std.specs.Prelude.{◌≡◌, Some, if◌then◌else◌};
 ghost use Rattle.fdb_c.specs.Queue.{status_of};
 
 use fdb_queue::QueueError;
@@ -76,6 +76,16 @@ pub const FDB_BAD_MEMBER: u8 = 39;
 
 /// The text of a log has no line.
 pub const FDB_EMPTY: u8 = 40;
+
+/// The audit or the watch is over: its log has ended or was refused, or memory was.
+pub const FDB_OVER: u8 = 41;
+
+/// The status of what was written, if there was room for it.
+pub(crate) fn status_of_writing(is_written: bool) -> u8
+    ensures { result ≡ (if is_written then FDB_OK else FDB_ROOM) }
+{
+    if is_written { FDB_OK } else { FDB_ROOM }
+}
 
 /// The number of a queue's refusal.
 pub(crate) fn status_of(cause: QueueError) -> u8

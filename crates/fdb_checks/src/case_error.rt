@@ -49,7 +49,7 @@ impl From<Fail> for CaseError {
 impl From<CaseError> for Fail {
     fn from(error: CaseError) -> Fail {
         match error {
-            CaseError::Memory => Fail::new("want of memory"),
+            CaseError::Memory => Fail::new("out of memory"),
             CaseError::Failed(fail) => fail,
         }
     }

@@ -5,7 +5,7 @@ use fdb_history::{Gate, Place};
 use std::sync::atomic::{AtomicBool, AtomicU64, Ordering};
 
 /// How often who is held looks whether the other passes meanwhile.
-const GLANCES: u32 = 100;
+const LOOKS: u32 = 100;
 
 /// Whoever passes first is held until what is done beside it is done, and a little longer. A second
 /// one passes only once the call of the first is answered.
@@ -81,7 +81,7 @@ impl HoldsFirst {
     fn holds_first(&self, second: &AtomicU64) {
         self.held.store(true, Ordering::SeqCst);
         self.waits_for(&self.beside);
-        if !stays_away(GLANCES, || second.load(Ordering::SeqCst) > 0) {
+        if !stays_away(LOOKS, || second.load(Ordering::SeqCst) > 0) {
             self.fails();
         }
     }

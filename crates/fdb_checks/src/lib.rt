@@ -5,15 +5,15 @@
 mod case_error;
 mod compare;
 mod holding;
-mod line;
 mod player;
 mod table;
+mod table_line;
 mod waiting;
 
 pub use case_error::CaseError;
 pub use compare::{holds, same, same_text, says};
 pub use holding::HoldsFirst;
-pub use line::{Line, tag};
 pub use player::{Player, bears, lines_of, plays, plays_all, plays_cases};
 pub use table::{Case, cases};
+pub use table_line::{TableLine, tag};
 pub use waiting::{comes, stays_away};

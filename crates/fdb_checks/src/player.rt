@@ -1,15 +1,15 @@
 //! What plays a text, line by line: each line is a call, and behind `=>` what it is answered.
 
 use crate::case_error::CaseError;
-use crate::line::Line;
 use crate::table::cases;
+use crate::table_line::TableLine;
 use std::alloc::{AllocError, Global};
 use std::test::Fail;
 
 /// Something that calls of a text are made to.
 pub trait Player {
     /// Makes a call by the rest of its line, and says there what it is answered.
-    fn called(&mut self, call: &str, line: &mut Line<'_>);
+    fn called(&mut self, call: &str, line: &mut TableLine<'_>);
 }
 
 /// Plays the calls of a text, one of which wants something. They stand in lines or between
@@ -35,7 +35,7 @@ fn plays_at<P: Player>(
 /// The calls of a text at a number, one after another. What stands behind a star is called so often, at
 /// each place below the number, and the others at the number once. Calls that are made in turn stand
 /// between commas. Who shares what is called among threads plays these, since no method of a trait may.
-pub fn lines_of(alloc: Global, text: &str, number: u64) -> Result<Vec<Line<'_>>, CaseError> {
+pub fn lines_of(alloc: Global, text: &str, number: u64) -> Result<Vec<TableLine<'_>>, CaseError> {
     let mut lines = Vec::new(alloc);
     if !text.contains("=>") {
         return Err(CaseError::Failed(Fail::new("a text that wants nothing")));
@@ -49,7 +49,7 @@ pub fn lines_of(alloc: Global, text: &str, number: u64) -> Result<Vec<Line<'_>>,
 }
 
 fn add_line<'t>(
-    lines: &mut Vec<Line<'t>>,
+    lines: &mut Vec<TableLine<'t>>,
     alloc: Global,
     line: &'t str,
     number: u64,
@@ -64,7 +64,7 @@ fn add_line<'t>(
 }
 
 fn add_each<'t>(
-    lines: &mut Vec<Line<'t>>,
+    lines: &mut Vec<TableLine<'t>>,
     alloc: Global,
     each: &'t str,
     number: u64,
@@ -76,14 +76,14 @@ fn add_each<'t>(
 }
 
 fn add_part<'t>(
-    lines: &mut Vec<Line<'t>>,
+    lines: &mut Vec<TableLine<'t>>,
     alloc: Global,
     part: &'t str,
     place: u64,
 ) -> Result<(), AllocError> {
     for call in part.split(',') {
         if !call.trim().is_empty() {
-            lines.push(Line::at(alloc, call, place))?;
+            lines.push(TableLine::at(alloc, call, place))?;
         }
     }
     Ok(())

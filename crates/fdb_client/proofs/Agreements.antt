@@ -1,8 +1,9 @@
 -- Each call leaves what a client has logged in agreement with its token.
-use Rattle.std.proofs.Common.{◌≡◌, ℕ, zero, suc, ◌+◌, ◌-◌, ◌<◌, ◌≤◌, Bool, true, false, IsTrue, List, [], ◌∷◌, ◌++◌, length, Option, Some, Result, Ok, Err, if◌then◌else◌, refl, sym, ap, ◌∙◌, arith, slice_get, take, subst, inl, inr, length-append}
+use Rattle.std.proofs.Common.{◌≡◌, ℕ, ◌+◌, ◌-◌, ◌<◌, ◌≤◌, Bool, true, false, IsTrue, List, [], ◌∷◌, ◌++◌, length, Option, Some, Result, Ok, Err, if◌then◌else◌, refl, sym, ap, ◌∙◌, arith, slice_get, take, subst, inl, inr, length-append}
 use Rattle.std.specs.List.{AllByRecursion}
 use Rattle.std.proofs.lemmas.Grind.{flat_map-append}
 use Rattle.std.proofs.lemmas.List.{append-nil, take-append-le}
+use Rattle.std.proofs.lemmas.Option.{slice_get_within}
 use Rattle.std.proofs.Math.Seq.{take-append_seam, take-length}
 use Rattle.fdb_history.specs.Audit.{IsNotAbove}
 use Rattle.fdb_history.specs.Faults.{IsMisanswered, IsWrongBy}
@@ -29,6 +30,7 @@ use Rattle.fdb_client.specs.Calls.{Asks, IsReadAnswer, IsReportAnswer, Reads, Re
 use Rattle.fdb_client.specs.declared.error.ClientError.{ClientError}
 use Rattle.fdb_client.specs.declared.read.ReadVersion.{ReadVersion}
 use Rattle.fdb_client.proofs.Calls.{position_of_added}
+use Rattle.fdb_client.proofs.Chains.{at_left, at_place, each-append}
 use Rattle.fdb_client.specs.Agreeing.{Agrees, AgreesAt, IsMade, changed_positions, record_at}
 
 -- ---- more changes
@@ -47,9 +49,7 @@ record_alike : (start : Record) (log more : List Change) (position : ℕ) → po
 record_alike start log more position within = ap (last_record start) (take-append-le position log more within)
 
 get_alike : {A : Type 0} (xs ys : List A) (i : ℕ) (x : A) → slice_get xs i ≡ Some x → slice_get (xs ++ ys) i ≡ Some x
-get_alike [] ys i x is = absurd (cc is)
-get_alike (y ∷ xs) ys zero x is = is
-get_alike (y ∷ xs) ys (suc i) x is = get_alike xs ys i x is
+get_alike xs ys i x is = at_left xs ys i (slice_get_within xs i x is) ∙ is
 
 made_alike : (number : ℕ) (log more : List Change) (position : ℕ) (answer : CallAnswer) → IsMade number log position answer → IsMade number (log ++ more) position answer
 made_alike number log more position (Version rec limits locked_out) made = made
@@ -93,10 +93,6 @@ all_alike start number before log more (call ∷ calls) order within each =
     let least = comes_to call.position calls order.3 in
     (agrees_alike start number log more call order.1 (omega arith) each.0, all_alike start number call.position log more calls order.3 within each.1)
 
-all_added : {X : Type 0} (P : X → Type 0) (xs : List X) (x : X) → AllByRecursion P xs → P x → AllByRecursion P (xs ++ x ∷ [])
-all_added P [] x each here = (here, each)
-all_added P (y ∷ xs) x each here = (each.0, all_added P xs x each.1 here)
-
 -- ---- one more call
 
 positions_added : (calls : List Call) (call : Call) → changed_positions (calls ++ call ∷ []) ≡ changed_positions calls ++ (if answer_changes call.answer then call.position ∷ [] else [])
@@ -126,7 +122,7 @@ agrees_logged start input answer before after agrees logged new right made withi
       own = owned (answer_changes answer) refl;
       order = subst (NeverGoesBack after.begun) (sym logged.calls) (subst (λ begun. NeverGoesBack begun (before.calls ++ call ∷ [])) (sym logged.begun) order);
       come_to = omega (arith, ap (position_after_calls after.begun) logged.calls ∙ position_of_added after.begun before.calls call);
-      each = subst (AllByRecursion (AgreesAt start after.number after.changes)) (sym logged.calls) (all_added (AgreesAt start after.number after.changes) before.calls call own here);
+      each = subst (AllByRecursion (AgreesAt start after.number after.changes)) (sym logged.calls) (each-append (AgreesAt start after.number after.changes) before.calls (call ∷ []) own (here, tt));
     }
   where
     added : changed_positions after.calls ≡ changed_positions before.calls ++ (if answer_changes answer then length after.changes ∷ [] else [])
@@ -184,10 +180,6 @@ read_agrees start opts (Refused cause) before after answered agrees logged = agr
 pub agrees_read : (start : Record) (opts : GrvOpts) (before after : Account) (result : Result ReadVersion ClientError) → Agrees start before → Reads start opts before after result → Agrees start after
 agrees_read start opts before after result agrees reads = read_agrees start opts reads.answer before after reads.answered agrees reads.logged
 
-get_seam : {A : Type 0} (xs : List A) (x : A) → slice_get (xs ++ x ∷ []) (length xs) ≡ Some x
-get_seam [] x = refl
-get_seam (y ∷ xs) x = get_seam xs x
-
 -- a change is the last of what its client has then seen
 pub record IsLast (start rec : Record) (raised : Bool) (before after : Account) : Type 0 where
   pub longer : length before.changes < length after.changes
@@ -207,7 +199,7 @@ change_last start rec raised before after changed =
     record {
       longer = omega (arith, sym (ap length whole) ∙ length-append before.changes more);
       right = misanswered (record_at start after.changes (length after.changes - 1)) (changed.raised_is ∙ ap (λ (r : Record). raises r rec) (sym found)) (ap (λ (r : Record). changes r rec) found ∙ changed.changes);
-      made = ap (slice_get after.changes) place ∙ (ap (λ log. slice_get log (length changed.before)) changed.last ∙ (get_seam changed.before one ∙ ap (λ number. Some (record { reporter = number; rec = rec })) own));
+      made = ap (slice_get after.changes) place ∙ (ap (λ log. slice_get log (length changed.before)) changed.last ∙ (at_place changed.before one [] ∙ ap (λ number. Some (record { reporter = number; rec = rec })) own));
     }
   where
     misanswered : (current : Record) → raised ≡ raises current rec → changes current rec ≡ true → IsMisanswered current rec raised true → ⊥

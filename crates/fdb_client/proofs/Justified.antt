@@ -35,9 +35,6 @@ justified_after chain client before (first ∷ calls) call each here =
 pub same_number : (n : ℕ) → (n == n) ≡ true
 same_number n = eq-eqb n n refl
 
-both : {a b : Bool} → a ≡ true → b ≡ true → (a && b) ≡ true
-both e f = rw e f
-
 same_bool : (b : Bool) → beq b b ≡ true
 same_bool true = refl
 same_bool false = refl

@@ -1,9 +1,8 @@
 -- What clients that stand in the order of their numbers leave.
-use Rattle.std.proofs.Common.{◌≡◌, ℕ, Bool, true, false, zero, suc, ◌+◌, ◌<◌, List, [], ◌∷◌, ◌++◌, Some, length, map, refl, ap, sym, ◌∙◌, subst, append-nil, arith}
+use Rattle.std.proofs.Common.{◌≡◌, ℕ, zero, suc, ◌+◌, ◌<◌, List, [], ◌∷◌, ◌++◌, Some, length, map, refl, ap, sym, ◌∙◌, append-nil, arith, below_more}
 use Rattle.std.specs.List.{AllByRecursion, slice_get}
-use Rattle.std.specs.Prelude.{nat_lt}
-use Rattle.std.proofs.lemmas.Bool.Decides.{nat_tests}
-use Rattle.std.proofs.lemmas.Option.{slice_get-map}
+use Rattle.std.proofs.lemmas.Option.{same_Some, slice_get-map}
+use Rattle.fdb_client.proofs.Chains.{at_each}
 use Rattle.fdb_client.specs.Account.{Account, sight}
 use Rattle.fdb_client.specs.Agreeing.{Agrees, AgreesWithChain}
 use Rattle.fdb_client.specs.Settling.{AllAgree, AllAgreeWithChain, HaveNumbers, logs_of}
@@ -27,17 +26,6 @@ at_map f (x ∷ xs) (suc k) y is = at_map f xs k y is
 pub all_yielded : {X : Type 0} (yielded rest all : List X) → length rest ≡ 0 → yielded ++ rest ≡ all → yielded ≡ all
 all_yielded yielded [] all none whole = sym (append-nil yielded) ∙ whole
 all_yielded yielded (x ∷ rest) all none whole = absurd (omega (arith, none))
-
-at_each : {X : Type 0} (P : X → Type 0) (xs : List X) (k : ℕ) (x : X) → AllByRecursion P xs → slice_get xs k ≡ Some x → P x
-at_each P [] k x all is = absurd cc
-at_each P (y ∷ xs) zero x all is =
-    let this : y ≡ x = cc in
-    subst P this all.0
-at_each P (y ∷ xs) (suc k) x all is = at_each P xs k x all.1 is
-
-pub one_more : {X : Type 0} (P : X → Type 0) (xs : List X) (x : X) → AllByRecursion P xs → P x → AllByRecursion P (xs ++ x ∷ [])
-one_more P [] x all one = (one, tt)
-one_more P (y ∷ xs) x all one = (all.0, one_more P xs x all.1 one)
 
 pub are_numbered : (clients : List Account) → HaveNumbers clients → AreNumbered (map sight clients)
 are_numbered clients have k token is =
@@ -73,12 +61,8 @@ abbrev pub HaveNumbersBelow : ℕ → List Account → Type 0
 HaveNumbersBelow place clients = (k : ℕ) (client : Account) → k < place → slice_get clients k ≡ Some client → client.number ≡ k
 
 pub one_in_place : (clients : List Account) (place : ℕ) (here : Account) → slice_get clients place ≡ Some here → here.number ≡ place → HaveNumbersBelow place clients → HaveNumbersBelow (place + 1) clients
-one_in_place clients place here at own before k client below is = go (nat_lt k place) refl
-  where
-    go : (b : Bool) → nat_lt k place ≡ b → client.number ≡ k
-    go true e = before k client (grind (arith, nat_tests)) is
-    go false e =
-        let same : k ≡ place = grind (arith, nat_tests) in
-        let found : Some client ≡ Some here = sym is ∙ (ap (slice_get clients) same ∙ at) in
-        let this : client ≡ here = cc found in
-        ap (λ (one : Account). one.number) this ∙ (own ∙ sym same)
+one_in_place clients place here at own before k client below is =
+    below_more (λ k. (client : Account) → slice_get clients k ≡ Some client → client.number ≡ k) place
+    (λ k less client is. before k client less is)
+    (λ client is. (let this : here ≡ client = same_Some here client (sym at ∙ is) in ap (λ (one : Account). one.number) (sym this) ∙ own))
+    k below client is

@@ -1,12 +1,15 @@
 -- The chain that logs tell is the one that justifies their answers.
-use Rattle.std.proofs.Common.{◌≡◌, ◌≢◌, ℕ, zero, suc, ◌<◌, ◌==◌, ◌||◌, Bool, true, false, cond, List, [], ◌∷◌, ◌++◌, length, Option, None, Some, refl, sym, ap, ◌∙◌, arith, slice_get, take, subst, set, replicate, inl, inr, eqb-true, length-set, length-take-le}
+use Rattle.std.proofs.Common.{◌≡◌, ◌≢◌, ℕ, zero, suc, ◌<◌, ◌==◌, ◌||◌, Bool, true, false, cond, List, [], ◌∷◌, length, Option, None, Some, refl, sym, ap, ◌∙◌, arith, slice_get, take, subst, set, replicate, inl, inr, eqb-true, length-set, length-take-le}
 use Rattle.std.specs.Prelude.{flat_map}
-use Rattle.std.specs.List.{list_any}
+use Rattle.std.specs.List.{AllByRecursion, list_any}
 use Rattle.std.specs.Option.{option_map_or}
-use Rattle.std.proofs.lemmas.Bool.{and_parts, eq-eqb, false≢true}
+use Rattle.std.proofs.lemmas.Bool.{and_parts, eq-eqb, false≢true, or_right, true_from_ne_false}
 use Rattle.std.proofs.lemmas.List.{length-replicate}
+use Rattle.std.proofs.lemmas.List.Folds.{list_any-append}
 use Rattle.std.proofs.lemmas.Option.{slice_get_within}
-use Rattle.fdb_history.specs.Chain.{IsChain, IsNext}
+use Rattle.fdb_client.proofs.Chains.{each-append, get_other, get_written}
+use Rattle.fdb_client.proofs.Strays.{EachIsNext}
+use Rattle.fdb_history.specs.Chain.{IsChain}
 use Rattle.fdb_history.specs.Faults.{Nowhere}
 use Rattle.fdb_history.specs.Log.{answer_in, answers_in, calls_of}
 use Rattle.fdb_history.specs.Strays.{IsStray, goes_with, is_drawn, is_justified, is_of_chain, is_same}
@@ -21,53 +24,14 @@ use Rattle.fdb_client.specs.Merging.{all_placed, answers_of_logs, chain_in, no_a
 
 -- ---- lists
 
--- a property of each element, by recursion
-abbrev Each : {X : Type 0} → (X → Type 0) → List X → Type 0
-Each P [] = Unit {0}
-Each P (x ∷ xs) = P x × Each P xs
-
-each-append : {X : Type 0} (P : X → Type 0) (xs ys : List X) → Each P xs → Each P ys → Each P (xs ++ ys)
-each-append P [] ys one other = other
-each-append P (x ∷ xs) ys one other = (one.0, each-append P xs ys one.1 other)
-
-each-flat_map : {X Y : Type 0} (P : Y → Type 0) (f : X → List Y) (xs : List X) → ((k : ℕ) (x : X) → slice_get xs k ≡ Some x → Each P (f x)) → Each P (flat_map f xs)
+each-flat_map : {X Y : Type 0} (P : Y → Type 0) (f : X → List Y) (xs : List X) → ((k : ℕ) (x : X) → slice_get xs k ≡ Some x → AllByRecursion P (f x)) → AllByRecursion P (flat_map f xs)
 each-flat_map P f [] each = tt
 each-flat_map P f (x ∷ xs) each = each-append P (f x) (flat_map f xs) (each zero x refl) (each-flat_map P f xs (λ k y at. each (suc k) y at))
 
-any-append_left : {X : Type 0} (p : X → Bool) (xs ys : List X) → list_any p xs ≡ true → list_any p (xs ++ ys) ≡ true
-any-append_left p [] ys found = absurd (cc found)
-any-append_left p (x ∷ xs) ys found = go (p x) found (any-append_left p xs ys)
-  where
-    go : (b : Bool) → (b || list_any p xs) ≡ true → (list_any p xs ≡ true → list_any p (xs ++ ys) ≡ true) → (b || list_any p (xs ++ ys)) ≡ true
-    go true found deeper = refl
-    go false found deeper = deeper found
-
-any-append_right : {X : Type 0} (p : X → Bool) (xs ys : List X) → list_any p ys ≡ true → list_any p (xs ++ ys) ≡ true
-any-append_right p [] ys found = found
-any-append_right p (x ∷ xs) ys found = go (p x) (any-append_right p xs ys found)
-  where
-    go : (b : Bool) → list_any p (xs ++ ys) ≡ true → (b || list_any p (xs ++ ys)) ≡ true
-    go true deeper = refl
-    go false deeper = deeper
-
 any-flat_map : {X Y : Type 0} (p : Y → Bool) (f : X → List Y) (xs : List X) (k : ℕ) (x : X) → slice_get xs k ≡ Some x → list_any p (f x) ≡ true → list_any p (flat_map f xs) ≡ true
 any-flat_map p f [] k x at found = absurd (cc at)
-any-flat_map p f (y ∷ xs) zero x at found =
-    let same : y ≡ x = cc at in
-    any-append_left p (f y) (flat_map f xs) (subst (λ z. list_any p (f z) ≡ true) (sym same) found)
-any-flat_map p f (y ∷ xs) (suc k) x at found = any-append_right p (f y) (flat_map f xs) (any-flat_map p f xs k x at found)
-
-set-same : {X : Type 0} (xs : List X) (k : ℕ) (x : X) → k < length xs → slice_get (set xs k x) k ≡ Some x
-set-same [] k x within = absurd (omega arith)
-set-same (y ∷ xs) zero x within = refl
-set-same (y ∷ xs) (suc k) x within = set-same xs k x (omega arith)
-
-set-other : {X : Type 0} (xs : List X) (j k : ℕ) (x : X) → j ≢ k → slice_get (set xs k x) j ≡ slice_get xs j
-set-other [] j k x other = refl
-set-other (y ∷ xs) zero zero x other = absurd (other refl)
-set-other (y ∷ xs) (suc j) zero x other = refl
-set-other (y ∷ xs) zero (suc k) x other = refl
-set-other (y ∷ xs) (suc j) (suc k) x other = set-other xs j k x (λ same. other (ap suc same))
+any-flat_map p f (y ∷ xs) zero x at found = let same : y ≡ x = cc at in rw (list_any-append p (f y) (flat_map f xs), same, found) refl
+any-flat_map p f (y ∷ xs) (suc k) x at found = rw (list_any-append p (f y) (flat_map f xs)) (or_right (list_any p (f y)) (list_any p (flat_map f xs)) (any-flat_map p f xs k x at found))
 
 -- two lists of one length, of which each has at each place what the other has
 same-lists : {X : Type 0} (xs ys : List X) → length xs ≡ length ys → ((k : ℕ) (y : X) → slice_get ys k ≡ Some y → slice_get xs k ≡ Some y) → xs ≡ ys
@@ -86,22 +50,17 @@ abbrev IsOf : List Issued → Issued → Type 0
 IsOf answers issued = issued.fresh ≡ true → slice_get answers issued.ordinal ≡ Some issued
 
 length-placed : (chain : List Issued) (issued : Issued) → length (placed chain issued) ≡ length chain
-length-placed chain issued = go issued.fresh
-  where
-    go : (b : Bool) → length (cond b (set chain issued.ordinal issued) chain) ≡ length chain
-    go true = length-set chain issued.ordinal issued
-    go false = refl
+length-placed chain issued =
+    elim issued.fresh as (λ b. length (cond b (set chain issued.ordinal issued) chain) ≡ length chain) [ true ↦ length-set chain issued.ordinal issued | false ↦ refl ]
 
 length-all_placed : (chain all : List Issued) → length (all_placed chain all) ≡ length chain
 length-all_placed chain [] = refl
 length-all_placed chain (issued ∷ all) = length-all_placed (placed chain issued) all ∙ length-placed chain issued
 
 placed-at : (chain : List Issued) (issued : Issued) (k : ℕ) → issued.ordinal ≡ k → issued.fresh ≡ true → k < length chain → slice_get (placed chain issued) k ≡ Some issued
-placed-at chain issued k ordinal fresh within = go issued.fresh fresh
-  where
-    go : (b : Bool) → b ≡ true → slice_get (cond b (set chain issued.ordinal issued) chain) k ≡ Some issued
-    go true is = subst (λ n. slice_get (set chain n issued) k ≡ Some issued) (sym ordinal) (set-same chain k issued within)
-    go false is = absurd (false≢true is)
+placed-at chain issued k ordinal fresh within =
+    subst (λ b. slice_get (cond b (set chain issued.ordinal issued) chain) k ≡ Some issued) (sym fresh)
+    (subst (λ n. slice_get (set chain n issued) k ≡ Some issued) (sym ordinal) (get_written chain k issued within))
 
 module _ (answers : List Issued) (k : ℕ) (entry : Issued) (at : slice_get answers k ≡ Some entry) where
   -- what stands stays, where each answer is of the chain
@@ -112,20 +71,20 @@ module _ (answers : List Issued) (k : ℕ) (entry : Issued) (at : slice_get answ
       at_ordinal true is fresh =
           let here : issued.ordinal ≡ k = eqb-true _ _ is in
           let same : Some issued ≡ Some entry = sym (subst (λ n. slice_get answers n ≡ Some issued) here (of fresh)) ∙ at in
-          subst (λ n. slice_get (set chain n issued) k ≡ Some entry) (sym here) (set-same chain k issued (slice_get_within chain k entry stands) ∙ same)
+          subst (λ n. slice_get (set chain n issued) k ≡ Some entry) (sym here) (get_written chain k issued (slice_get_within chain k entry stands) ∙ same)
       at_ordinal false is fresh =
-          set-other chain k issued.ordinal issued (λ same. false≢true (sym is ∙ eq-eqb issued.ordinal k (sym same))) ∙ stands
+          get_other chain issued.ordinal k issued (λ same. false≢true (sym is ∙ eq-eqb issued.ordinal k (sym same))) ∙ stands
 
       go : (b : Bool) → issued.fresh ≡ b → slice_get (cond b (set chain issued.ordinal issued) chain) k ≡ Some entry
       go true fresh = at_ordinal (issued.ordinal == k) refl fresh
       go false fresh = stands
 
-  stays : (chain all : List Issued) → Each (IsOf answers) all → slice_get chain k ≡ Some entry → slice_get (all_placed chain all) k ≡ Some entry
+  stays : (chain all : List Issued) → AllByRecursion (IsOf answers) all → slice_get chain k ≡ Some entry → slice_get (all_placed chain all) k ≡ Some entry
   stays chain [] each stands = stands
   stays chain (issued ∷ all) each stands = stays (placed chain issued) all each.1 (stays-one chain issued each.0 stands)
 
   -- An entry that is among those that are placed stands at its place.
-  comes : (chain all : List Issued) (test : Issued → Bool) → length chain ≡ length answers → entry.ordinal ≡ k → entry.fresh ≡ true → ((issued : Issued) → test issued ≡ true → issued ≡ entry) → Each (IsOf answers) all → list_any test all ≡ true
+  comes : (chain all : List Issued) (test : Issued → Bool) → length chain ≡ length answers → entry.ordinal ≡ k → entry.fresh ≡ true → ((issued : Issued) → test issued ≡ true → issued ≡ entry) → AllByRecursion (IsOf answers) all → list_any test all ≡ true
       → slice_get (all_placed chain all) k ≡ Some entry
   comes chain [] test count ordinal fresh same each found = absurd (cc found)
   comes chain (issued ∷ all) test count ordinal fresh same each found =
@@ -142,10 +101,6 @@ module _ (answers : List Issued) (k : ℕ) (entry : Issued) (at : slice_get answ
 
 -- ---- logs in which no answer is stray
 
--- that each answer of a chain is the next one after those before it
-abbrev pub EachIsNext : Type 0
-EachIsNext = (epoch_end recovery : ℕ) (answers : List Issued) (place : ℕ) (answer : Issued) → IsChain epoch_end recovery answers → slice_get answers place ≡ Some answer → IsNext epoch_end recovery (take place answers) answer
-
 module _ (same_are_equal : (one other : Issued) → is_same one other ≡ true → one ≡ other) (each_is_next : EachIsNext) (epoch_end recovery : ℕ) (logs : List ClientLog) (answers : List Issued) (one : IsChain epoch_end recovery answers) (none : Nowhere (IsStray answers logs)) where
   ordinal_of : (k : ℕ) (entry : Issued) → slice_get answers k ≡ Some entry → (entry.ordinal ≡ k) × (entry.fresh ≡ true)
   ordinal_of k entry at =
@@ -160,7 +115,7 @@ module _ (same_are_equal : (one other : Issued) → is_same one other ≡ true �
       let its = ordinal_of issued.ordinal entry at in
       ap Some (sym (same ∙ ap (λ (b : Bool). record entry { fresh = b }) (fresh ∙ sym its.1)))
 
-  of_answer : (client : ℕ) (asked : Input) (answer : CallAnswer) → goes_with asked answer ≡ true → is_of_chain answers client asked answer ≡ true → Each (IsOf answers) (answer_in answer)
+  of_answer : (client : ℕ) (asked : Input) (answer : CallAnswer) → goes_with asked answer ≡ true → is_of_chain answers client asked answer ≡ true → AllByRecursion (IsOf answers) (answer_in answer)
   of_answer client asked (Version rec limits locked_out) goes of = tt
   of_answer client asked (Acked rec raised changed) goes of = tt
   of_answer client asked Told goes of = tt
@@ -174,14 +129,10 @@ module _ (same_are_equal : (one other : Issued) → is_same one other ≡ true �
   of_answer client (input.Tell to) (Answered issued) goes of = absurd (false≢true goes)
   of_answer client (input.Learn from) (Answered issued) goes of = absurd (false≢true goes)
 
-  is_true : (b : Bool) → (b ≡ false → ⊥) → b ≡ true
-  is_true true not = refl
-  is_true false not = absurd (not refl)
-
-  of_call : (client place : ℕ) (call : Call) → slice_get (calls_of logs client) place ≡ Some call → Each (IsOf answers) (answer_in call.answer)
+  of_call : (client place : ℕ) (call : Call) → slice_get (calls_of logs client) place ≡ Some call → AllByRecursion (IsOf answers) (answer_in call.answer)
   of_call client place call at =
       let before = take place (calls_of logs client) in
-      let justified : is_justified answers client before call ≡ true = is_true (is_justified answers client before call) (λ not. none client place (inl (call, at, not))) in
+      let justified : is_justified answers client before call ≡ true = true_from_ne_false (is_justified answers client before call) (λ not. none client place (inl (call, at, not))) in
       let kind = and_parts (goes_with call.input call.answer) _ justified in
       let locked = and_parts _ _ kind.1 in
       let of = and_parts (is_of_chain answers client call.input call.answer) _ locked.1 in
@@ -190,7 +141,7 @@ module _ (same_are_equal : (one other : Issued) → is_same one other ≡ true �
   calls_at : (client : ℕ) (log : ClientLog) → slice_get logs client ≡ Some log → calls_of logs client ≡ log.calls
   calls_at client log at = rw at refl
 
-  each_of : Each (IsOf answers) (answers_of_logs logs)
+  each_of : AllByRecursion (IsOf answers) (answers_of_logs logs)
   each_of =
       each-flat_map (IsOf answers) (λ (log : ClientLog). answers_in log.calls) logs
       (λ client log at. each-flat_map (IsOf answers) (λ (call : Call). answer_in call.answer) log.calls
@@ -209,7 +160,7 @@ module _ (same_are_equal : (one other : Issued) → is_same one other ≡ true �
       let its = ordinal_of k entry at in
       let test : Issued → Bool = λ issued. is_same issued (record entry { ordinal = k; fresh = true }) in
       let entry_is : record entry { ordinal = k; fresh = true } ≡ entry = ap (λ (p : ℕ × Bool). record entry { ordinal = p.0; fresh = p.1 }) (λ i. (sym its.0 i, sym its.1 i)) in
-      let drawn : is_drawn (calls_of logs entry.proxy) k entry ≡ true = is_true (is_drawn (calls_of logs entry.proxy) k entry) (λ not. none entry.proxy (length (calls_of logs entry.proxy)) (inr (refl, (k, entry, at, refl, not)))) in
+      let drawn : is_drawn (calls_of logs entry.proxy) k entry ≡ true = true_from_ne_false (is_drawn (calls_of logs entry.proxy) k entry) (λ not. none entry.proxy (length (calls_of logs entry.proxy)) (inr (refl, (k, entry, at, refl, not)))) in
       comes answers k entry at chain (answers_of_logs logs) test count its.0 its.1
       (λ issued same. same_are_equal issued (record entry { ordinal = k; fresh = true }) same ∙ entry_is)
       each_of (among entry.proxy test drawn)

@@ -1,5 +1,5 @@
 -- What a report that was answered logs, of a token whose number is its client's.
-use Rattle.std.proofs.Common.{◌≡◌, ℕ, Bool, true, false, Option, Some, MatchBool, refl, subst, ◌∙◌}
+use Rattle.std.proofs.Common.{◌≡◌, ℕ, Bool, true, false, Some, MatchBool, refl, subst, ◌∙◌}
 use Rattle.fdb_history.specs.declared.register.Record.{Record}
 use Rattle.fdb_live.specs.Seen.{IsChangedBy, IsNotChangedBy, Sight}
 

@@ -4,6 +4,7 @@ use Rattle.std.specs.Prelude.{All, nat_lt}
 use Rattle.std.specs.List.{AllByRecursion, flat_map}
 use Rattle.std.proofs.lemmas.Bool.{cases_lt}
 use Rattle.std.proofs.lemmas.Bool.Decides.{nat_tests}
+use Rattle.std.proofs.lemmas.Grind.{flat_map-append}
 use Rattle.std.proofs.lemmas.List.{append-nil}
 use Rattle.std.proofs.lemmas.List.Elements.{All-head, All-tail, filter-append}
 use Rattle.std.proofs.lemmas.Option.{same_Some, slice_get_within}
@@ -29,6 +30,7 @@ use Rattle.fdb_live.specs.declared.change.Change.{Change}
 use Rattle.fdb_client.specs.Account.{Account}
 use Rattle.fdb_client.specs.Agreeing.{Agrees, AgreesAt, IsMade, changed_positions, record_at}
 use Rattle.fdb_client.specs.Settling.{AllAgree}
+use Rattle.fdb_client.proofs.Chains.{at_each, at_place}
 use Rattle.fdb_client.proofs.Agreements.{all_alike, comes_to, low_alike, wrong_alike}
 
 -- ---- the changes of one client
@@ -47,10 +49,6 @@ abbrev pub placed_by : ℕ → ℕ → List Change → List PlacedChange
 placed_by number at [] = []
 placed_by number at (r ∷ rs) = if r.reporter == number then (record { position = at; rec = r.rec } ∷ placed_by number (at + 1) rs) else placed_by number (at + 1) rs
 
-get_seam : {A : Type 0} (xs ys : List A) (x : A) → slice_get (xs ++ x ∷ ys) (length xs) ≡ Some x
-get_seam [] ys x = refl
-get_seam (y ∷ xs) ys x = get_seam xs ys x
-
 placed_own : (number : ℕ) (front log : List Change) → placed_at (front ++ log) (changed_by number (length front + 1) log) ≡ placed_by number (length front + 1) log
 placed_own number front [] = refl
 placed_own number front (r ∷ log) = own (r.reporter == number)
@@ -62,7 +60,7 @@ placed_own number front (r ∷ log) = own (r.reporter == number)
     at = length front + 1
 
     here : entry at (slice_get (front ++ r ∷ log) (at - 1)) ≡ record { position = at; rec = r.rec } ∷ []
-    here = let place : at - 1 ≡ length front = omega arith in ap (entry at) (ap (slice_get (front ++ r ∷ log)) place ∙ get_seam front log r)
+    here = let place : at - 1 ≡ length front = omega arith in ap (entry at) (ap (slice_get (front ++ r ∷ log)) place ∙ at_place front r log)
 
     own : (b : Bool) → placed_at (front ++ r ∷ log) (changed_by number (at + 1) log) ≡ placed_by number (at + 1) log
         → placed_at (front ++ r ∷ log) (if b then (at ∷ changed_by number (at + 1) log) else changed_by number (at + 1) log)
@@ -82,10 +80,6 @@ one_made number log position (Answered issued) made = refl
 one_made number log position Told made = refl
 one_made number log position (Refused cause) made = refl
 
-flat_append : {X Y : Type 0} (f : X → List Y) (xs ys : List X) → flat_map f (xs ++ ys) ≡ flat_map f xs ++ flat_map f ys
-flat_append f [] ys = refl
-flat_append f (x ∷ xs) ys = ap (λ rest. f x ++ rest) (flat_append f xs ys) ∙ sym (append_assoc (f x) (flat_map f xs) (flat_map f ys))
-
 -- the changes in a client's calls are those of the list at the positions that its calls say
 all_made : (start : Record) (number : ℕ) (log : List Change) (calls : List Call) → AllByRecursion (AgreesAt start number log) calls → changes_of calls ≡ placed_at log (changed_positions calls)
 all_made start number log [] each = refl
@@ -93,7 +87,7 @@ all_made start number log (call ∷ calls) each =
     let here = one_made number log call.position call.answer each.0.made in
     let rest = all_made start number log calls each.1 in
     ap (λ first. first ++ changes_of calls) here ∙ (ap (λ more. placed_at log (if answer_changes call.answer then call.position ∷ [] else []) ++ more) rest
-    ∙ sym (flat_append (λ position. entry position (slice_get log (position - 1))) (if answer_changes call.answer then call.position ∷ [] else []) (changed_positions calls)))
+    ∙ sym (flat_map-append (λ position. entry position (slice_get log (position - 1))) (if answer_changes call.answer then call.position ∷ [] else []) (changed_positions calls)))
 
 -- a client of which all is said beside the whole list
 abbrev account_of : ℕ → List Call → List Change → Account
@@ -315,11 +309,6 @@ in_order before (one ∷ calls) (suc place) call order is =
     let rest = in_order one.position calls place call order.3 is in
     record { least = rest.least; more = rest.more; new = rest.new; most = rest.most }
 
-all_at : (P : Call → Type 0) (calls : List Call) (place : ℕ) (call : Call) → AllByRecursion P calls → slice_get calls place ≡ Some call → P call
-all_at P [] place call all is = absurd (cc is)
-all_at P (one ∷ calls) zero call all is = let same : one ≡ call = cc is in subst P same all.0
-all_at P (one ∷ calls) (suc place) call all is = all_at P calls place call all.1 is
-
 not_out : (calls : List Call) (place : ℕ) (call : Call) → IsInOrder 0 calls place call → IsOutOfOrder (take place calls) call → ⊥
 not_out calls place call order (inl early) = let least = order.least in omega arith
 not_out calls place call order (inr (inl back)) = let more = order.more in omega arith
@@ -336,9 +325,7 @@ inside (one ∷ logs) zero place call is = omega arith
 inside (one ∷ logs) (suc client) place call is = let rest = inside logs client place call is in omega arith
 
 calls_is : (logs : List ClientLog) (k : ℕ) (one : ClientLog) → slice_get logs k ≡ Some one → calls_of logs k ≡ one.calls
-calls_is [] k one is = absurd (cc is)
-calls_is (first ∷ logs) zero one is = let same : first ≡ one = cc is in ap (λ (log : ClientLog). log.calls) same
-calls_is (first ∷ logs) (suc k) one is = calls_is logs k one is
+calls_is logs k one is = rw is refl
 
 pub calls_beyond : (logs : List ClientLog) (client : ℕ) → (client < length logs → ⊥) → calls_of logs client ≡ []
 calls_beyond [] client beyond = refl
@@ -388,8 +375,7 @@ module _ (start : Record) (logs : List ClientLog) (log : List Change) (settled :
       let (order, within) = reached client place call is in
       let (r, found, more) = take_more log (position - 1) (omega arith) in
       let one = here position some ∙ ap (entry position) found in
-      let count = sym (ap length none) ∙ ap length one in
-      absurd (cc count)
+      absurd (cc (none, one))
 
   register : (position : ℕ) → position ≤ length log → register_at start logs position ≡ record_at start log position
   register = register_is start logs log here
@@ -398,7 +384,7 @@ module _ (start : Record) (logs : List ClientLog) (log : List Change) (settled :
   no_wrong client place (call, is, wrong) =
       let (order, within) = reached client place call is in
       let agrees = settled.each client (inside logs client place call is) in
-      let right = all_at (AgreesAt start client log) (calls_of logs client) place call agrees.each is in
+      let right = at_each (AgreesAt start client log) (calls_of logs client) place call agrees.each is in
       right.right (wrong_alike (register_at start logs) (record_at start log) call.position call.answer (register call.position within) (register (call.position - 1) (omega arith)) wrong)
 
   -- no drawn version that is not above what its asker had seen
@@ -407,7 +393,7 @@ module _ (start : Record) (logs : List ClientLog) (log : List Change) (settled :
       let (order, within) = reached client place call is in
       let no_later = order.more in
       let agrees = settled.each client (inside logs client place call is) in
-      let right = all_at (AgreesAt start client log) (calls_of logs client) place call agrees.each is in
+      let right = at_each (AgreesAt start client log) (calls_of logs client) place call agrees.each is in
       right.above (low_alike (register_at start logs) (record_at start log) call.asked call.answer (register call.asked (omega arith)) low)
 
   no_disorder : (client place : ℕ) → OutOfOrder logs client place → ⊥

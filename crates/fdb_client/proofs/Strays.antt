@@ -28,15 +28,6 @@ justified_at chain client before (one ∷ calls) zero call each is =
 justified_at chain client before (one ∷ calls) (suc place) call each is =
     subst (λ l. is_justified chain client l call ≡ true) (append_assoc before (one ∷ []) (take place calls)) (justified_at chain client (before ++ one ∷ []) calls place call each.1 is)
 
-any_at : {X : Type 0} (p : X → Bool) (xs : List X) (place : ℕ) (x : X) → slice_get xs place ≡ Some x → p x ≡ true → list_any p xs ≡ true
-any_at p [] place x at is = absurd (cc at)
-any_at p (y ∷ xs) zero x at is = let same : y ≡ x = cc at in rw (same, is) refl
-any_at p (y ∷ xs) (suc place) x at is = go (p y) (any_at p xs place x at is)
-  where
-    go : (b : Bool) → list_any p xs ≡ true → (b || list_any p xs) ≡ true
-    go true rest = refl
-    go false rest = rest
-
 -- what is found among some that are kept is found among all
 any_kept : {X : Type 0} (p keep : X → Bool) (xs : List X) → list_any p (filter keep xs) ≡ true → list_any p xs ≡ true
 any_kept p keep [] found = found

@@ -1,6 +1,9 @@
 -- The chain of commit versions, as the logs of those who drew them tell it. (all of this is this
 -- product's own)
-use Rattle.std.specs.Prelude.{ℕ, false, List, flat_map, fold, replicate, slice_set, if◌then◌else◌}
+use Rattle.std.specs.Prelude.{ℕ, false, List, [], ◌∷◌, ◌++◌, flat_map, fold, replicate, slice_set, if◌then◌else◌}
+use Rattle.std.specs.Coded.{×_prop, Unit-prop}
+use Rattle.std.proofs.Props.{props}
+use Rattle.fdb_history.specs.Chain.{GoesOn}
 use Rattle.fdb_history.specs.Log.{answers_in}
 use Rattle.fdb_history.specs.declared.chain.Issued.{Issued}
 use Rattle.fdb_history.specs.declared.log.ClientLog.{ClientLog}
@@ -35,3 +38,10 @@ answers_of_logs logs = flat_map (λ log. answers_in log.calls) logs
 -- its ordinal.
 abbrev pub chain_in : ℕ → List ClientLog → List Issued
 chain_in drawn logs = all_placed (replicate drawn no_answer) (answers_of_logs logs)
+
+-- That some answers go on from others has one proof at most, so that a run may keep it as a fact.
+pub goes_on_once : (epoch_end recovery : ℕ) (before answers : List Issued)
+    → IsProp (GoesOn epoch_end recovery before answers)
+goes_on_once epoch_end recovery before [] = Unit-prop
+goes_on_once epoch_end recovery before (answer ∷ later) =
+    ×_prop (Prim.hlevel props) (goes_on_once epoch_end recovery (before ++ answer ∷ []) later)

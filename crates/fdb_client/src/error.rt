@@ -41,7 +41,7 @@ pub enum ClientError {
     #[error(transparent)]
     Live(LiveError),
     /// Memory was refused. The call is not logged; an ask may have shown the client more answers.
-    #[error("want of memory")]
+    #[error("out of memory")]
     Memory,
 }
 

@@ -46,7 +46,7 @@ pub enum FinishError {
     #[error("a client is not in its place")]
     Astray,
     /// Memory was refused, or a thread could not be had; the clients are given up all the same.
-    #[error("want of memory")]
+    #[error("out of memory")]
     Memory,
 }
 
@@ -75,6 +75,8 @@ impl<'c, J: Live> Cluster<'c, J> {
         ensures in_place { IfOk result (λ _. AreAllInPlace J.reporters clients.entry.items) }
         ensures memory { AreAllInPlace J.reporters clients.entry.items
             → IfErr result (λ cause. cause ≡ FinishError.Memory) }
+        ensures astray { IfErr result (λ cause. cause ≡ FinishError.Astray
+            → AreAllInPlace J.reporters clients.entry.items → ⊥) }
     {
         if clients.len() != self.config.clients as usize || !are_in_place(&clients) {
             return Err(FinishError::Astray);

@@ -1,7 +1,9 @@
 //! A run of a cluster, whose logs its clients' tokens have settled.
 
-ghost use Rattle.std.specs.Prelude.{◌≡◌, ◌≤◌, IfOk, length};
-ghost use Rattle.fdb_client.specs.Merging.{chain_in};
+ghost use Rattle.std.specs.Prelude.{◌≡◌, ◌<◌, ◌≤◌, [], IfOk, length};
+ghost use Rattle.std.specs.List.{AllPairs};
+ghost use Rattle.fdb_chain.specs.ChainCore.{IsEpoch};
+ghost use Rattle.fdb_client.specs.Merging.{chain_in, goes_on_once};
 ghost use Rattle.fdb_history.specs.Audit.{Low};
 ghost use Rattle.fdb_history.specs.Chain.{IsChain};
 ghost use Rattle.fdb_history.specs.Explained.{explained};
@@ -15,13 +17,13 @@ use crate::cluster::Cluster;
 use crate::finishing::Finished;
 use crate::merging::chain_of;
 use crate::settling::{Closed, close};
-use fdb_history::{ClientLog, History, Issued, Record, history_of};
+use fdb_history::{ClientLog, History, Issued, Record, history_of, laws};
 use fdb_live::{Live, Seen};
 use std::alloc::{AllocError, Global};
 use std::sync::Wait;
 
 /// What a run of a cluster has left, once it is settled: no fault stands in its logs, neither of the
-/// register's history nor of an answer.
+/// register's history nor of an answer, and their commit versions are one chain.
 #[derive(Debug, Drop)]
 pub struct SettledRun {
     /// The last version of the epoch before, below that of `start`.
@@ -34,7 +36,9 @@ pub struct SettledRun {
     pub drawn: u64,
     /// How many reports changed the record: the position that the run came to.
     pub changes: u64,
+    pub ghost epoch: { IsEpoch epoch_end start.version },
     pub ghost few: { length logs.items ≤ MAX_REPORTERS },
+    pub ghost one_chain: { IsChain epoch_end start.version (chain_in drawn logs.items) } by { goes_on_once epoch_end start.version [] (chain_in drawn logs.items) },
     pub ghost faultless: { IsFaultless start logs.items },
     pub ghost justified: { Nowhere (IsStray (chain_in drawn logs.items) logs.items) },
     pub ghost above: { Nowhere (Low start logs.items) },
@@ -48,9 +52,15 @@ impl SettledRun {
     pub fn chain(&self, alloc: Global) -> Result<Vec<Issued>, AllocError>
         ensures value { IfOk result
             (λ chain. chain.items ≡ chain_in self.now.drawn self.now.logs.items) }
+        ensures one_chain { IfOk result
+            (λ chain. IsChain self.now.epoch_end self.now.start.version chain.items) }
+        ensures rises { IfOk result
+            (λ chain. AllPairs (λ earlier later. earlier.version < later.version) chain.items) }
         ensures justified { IfOk result
             (λ chain. Nowhere (IsStray chain.items self.now.logs.items)) }
     {
+        // The check learns here that the versions of a chain rise.
+        laws::versions_rise();
         chain_of(alloc, &self.logs, self.drawn)
     }
 

@@ -1,10 +1,12 @@
 //! Calls that a user writes, at a cluster of a master and GRV proxies.
 
-ghost use Rattle.std.specs.Prelude.{◌≡◌, ◌<◌, ◌≤◌, ℕ, [], IfOk, Some, ⊤, slice_get, true, vec_len};
-ghost use Rattle.fdb_client.specs.Account.{new_account};
+ghost use Rattle.std.specs.Prelude.{◌≡◌, ◌<◌, ◌≤◌, ℕ, [], IfErr, IfOk, List, Some, ⊤};
+ghost use Rattle.std.specs.Prelude.{slice_get, true, vec_len};
+ghost use Rattle.fdb_client.specs.Account.{Account, new_account};
 ghost use Rattle.fdb_client.specs.Cluster.{IsClusterConfig};
 ghost use Rattle.fdb_client.specs.Merging.{chain_in};
-ghost use Rattle.fdb_client.specs.Settling.{AreNew};
+ghost use Rattle.fdb_client.specs.Settling.{AreAllInPlace, AreNew, logs_of};
+ghost use Rattle.fdb_client.specs.declared.cluster.ClusterConfig.{ClusterConfig};
 ghost use Rattle.fdb_history.specs.Chain.{IsChain};
 ghost use Rattle.fdb_history.specs.Laws.{HaveMinimaWithin};
 ghost use Rattle.fdb_live.specs.Seen.{origin_of};
@@ -27,8 +29,8 @@ pub trait Workload<R> {
     /// What the calls come to, which is handed back beside the settled logs.
     type Output: Drop;
 
-    // What it promises of that.
-    ghost gives: { Self → Self.Output → Type 0 } = { λ _ _. ⊤ };
+    // What it promises of a cluster made with this, of the clients that it leaves, and of that.
+    ghost gives: { Self → ClusterConfig → List Account → Self.Output → Type 0 } = { λ _ _ _ _. ⊤ };
 
     /// Has the clients call the cluster, in the thread that called `run_workload`. There are as
     /// many as the cluster was made for, each at the place of its number, where it is to be found
@@ -40,7 +42,7 @@ pub trait Workload<R> {
         clients: &mut [Client<'_, J>],
     ) -> Self::Output
         requires { AreNew J.reporters clients.old }
-        ensures { gives self result };
+        ensures { gives self cluster.now.config clients.new result };
 }
 
 /// What a workload at a cluster has left, once its GRV proxies have ended and its logs are settled.
@@ -68,7 +70,14 @@ pub fn run_workload<R: Threads + Wait + Sync, W: Workload<R> + Drop>(
     workload: W,
 ) -> Result<WorkloadOutcome<W::Output>, FinishError>
     requires { IsClusterConfig config }
-    ensures gives { IfOk result (λ ran. W.gives workload ran.output) }
+    ensures gives { IfOk result (λ ran. (left : List Account)
+        × W.gives workload config.entry left ran.output
+        × AreAllInPlace config.entry.clients left × (ran.run.logs.items ≡ logs_of left)) }
+    ensures ends { IfOk result (λ ran. vec_len ran.ends.served ≡ config.entry.grv_proxies) }
+    ensures astray { IfErr result (λ cause. cause ≡ FinishError.Astray
+        → (left : List Account) × (output : W.Output)
+        × W.gives workload config.entry left output
+        × (AreAllInPlace config.entry.clients left → ⊥)) }
     ensures epoch_end { IfOk result (λ ran. ran.run.epoch_end ≡ config.entry.epoch_end) }
     ensures start { IfOk result (λ ran. ran.run.start ≡ config.entry.start) }
     ensures logs { IfOk result (λ ran. vec_len ran.run.logs ≡ config.entry.clients) }
@@ -90,7 +99,15 @@ fn run_named<J: Live + Send + Sync, R: Threads + Wait + Sync, W: Workload<R> + D
     requires chained { J.chained ≡ true }
     requires opened { opened.founding
         ≡ origin_of J.table J.start J.reporters J.chained J.epoch_end J.recovery }
-    ensures gives { IfOk result (λ ran. W.gives workload ran.output) }
+    ensures gives { IfOk result (λ ran. (left : List Account)
+        × W.gives workload opened.entry.config left ran.output
+        × AreAllInPlace J.reporters left × (ran.run.logs.items ≡ logs_of left)) }
+    ensures ends { IfOk result
+        (λ ran. vec_len ran.ends.served ≡ opened.entry.config.grv_proxies) }
+    ensures astray { IfErr result (λ cause. cause ≡ FinishError.Astray
+        → (left : List Account) × (output : W.Output)
+        × W.gives workload opened.entry.config left output
+        × (AreAllInPlace J.reporters left → ⊥)) }
     ensures epoch_end { IfOk result (λ ran. ran.run.epoch_end ≡ opened.entry.config.epoch_end) }
     ensures start { IfOk result (λ ran. ran.run.start ≡ opened.entry.founding.start) }
     ensures logs { IfOk result (λ ran. vec_len ran.run.logs ≡ opened.entry.founding.reporters) }
@@ -111,15 +128,23 @@ fn run_named<J: Live + Send + Sync, R: Threads + Wait + Sync, W: Workload<R> + D
         &mut first,
         || -> Result<(W::Output, Finished<J>), FinishError>
             requires { AreNew J.reporters clients.items }
-            ensures { IfOk result (λ left. W.gives workload left.0) }
+            ensures gives { IfOk result (λ ran. (left : List Account)
+                × W.gives workload cluster.entry.config left ran.0
+                × AreAllInPlace J.reporters left × (ran.1 ≡ logs_of left)) }
+            ensures astray { IfErr result (λ cause. cause ≡ FinishError.Astray
+                → (left : List Account) × (output : W.Output)
+                × W.gives workload cluster.entry.config left output
+                × (AreAllInPlace J.reporters left → ⊥)) }
         { played(rt, alloc, &cluster, clients, workload) },
     )?;
-    let (output, finished) = output?;
-    Ok(WorkloadOutcome {
-        output,
-        run: cluster.settle(rt, first, finished),
-        ends,
-    })
+    match output {
+        Ok((output, finished)) => Ok(WorkloadOutcome {
+            output,
+            run: cluster.settle(rt, first, finished),
+            ends,
+        }),
+        Err(cause) => Err(cause),
+    }
 }
 
 /// Has the clients of a cluster play a workload. Answers what came of it, and what they left.
@@ -131,11 +156,19 @@ fn played<J: Live, R, W: Workload<R>>(
     workload: W,
 ) -> Result<(W::Output, Finished<J>), FinishError>
     requires { AreNew J.reporters clients.items }
-    ensures { IfOk result (λ left. W.gives workload left.0) }
+    ensures gives { IfOk result (λ ran. (left : List Account)
+        × W.gives workload cluster.now.config left ran.0
+        × AreAllInPlace J.reporters left × (ran.1 ≡ logs_of left)) }
+    ensures astray { IfErr result (λ cause. cause ≡ FinishError.Astray
+        → (left : List Account) × (output : W.Output)
+        × W.gives workload cluster.now.config left output
+        × (AreAllInPlace J.reporters left → ⊥)) }
 {
     let output = workload.start::<J>(rt, cluster, clients.as_mut_slice());
-    let finished = cluster.finish(alloc, clients)?;
-    Ok((output, finished))
+    match cluster.finish(alloc, clients) {
+        Ok(finished) => Ok((output, finished)),
+        Err(cause) => Err(cause),
+    }
 }
 
 /// A client for each token, which has called nobody yet and has seen nothing. The one at a place has

@@ -12,9 +12,9 @@ use Rattle.fdb_command.specs.Output.{TakesAny}
 use Rattle.fdb_command.specs.Input.{MayBeRead, MayBegin}
 use Rattle.fdb_command.specs.declared.arguments.ArgumentsFault.{ArgumentsFault}
 use Rattle.fdb_command.specs.declared.arguments.ArgumentsFault.TheVariants as words
-use Rattle.fdb_command.specs.declared.fault.Fault.{Fault}
-use Rattle.fdb_command.specs.declared.program.Answer.{Answer}
-use Rattle.fdb_command.specs.declared.fault.Fault.TheVariants.{Refused, Arguments, Memory, Found, Reading, Writing}
+use Rattle.fdb_command.specs.declared.failure.Failure.{Failure}
+use Rattle.fdb_command.specs.declared.program.Output.{Output}
+use Rattle.fdb_command.specs.declared.failure.Failure.TheVariants.{Refused, Arguments, Memory, Found, Reading, Writing}
 use Rattle.fdb_command.specs.private.Taking.{IsFailure, IsPut, MayStop}
 use Rattle.fdb_command.proofs.Pieces.{put_appends, takes_behind}
 
@@ -48,12 +48,12 @@ begins None (Some all) bytes read = ([], read ∙ sym (append-nil bytes))
 
 module _ {O I E F : Type 0} (program : Promise O I E F) (arguments : List Text) (options : O) (asks : program.asks arguments options) (remaining : Option (List ℕ)) (taken : fault_of program.app arguments ≡ []) where
   -- a program stopped while it took the input
-  pub refused_early : (fault : Fault E F) → IsFailure fault ⊎ MayStop program options (file_named program.app arguments) remaining fault → (error : E) → fault ≡ Refused error → MayRefuse program arguments remaining
+  pub refused_early : (fault : Failure E F) → IsFailure fault ⊎ MayStop program options (file_named program.app arguments) remaining fault → (error : E) → fault ≡ Refused error → MayRefuse program arguments remaining
   refused_early fault (inl (inl reading)) error is = absurd (cc)
   refused_early fault (inl (inr writing)) error is = absurd (cc)
   refused_early fault (inr at) error is = (taken, at.bytes, at.read, error, subst (Stops program arguments at.bytes) is (at.stops arguments asks))
 
-  pub found_early : (fault : Fault E F) → IsFailure fault ⊎ MayStop program options (file_named program.app arguments) remaining fault → (found : F) → fault ≡ Found found → MayFind program arguments remaining
+  pub found_early : (fault : Failure E F) → IsFailure fault ⊎ MayStop program options (file_named program.app arguments) remaining fault → (found : F) → fault ≡ Found found → MayFind program arguments remaining
   found_early fault (inl (inl reading)) found is = absurd (cc)
   found_early fault (inl (inr writing)) found is = absurd (cc)
   found_early fault (inr at) found is = (taken, at.bytes, at.read, found, subst (Stops program arguments at.bytes) is (at.stops arguments asks))
@@ -66,12 +66,12 @@ module _ {O I E F : Type 0} (program : Promise O I E F) (arguments : List Text) 
 
   -- or its body was called on what it took
   module _ (bytes told : List ℕ) (few : length bytes ≤ program.most) (read : MayBeRead (file_named program.app arguments) remaining bytes) where
-    pub printed_of : {W : Type 0} (contents : W → Option (List ℕ)) (before after : W) → IsPut contents told before after → (r : Result (Answer E F) (Fault E F)) → MatchResult r (MayAnswer program arguments bytes told) (Stops program arguments bytes)
+    pub printed_of : {W : Type 0} (contents : W → Option (List ℕ)) (before after : W) → IsPut contents told before after → (r : Result (Output E F) (Failure E F)) → MatchResult r (MayAnswer program arguments bytes told) (Stops program arguments bytes)
         → IfOk r (λ answer. (told : List ℕ) × IsPut contents told before after × IsPrinted program arguments remaining answer.found answer.refused (told ++ answer.text.items))
     printed_of contents before after put (Ok answer) prints = (told, put, record { taken = taken; bytes = bytes; few = few; read = read; printed = prints.0; refuses = prints.1 })
     printed_of contents before after put (Err fault) stops = tt
 
-    pub unsaid_of : (r : Result (Answer E F) (Fault E F)) → MatchResult r (MayAnswer program arguments bytes told) (Stops program arguments bytes)
+    pub unsaid_of : (r : Result (Output E F) (Failure E F)) → MatchResult r (MayAnswer program arguments bytes told) (Stops program arguments bytes)
         → program.warns arguments ≡ false → IfOk r (λ answer. answer.warnings.items ≡ [])
     unsaid_of (Ok answer) prints silent = prints.2 silent
     unsaid_of (Err fault) stops silent = tt
@@ -85,38 +85,38 @@ module _ {O I E F : Type 0} (program : Promise O I E F) (arguments : List Text) 
       told = record { bytes = bytes; few = few; read = begins (file_named program.app arguments) remaining bytes read; text = told; some = some.0; intake = intake; taken = took; written = inl some.1 };
     })
 
-    pub refused_of : (r : Result (Answer E F) (Fault E F)) → MatchResult r (MayAnswer program arguments bytes told) (Stops program arguments bytes)
+    pub refused_of : (r : Result (Output E F) (Failure E F)) → MatchResult r (MayAnswer program arguments bytes told) (Stops program arguments bytes)
         → IfErr r (λ fault. (error : E) → fault ≡ Refused error → MayRefuse program arguments remaining)
     refused_of (Ok answer) prints = tt
     refused_of (Err fault) stops = λ error is. (taken, bytes, read, error, subst (Stops program arguments bytes) is stops)
 
-    pub found_of : (r : Result (Answer E F) (Fault E F)) → MatchResult r (MayAnswer program arguments bytes told) (Stops program arguments bytes)
+    pub found_of : (r : Result (Output E F) (Failure E F)) → MatchResult r (MayAnswer program arguments bytes told) (Stops program arguments bytes)
         → IfErr r (λ fault. (found : F) → fault ≡ Found found → MayFind program arguments remaining)
     found_of (Ok answer) prints = tt
     found_of (Err fault) stops = λ found is. (taken, bytes, read, found, subst (Stops program arguments bytes) is stops)
 
 -- a program's own faults
-stops_own : {O I E F : Type 0} (program : Promise O I E F) (arguments : List Text) (bytes : List ℕ) (fault : Fault E F) → Stops program arguments bytes fault → fault ≢ Arguments
+stops_own : {O I E F : Type 0} (program : Promise O I E F) (arguments : List Text) (bytes : List ℕ) (fault : Failure E F) → Stops program arguments bytes fault → fault ≢ Arguments
 stops_own program arguments bytes (Refused error) stops = λ is. cc
 stops_own program arguments bytes Arguments stops = absurd stops
 stops_own program arguments bytes Memory stops = λ is. cc
 stops_own program arguments bytes (Found found) stops = λ is. cc
-stops_own program arguments bytes Reading stops = absurd stops
-stops_own program arguments bytes Writing stops = absurd stops
+stops_own program arguments bytes Reading stops = λ is. cc
+stops_own program arguments bytes Writing stops = λ is. cc
 
-pub own_early : {O I E F : Type 0} (program : Promise O I E F) (arguments : List Text) (options : O) (file : Option Text) (remaining : Option (List ℕ)) (fault : Fault E F) → program.asks arguments options
+pub own_early : {O I E F : Type 0} (program : Promise O I E F) (arguments : List Text) (options : O) (file : Option Text) (remaining : Option (List ℕ)) (fault : Failure E F) → program.asks arguments options
     → IsFailure fault ⊎ MayStop program options file remaining fault → fault ≢ Arguments
 own_early program arguments options file remaining fault asks (inl (inl reading)) = λ is. cc
 own_early program arguments options file remaining fault asks (inl (inr writing)) = λ is. cc
 own_early program arguments options file remaining fault asks (inr at) = stops_own program arguments at.bytes fault (at.stops arguments asks)
 
-pub own_of : {O I E F : Type 0} (program : Promise O I E F) (arguments : List Text) (bytes : List ℕ) (P : Answer E F → Type 0) (r : Result (Answer E F) (Fault E F)) → MatchResult r P (Stops program arguments bytes)
+pub own_of : {O I E F : Type 0} (program : Promise O I E F) (arguments : List Text) (bytes : List ℕ) (P : Output E F → Type 0) (r : Result (Output E F) (Failure E F)) → MatchResult r P (Stops program arguments bytes)
     → IfErr r (λ fault. fault ≢ Arguments)
 own_of program arguments bytes P (Ok answer) prints = tt
 own_of program arguments bytes P (Err fault) stops = stops_own program arguments bytes fault stops
 
 -- what was told and then the rest was written, whole
-pub written : {O I E F W : Type 0} (program : Promise O I E F) (arguments : List Text) (remaining : Option (List ℕ)) (answer : Answer E F) (found : Option F) (refused : Option E) (contents : W → Option (List ℕ)) (before between after : W)
+pub written : {O I E F W : Type 0} (program : Promise O I E F) (arguments : List Text) (remaining : Option (List ℕ)) (answer : Output E F) (found : Option F) (refused : Option E) (contents : W → Option (List ℕ)) (before between after : W)
     → ((told : List ℕ) × IsPut contents told before between × IsPrinted program arguments remaining answer.found answer.refused (told ++ answer.text.items))
     → answer.found ≡ found → answer.refused ≡ refused → Appends (contents between) (contents after) answer.text.items → IsWritten program arguments remaining found refused (contents before) (contents after)
 written program arguments remaining answer found refused contents before between after (told, put, printed) finds refuses whole = record {
@@ -127,7 +127,7 @@ written program arguments remaining answer found refused contents before between
 }
 
 -- or in part
-pub begun : {O I E F W : Type 0} (program : Promise O I E F) (arguments : List Text) (remaining : Option (List ℕ)) (answer : Answer E F) (contents : W → Option (List ℕ)) (before between after : W)
+pub begun : {O I E F W : Type 0} (program : Promise O I E F) (arguments : List Text) (remaining : Option (List ℕ)) (answer : Output E F) (contents : W → Option (List ℕ)) (before between after : W)
     → ((told : List ℕ) × IsPut contents told before between × IsPrinted program arguments remaining answer.found answer.refused (told ++ answer.text.items))
     → TakesAny answer.text.items (contents between) (contents after) → IsBegun program arguments remaining (contents before) (contents after)
 begun program arguments remaining answer contents before between after (told, put, printed) how =
@@ -143,19 +143,19 @@ refused_besides program arguments remaining found refused text printed error is 
     (printed.taken, printed.bytes, printed.read, error, rw is at printed.refuses)
 
 -- why arguments ask for nothing is told as a fault
-pub told_as : {E F : Type 0} (cause : ArgumentsFault) (made : Fault E F) → (cause ≡ words.Refused → made ≡ Arguments) × (cause ≡ words.Memory → made ≡ Memory) → (made ≡ Arguments) ⊎ (made ≡ Memory)
+pub told_as : {E F : Type 0} (cause : ArgumentsFault) (made : Failure E F) → (cause ≡ words.Refused → made ≡ Arguments) × (cause ≡ words.Memory → made ≡ Memory) → (made ≡ Arguments) ⊎ (made ≡ Memory)
 told_as words.Refused made told = inl (told.0 refl)
 told_as words.Memory made told = inr (told.1 refl)
 
-pub is_words : {E F : Type 0} (cause : ArgumentsFault) (made : Fault E F) → (cause ≡ words.Refused → made ≡ Arguments) × (cause ≡ words.Memory → made ≡ Memory) → made ≡ Arguments → cause ≡ words.Refused
+pub is_words : {E F : Type 0} (cause : ArgumentsFault) (made : Failure E F) → (cause ≡ words.Refused → made ≡ Arguments) × (cause ≡ words.Memory → made ≡ Memory) → made ≡ Arguments → cause ≡ words.Refused
 is_words words.Refused made told is = refl
 is_words words.Memory made told is = let memory = told.1 refl in absurd (cc)
 
-pub no_refusal : {E F : Type 0} (made : Fault E F) → (made ≡ Arguments) ⊎ (made ≡ Memory) → (error : E) → made ≡ Refused error → ⊥
+pub no_refusal : {E F : Type 0} (made : Failure E F) → (made ≡ Arguments) ⊎ (made ≡ Memory) → (error : E) → made ≡ Refused error → ⊥
 no_refusal made (inl words) error is = cc
 no_refusal made (inr memory) error is = cc
 
-pub no_finding : {E F : Type 0} (made : Fault E F) → (made ≡ Arguments) ⊎ (made ≡ Memory) → (found : F) → made ≡ Found found → ⊥
+pub no_finding : {E F : Type 0} (made : Failure E F) → (made ≡ Arguments) ⊎ (made ≡ Memory) → (found : F) → made ≡ Found found → ⊥
 no_finding made (inl words) found is = cc
 no_finding made (inr memory) found is = cc
 

@@ -9,8 +9,8 @@ use Rattle.fdb_command.specs.Driving.{Promise, Stops, TellsOf}
 use Rattle.fdb_command.specs.Input.{MayBegin, TakesAtMost}
 use Rattle.fdb_command.specs.Output.{TakesAny}
 use Rattle.fdb_command.specs.private.Taking.{IsFailure, IsPut, IsTaken, MayStop, StopsAt, TakesOn, TellsLast}
-use Rattle.fdb_command.specs.declared.fault.Fault.{Fault}
-use Rattle.fdb_command.specs.declared.fault.Fault.TheVariants.{Memory, Reading, Writing}
+use Rattle.fdb_command.specs.declared.failure.Failure.{Failure}
+use Rattle.fdb_command.specs.declared.failure.Failure.TheVariants.{Memory, Reading, Writing}
 
 pub takes_more : (first before after : Option (List ℕ)) (so_far : List ℕ) (room most : ℕ) → length so_far + room ≤ most → Consumes first before so_far → TakesAtMost room before after → TakesAtMost most first after
 takes_more first before after so_far room most within read (taken, few, piece) =
@@ -95,21 +95,20 @@ stops_unread program options None = record { bytes = []; read = tt; stops = λ a
 stops_unread program options (Some all) = record { bytes = all; read = refl; stops = λ arguments asks. tt }
 
 -- a program that stops before it has taken any bytes stops at all of them, whatever they are
-pub stops_begun : {O I E F : Type 0} (program : Promise O I E F) (options : O) (first : Option (List ℕ)) (fault : Fault E F)
-    → (fault ≡ Reading) ⊎ ((arguments : List Text) (bytes : List ℕ) → program.asks arguments options → Stops program arguments bytes fault) → IsFailure fault ⊎ MayStop program options None first fault
-stops_begun program options first fault (inl reading) = inl (inl reading)
-stops_begun program options None fault (inr stops) = inr (record { bytes = []; read = tt; stops = λ arguments asks. stops arguments [] asks })
-stops_begun program options (Some all) fault (inr stops) = inr (record { bytes = all; read = refl; stops = λ arguments asks. stops arguments all asks })
+pub stops_begun : {O I E F : Type 0} (program : Promise O I E F) (options : O) (first : Option (List ℕ)) (fault : Failure E F)
+    → ((arguments : List Text) (bytes : List ℕ) → program.asks arguments options → Stops program arguments bytes fault) → IsFailure fault ⊎ MayStop program options None first fault
+stops_begun program options None fault stops = inr (record { bytes = []; read = tt; stops = λ arguments asks. stops arguments [] asks })
+stops_begun program options (Some all) fault stops = inr (record { bytes = all; read = refl; stops = λ arguments asks. stops arguments all asks })
 
 -- where a program stops whatever comes after, it stops at all bytes
-stops_whole : {O I E F : Type 0} (program : Promise O I E F) (options : O) (first last : Option (List ℕ)) (so_far bytes : List ℕ) (fault : Fault E F) → Consumes first last (so_far ++ bytes)
+stops_whole : {O I E F : Type 0} (program : Promise O I E F) (options : O) (first last : Option (List ℕ)) (so_far bytes : List ℕ) (fault : Failure E F) → Consumes first last (so_far ++ bytes)
     → ((arguments : List Text) (rest : List ℕ) → program.asks arguments options → Stops program arguments (so_far ++ (bytes ++ rest)) fault) → MayStop program options None first fault
 stops_whole program options None last so_far bytes fault gone stops = record { bytes = so_far ++ (bytes ++ []); read = tt; stops = λ arguments asks. stops arguments [] asks }
 stops_whole program options (Some all) None so_far bytes fault gone stops = absurd gone
 stops_whole program options (Some all) (Some rest) so_far bytes fault gone stops =
     record { bytes = so_far ++ (bytes ++ rest); read = gone ∙ append_assoc so_far bytes rest; stops = λ arguments asks. stops arguments rest asks }
 
-pub stops_there : {O I E F : Type 0} (program : Promise O I E F) (options : O) (first before after : Option (List ℕ)) (intake : I) (so_far told : List ℕ) (most : ℕ) (fault : Fault E F) → Consumes first before so_far
+pub stops_there : {O I E F : Type 0} (program : Promise O I E F) (options : O) (first before after : Option (List ℕ)) (intake : I) (so_far told : List ℕ) (most : ℕ) (fault : Failure E F) → Consumes first before so_far
     → program.taken options intake so_far told → StopsAt program intake most before after fault → IsFailure fault ⊎ MayStop program options None first fault
 stops_there program options first before after intake so_far told most fault gone taken at = go at.stops
   where
@@ -119,8 +118,8 @@ stops_there program options first before after intake so_far told most fault gon
     go (inr stops) = inr (stops_whole program options first after so_far at.bytes fault (Consumes-trans first before after so_far at.bytes gone at.gone) (λ arguments rest asks. stops arguments options so_far told rest asks taken))
 
 -- nor does it where what was told could not be had or written
-pub stops_telling : {O I E F : Type 0} (program : Promise O I E F) (options : O) (first : Option (List ℕ)) (fault : Fault E F) → (fault ≡ Memory) ⊎ (fault ≡ Writing) → IsFailure fault ⊎ MayStop program options None first fault
-stops_telling program options first fault (inl memory) = inr (subst (λ (f : Fault _ _). MayStop program options None first f) (sym memory) (stops_unread program options first))
+pub stops_telling : {O I E F : Type 0} (program : Promise O I E F) (options : O) (first : Option (List ℕ)) (fault : Failure E F) → (fault ≡ Memory) ⊎ (fault ≡ Writing) → IsFailure fault ⊎ MayStop program options None first fault
+stops_telling program options first fault (inl memory) = inr (subst (λ (f : Failure _ _). MayStop program options None first f) (sym memory) (stops_unread program options first))
 stops_telling program options first fault (inr writing) = inl (inr writing)
 
 -- what holds of an error holds of the one that is passed on

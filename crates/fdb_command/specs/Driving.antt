@@ -10,13 +10,13 @@ use Rattle.clap.specs.Words.{App, Text, fault_of}
 use Rattle.fdb_command.specs.Arguments.{AreTaken, AreWrong, AsksHelp, ReadsInput, file_named}
 use Rattle.fdb_command.specs.Input.{MayBeRead, MayBegin, TakesAtMost}
 use Rattle.fdb_command.specs.Output.{TakesAny, TakesSome}
-use Rattle.fdb_command.specs.declared.fault.Fault.{Fault}
-use Rattle.fdb_command.specs.declared.program.Answer.{Answer}
-use Rattle.fdb_command.specs.declared.fault.Fault.TheVariants.{Refused, Arguments, Memory, Found, Reading, Writing}
+use Rattle.fdb_command.specs.declared.failure.Failure.{Failure}
+use Rattle.fdb_command.specs.declared.program.Output.{Output}
+use Rattle.fdb_command.specs.declared.failure.Failure.TheVariants.{Refused, Arguments, Memory, Found, Reading, Writing}
 
 -- A program's own: its command, the most bytes that its input may have, which of the arguments that
--- its command takes suit it, what its flags may stand for, where progress is told, and where it is
--- said what is left out; which bytes an intake has taken by what the flags stand for, and which
+-- its command takes suit it, what its flags may stand for, where progress is told, where it is said
+-- what is left out, and where it reads and writes a file of its own; which bytes an intake has taken by what the flags stand for, and which
 -- text has been told of them; which texts, told parts and rest together, it may print at some
 -- arguments of some bytes, with a fault that it finds or none and a part that it refuses or none;
 -- which bytes it refuses there, whole or in part, and why; and which faults it finds in bytes of
@@ -28,6 +28,7 @@ pub record Promise (O I E F : Type 0) : Type 1 where
   pub asks : List Text → O → Type 0
   pub tells : List Text → Bool
   pub warns : List Text → Bool
+  pub keeps : List Text → Bool
   pub taken : O → I → (bytes : List ℕ) → (told : List ℕ) → Type 0
   pub prints : List Text → List ℕ → List ℕ → Option F → Option E → Type 0
   pub refuses : List Text → List ℕ → E → Type 0
@@ -39,18 +40,18 @@ AreRefused program arguments = AreWrong program.app arguments
     ⊎ ((fault_of program.app arguments ≡ []) × (program.suits arguments ≡ false))
 
 -- why a program prints nothing more of these bytes, at these arguments
-abbrev pub Stops : {O I E F : Type 0} → Promise O I E F → List Text → List ℕ → Fault E F → Type 0
+abbrev pub Stops : {O I E F : Type 0} → Promise O I E F → List Text → List ℕ → Failure E F → Type 0
 Stops program arguments bytes (Refused error) = program.refuses arguments bytes error
 Stops program arguments bytes Arguments = ⊥
 Stops program arguments bytes Memory = ⊤
 Stops program arguments bytes (Found found) = program.finds arguments bytes found
-Stops program arguments bytes Reading = ⊥
-Stops program arguments bytes Writing = ⊥
+Stops program arguments bytes Reading = program.keeps arguments ≡ true
+Stops program arguments bytes Writing = program.keeps arguments ≡ true
 
 -- What a program may answer of these bytes, of which this text has been told: it says what is left
 -- out only where it warns.
 abbrev pub MayAnswer : {O I E F : Type 0} → Promise O I E F → List Text → List ℕ → List ℕ
-    → Answer E F → Type 0
+    → Output E F → Type 0
 MayAnswer program arguments bytes told answer =
     program.prints arguments bytes (told ++ answer.text.items) answer.found answer.refused
     × IfSome answer.refused (program.refuses arguments bytes)
@@ -68,10 +69,10 @@ IsCallable {O} {I} program may_call =
 -- It prints of these what the program promises, behind what has been told, or stops as the program
 -- does, by what it says that such a call may answer.
 abbrev pub KeepsPromise : {O I E F : Type 0} → Promise O I E F
-    → (O → I → Result (Answer E F) (Fault E F) → Type 0) → Type 0
+    → (O → I → Result (Output E F) (Failure E F) → Type 0) → Type 0
 KeepsPromise {O} {I} {E} {F} program may_answer =
     (arguments : List Text) (options : O) (intake : I) (bytes told : List ℕ)
-    (made : Result (Answer E F) (Fault E F))
+    (made : Result (Output E F) (Failure E F))
     → program.asks arguments options → program.taken options intake bytes told
     → may_answer options intake made
     → MatchResult made (MayAnswer program arguments bytes told) (Stops program arguments bytes)

@@ -6,8 +6,8 @@ use Rattle.std.specs.IoError.{error_kind}
 use Rattle.std.specs.declared.io.Error.{Error}
 use Rattle.std.specs.declared.io.ErrorKind.TheVariants.{OutOfMemory}
 use Rattle.clap.specs.Words.{Text}
-use Rattle.fdb_command.specs.declared.input.InputFault.{InputFault}
-use Rattle.fdb_command.specs.declared.input.InputFault.TheVariants.{Reading, Memory}
+use Rattle.fdb_command.specs.declared.failure.Failure.{Failure}
+use Rattle.fdb_command.specs.declared.failure.Failure.TheVariants.{Reading, Memory}
 
 -- these may be the bytes that were read: all that the input has, where no file is
 -- named and they are known; else any, since no clause can know the bytes of a file
@@ -28,6 +28,6 @@ TakesAtMost most before after =
 
 -- Where a reader, or what opens a file, answers this error, the bytes cannot be had for
 -- this reason: memory where that was refused, and reading for any other kind of error.
-pub record IsCauseOf (error : Error) (fault : InputFault) : Type 0 where
+pub record IsCauseOf {E F : Type 0} (error : Error) (fault : Failure E F) : Type 0 where
   pub memory : error_kind error ≡ OutOfMemory → fault ≡ Memory
   pub other : error_kind error ≢ OutOfMemory → fault ≡ Reading

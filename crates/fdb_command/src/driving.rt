@@ -15,9 +15,9 @@ ghost use Rattle.fdb_command.specs.private.Taking.{IsPut};
 
 use crate::arguments::{ArgumentsFault, Invocation, file_of, parse};
 use crate::ending::put;
-use crate::fault::Fault;
+use crate::failure::Failure;
 use crate::intake::Taker;
-use crate::program::{Answer, Program};
+use crate::program::{Output, Program};
 use clap::{ArgMatches, Error};
 use std::alloc::Global;
 use std::fmt::{Debug, Display};
@@ -28,8 +28,8 @@ use std::time::Clock;
 
 /// What the body of a program makes: an answer, or the fault at which it stops.
 type Made<P> = Result<
-    Answer<<P as Program>::Refusal, <P as Program>::Finding>,
-    Fault<<P as Program>::Refusal, <P as Program>::Finding>,
+    Output<<P as Program>::Refusal, <P as Program>::Finding>,
+    Failure<<P as Program>::Refusal, <P as Program>::Finding>,
 >;
 
 /// Does what the arguments of the command line ask for, which are given without the program's own
@@ -117,30 +117,30 @@ where
         input: &mut I,
         out: &mut O,
         err: &mut E,
-    ) -> Result<(), Fault<P::Refusal, P::Finding>>
+    ) -> Result<(), Failure<P::Refusal, P::Finding>>
         requires callable { IsCallable P.promise (B.pre self.body) }
         requires promised { KeepsPromise P.promise (B.post self.body) }
         ensures asked { MatchResult result
             (λ _. IsOkAnd arguments (λ list. AreTaken P.promise.app (map string_bytes list.items)))
-            (λ fault. fault ≢ Fault.Arguments → fault ≢ Fault.Memory
+            (λ fault. fault ≢ Failure.Arguments → fault ≢ Failure.Memory
             → IsOkAnd arguments (λ list. AreTaken P.promise.app (map string_bytes list.items))) }
         ensures done { OnOk result (IsOkAnd arguments (λ list.
             IsDone P.promise (map string_bytes list.items)
             (I.remaining input.old) (O.contents out.old) (O.contents out.new))) }
         ensures refused { IfErr result (λ fault. (error : P.Refusal)
-            → fault ≡ Fault.Refused error → IsOkAnd arguments (λ list.
+            → fault ≡ Failure.Refused error → IsOkAnd arguments (λ list.
             MayRefuse P.promise (map string_bytes list.items) (I.remaining input.old))) }
-        ensures faulty { IfErr result (λ fault. (found : P.Finding) → fault ≡ Fault.Found found
+        ensures faulty { IfErr result (λ fault. (found : P.Finding) → fault ≡ Failure.Found found
             → IsOkAnd arguments (λ list.
             (HasAtMostTold P.promise (map string_bytes list.items)
             (I.remaining input.old) O.contents out.old out.new
             × MayFind P.promise (map string_bytes list.items) (I.remaining input.old))
             ⊎ IsFaulty P.promise (map string_bytes list.items)
             (I.remaining input.old) (O.contents out.old) (O.contents out.new))) }
-        ensures wrong { IfErr result (λ fault. fault ≡ Fault.Arguments
+        ensures wrong { IfErr result (λ fault. fault ≡ Failure.Arguments
             → MatchResult arguments (λ list. AreRefused P.promise (map string_bytes list.items))
             (λ error. error_kind error ≢ ErrorKind.OutOfMemory)) }
-        ensures memory { IfErr result (λ fault. fault ≡ Fault.Memory
+        ensures memory { IfErr result (λ fault. fault ≡ Failure.Memory
             → IfErr arguments (λ error. error_kind error ≡ ErrorKind.OutOfMemory)) }
         ensures unread { OnErr arguments (input.new ≡ input.old) }
         ensures left { IfOk arguments (λ list.
@@ -148,21 +148,21 @@ where
         ensures quiet { IfOk arguments (λ list.
             (TellsProgress P.promise (map string_bytes list.items) → ⊥)
             → (Warns P.promise (map string_bytes list.items) → ⊥) → err.new ≡ err.old) }
-        ensures untaken { IfErr result (λ fault. fault ≡ Fault.Arguments
+        ensures untaken { IfErr result (λ fault. fault ≡ Failure.Arguments
             → input.new ≡ input.old) }
-        ensures unwritten { IfErr result (λ fault. fault ≡ Fault.Arguments
+        ensures unwritten { IfErr result (λ fault. fault ≡ Failure.Arguments
             → out.new ≡ out.old) }
         ensures besides { IfErr result (λ fault. (error : P.Refusal)
-            → fault ≡ Fault.Refused error → IsOkAnd arguments (λ list.
+            → fault ≡ Failure.Refused error → IsOkAnd arguments (λ list.
             HasAtMostTold P.promise (map string_bytes list.items)
             (I.remaining input.old) O.contents out.old out.new
             ⊎ IsPartial P.promise (map string_bytes list.items)
             (I.remaining input.old) (O.contents out.old) (O.contents out.new))) }
-        ensures short { IfErr result (λ fault. fault ≡ Fault.Memory
+        ensures short { IfErr result (λ fault. fault ≡ Failure.Memory
             → (out.new ≡ out.old) ⊎ IsOkAnd arguments (λ list.
             HasTold P.promise (map string_bytes list.items)
             (I.remaining input.old) (O.contents out.old) (O.contents out.new))) }
-        ensures begun { IfErr result (λ fault. (fault ≡ Fault.Reading) ⊎ (fault ≡ Fault.Writing)
+        ensures begun { IfErr result (λ fault. (fault ≡ Failure.Reading) ⊎ (fault ≡ Failure.Writing)
             → (out.new ≡ out.old) ⊎ IsOkAnd arguments (λ list.
             HasTold P.promise (map string_bytes list.items)
             (I.remaining input.old) (O.contents out.old) (O.contents out.new)
@@ -173,7 +173,7 @@ where
     {
         match arguments {
             Ok(arguments) => self.do_asked(&arguments, input, out, err),
-            Err(error) => Err(Fault::from(ArgumentsFault::from(error))),
+            Err(error) => Err(Failure::from(ArgumentsFault::from(error))),
         }
     }
 
@@ -184,43 +184,43 @@ where
         input: &mut I,
         out: &mut O,
         err: &mut E,
-    ) -> Result<(), Fault<P::Refusal, P::Finding>>
+    ) -> Result<(), Failure<P::Refusal, P::Finding>>
         requires callable { IsCallable P.promise (B.pre self.body) }
         requires promised { KeepsPromise P.promise (B.post self.body) }
         ensures asked { MatchResult result
             (λ _. AreTaken P.promise.app (map string_bytes arguments.now))
-            (λ fault. fault ≢ Fault.Arguments → fault ≢ Fault.Memory
+            (λ fault. fault ≢ Failure.Arguments → fault ≢ Failure.Memory
             → AreTaken P.promise.app (map string_bytes arguments.now)) }
         ensures done { OnOk result (IsDone P.promise (map string_bytes arguments.now)
             (I.remaining input.old) (O.contents out.old) (O.contents out.new)) }
-        ensures refused { IfErr result (λ fault. (error : P.Refusal) → fault ≡ Fault.Refused error
+        ensures refused { IfErr result (λ fault. (error : P.Refusal) → fault ≡ Failure.Refused error
             → MayRefuse P.promise (map string_bytes arguments.now) (I.remaining input.old)) }
-        ensures faulty { IfErr result (λ fault. (found : P.Finding) → fault ≡ Fault.Found found
+        ensures faulty { IfErr result (λ fault. (found : P.Finding) → fault ≡ Failure.Found found
             → (HasAtMostTold P.promise (map string_bytes arguments.now)
             (I.remaining input.old) O.contents out.old out.new
             × MayFind P.promise (map string_bytes arguments.now) (I.remaining input.old))
             ⊎ IsFaulty P.promise (map string_bytes arguments.now)
             (I.remaining input.old) (O.contents out.old) (O.contents out.new)) }
-        ensures wrong { IfErr result (λ fault. fault ≡ Fault.Arguments
+        ensures wrong { IfErr result (λ fault. fault ≡ Failure.Arguments
             → AreRefused P.promise (map string_bytes arguments.now)) }
         ensures left { (ReadsInput P.promise.app (map string_bytes arguments.now) → ⊥)
             → input.new ≡ input.old }
         ensures quiet { (TellsProgress P.promise (map string_bytes arguments.now) → ⊥)
             → (Warns P.promise (map string_bytes arguments.now) → ⊥) → err.new ≡ err.old }
-        ensures untaken { IfErr result (λ fault. fault ≡ Fault.Arguments
+        ensures untaken { IfErr result (λ fault. fault ≡ Failure.Arguments
             → input.new ≡ input.old) }
-        ensures unwritten { IfErr result (λ fault. fault ≡ Fault.Arguments
+        ensures unwritten { IfErr result (λ fault. fault ≡ Failure.Arguments
             → out.new ≡ out.old) }
         ensures besides { IfErr result (λ fault. (error : P.Refusal)
-            → fault ≡ Fault.Refused error
+            → fault ≡ Failure.Refused error
             → HasAtMostTold P.promise (map string_bytes arguments.now)
             (I.remaining input.old) O.contents out.old out.new
             ⊎ IsPartial P.promise (map string_bytes arguments.now)
             (I.remaining input.old) (O.contents out.old) (O.contents out.new)) }
-        ensures short { IfErr result (λ fault. fault ≡ Fault.Memory
+        ensures short { IfErr result (λ fault. fault ≡ Failure.Memory
             → HasAtMostTold P.promise (map string_bytes arguments.now)
             (I.remaining input.old) O.contents out.old out.new) }
-        ensures begun { IfErr result (λ fault. (fault ≡ Fault.Reading) ⊎ (fault ≡ Fault.Writing)
+        ensures begun { IfErr result (λ fault. (fault ≡ Failure.Reading) ⊎ (fault ≡ Failure.Writing)
             → (out.new ≡ out.old) ⊎ (HasTold P.promise (map string_bytes arguments.now)
             (I.remaining input.old) (O.contents out.old) (O.contents out.new)
             ⊎ IsBegun P.promise (map string_bytes arguments.now)
@@ -242,7 +242,7 @@ where
         input: &mut I,
         out: &mut O,
         err: &mut E,
-    ) -> Result<(), Fault<P::Refusal, P::Finding>>
+    ) -> Result<(), Failure<P::Refusal, P::Finding>>
         requires callable { IsCallable P.promise (B.pre self.body) }
         requires promised { KeepsPromise P.promise (B.post self.body) }
         requires matches { (arguments : List Text)
@@ -251,24 +251,24 @@ where
             → OnOk result (IsWritten P.promise arguments (I.remaining input.old) None None
             (O.contents out.old) (O.contents out.new)) }
         ensures refused { (arguments : List Text) → AskBy P.promise arguments matches.now options
-            → IfErr result (λ fault. (error : P.Refusal) → fault ≡ Fault.Refused error
+            → IfErr result (λ fault. (error : P.Refusal) → fault ≡ Failure.Refused error
             → MayRefuse P.promise arguments (I.remaining input.old)) }
         ensures faulty { (arguments : List Text) → AskBy P.promise arguments matches.now options
-            → IfErr result (λ fault. (found : P.Finding) → fault ≡ Fault.Found found
+            → IfErr result (λ fault. (found : P.Finding) → fault ≡ Failure.Found found
             → (HasAtMostTold P.promise arguments
             (I.remaining input.old) O.contents out.old out.new
             × MayFind P.promise arguments (I.remaining input.old))
             ⊎ IsFaulty P.promise arguments
             (I.remaining input.old) (O.contents out.old) (O.contents out.new)) }
-        ensures own { IfErr result (λ fault. fault ≢ Fault.Arguments) }
+        ensures own { IfErr result (λ fault. fault ≢ Failure.Arguments) }
         ensures besides { (arguments : List Text) → AskBy P.promise arguments matches.now options
-            → IfErr result (λ fault. (error : P.Refusal) → fault ≡ Fault.Refused error
+            → IfErr result (λ fault. (error : P.Refusal) → fault ≡ Failure.Refused error
             → HasAtMostTold P.promise arguments
             (I.remaining input.old) O.contents out.old out.new
             ⊎ IsPartial P.promise arguments
             (I.remaining input.old) (O.contents out.old) (O.contents out.new)) }
         ensures short { (arguments : List Text) → AskBy P.promise arguments matches.now options
-            → IfErr result (λ fault. fault ≡ Fault.Memory → HasAtMostTold P.promise arguments
+            → IfErr result (λ fault. fault ≡ Failure.Memory → HasAtMostTold P.promise arguments
             (I.remaining input.old) O.contents out.old out.new) }
         ensures begun { (arguments : List Text) → AskBy P.promise arguments matches.now options
             → OnErr result ((out.new ≡ out.old) ⊎ (HasTold P.promise arguments
@@ -308,12 +308,12 @@ where
             × IsPrinted P.promise arguments (I.remaining input.old)
             answer.found answer.refused (told ++ answer.text.items)) }
         ensures refused { (arguments : List Text) → AskBy P.promise arguments matches.now options
-            → IfErr result (λ fault. (error : P.Refusal) → fault ≡ Fault.Refused error
+            → IfErr result (λ fault. (error : P.Refusal) → fault ≡ Failure.Refused error
             → MayRefuse P.promise arguments (I.remaining input.old)) }
         ensures faulty { (arguments : List Text) → AskBy P.promise arguments matches.now options
-            → IfErr result (λ fault. (found : P.Finding) → fault ≡ Fault.Found found
+            → IfErr result (λ fault. (found : P.Finding) → fault ≡ Failure.Found found
             → MayFind P.promise arguments (I.remaining input.old)) }
-        ensures own { IfErr result (λ fault. fault ≢ Fault.Arguments) }
+        ensures own { IfErr result (λ fault. fault ≢ Failure.Arguments) }
         ensures unsaid { (arguments : List Text) → AskBy P.promise arguments matches.now options
             → (Warns P.promise arguments → ⊥)
             → IfOk result (λ answer. answer.warnings.items ≡ []) }
@@ -393,11 +393,11 @@ fn invoked<'a, P: Program>(
 fn show<E: Debug + Display + Drop, F: Debug + Display + Drop, W: Write>(
     help: &Error,
     out: &mut W,
-) -> Result<(), Fault<E, F>>
-    ensures { IfErr result (λ fault. fault ≡ Fault.Writing) }
+) -> Result<(), Failure<E, F>>
+    ensures { IfErr result (λ fault. fault ≡ Failure.Writing) }
 {
     if write!(out, "{help}").is_err() || out.flush().is_err() {
-        return Err(Fault::Writing);
+        return Err(Failure::Writing);
     }
     Ok(())
 }

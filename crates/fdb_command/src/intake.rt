@@ -10,8 +10,8 @@ ghost use Rattle.fdb_command.specs.Output.{TakesAny};
 ghost use Rattle.fdb_command.specs.private.Taking.{IsFailure, IsPut, IsTaken, MayStop, StopsAt};
 ghost use Rattle.fdb_command.specs.private.Taking.{TakesOn, TellsLast, TellsOn};
 
-use crate::fault::Fault;
-use crate::input::{InputFault, read_piece};
+use crate::failure::{Failure, unread};
+use crate::input::read_piece;
 use crate::output::{warn, write_flushed};
 use crate::program::{Program, Told};
 use std::alloc::Global;
@@ -58,7 +58,7 @@ impl<P: Program, R: Files + Clock> Taker<'_, P, R> {
         input: &mut I,
         out: &mut O,
         err: &mut E,
-    ) -> Result<P::Intake, Fault<P::Refusal, P::Finding>>
+    ) -> Result<P::Intake, Failure<P::Refusal, P::Finding>>
         ensures all { IfOk result (IsTaken P.promise self.now.options.now
             (option_map (λ path. path.now) file.entry) (I.remaining input.old)
             O.contents out.old out.new) }
@@ -87,7 +87,7 @@ impl<P: Program, R: Files + Clock> Taker<'_, P, R> {
         opened: io::Result<F>,
         out: &mut O,
         err: &mut E,
-    ) -> Result<P::Intake, Fault<P::Refusal, P::Finding>>
+    ) -> Result<P::Intake, Failure<P::Refusal, P::Finding>>
         ensures all { IfOk opened (λ file. IfOk result (IsTaken P.promise
             self.now.options.now None (F.remaining file) O.contents out.old out.new)) }
         ensures stops { IfOk opened (λ file. IfErr result (λ fault. IsFailure fault
@@ -97,16 +97,14 @@ impl<P: Program, R: Files + Clock> Taker<'_, P, R> {
             (O.contents out.old) (O.contents out.new))) }
         ensures untouched { OnErr opened (out.new ≡ out.old) }
         ensures unopened { IfErr opened (λ error. IsErrAnd result (λ fault.
-            (cause : _) × IsCauseOf error cause
-            × (cause ≡ InputFault.Reading → fault ≡ Fault.Reading)
-            × (cause ≡ InputFault.Memory → fault ≡ Fault.Memory))) }
+            IsCauseOf error fault)) }
         ensures quiet { (arguments : List Text) → P.promise.asks arguments self.now.options.now
             → P.promise.tells arguments ≡ false → P.promise.warns arguments ≡ false
             → err.new ≡ err.old }
     {
         match opened {
             Ok(mut file) => self.take_all(&mut file, out, err),
-            Err(error) => Err(Fault::from(InputFault::from(error))),
+            Err(error) => Err(unread(error)),
         }
     }
 
@@ -117,7 +115,7 @@ impl<P: Program, R: Files + Clock> Taker<'_, P, R> {
         input: &mut I,
         out: &mut O,
         err: &mut E,
-    ) -> Result<P::Intake, Fault<P::Refusal, P::Finding>>
+    ) -> Result<P::Intake, Failure<P::Refusal, P::Finding>>
         ensures all { IfOk result (IsTaken P.promise self.now.options.now None
             (I.remaining input.old) O.contents out.old out.new) }
         ensures stops { IfErr result (λ fault. IsFailure fault
@@ -133,7 +131,7 @@ impl<P: Program, R: Files + Clock> Taker<'_, P, R> {
     {
         let mut room = Vec::new(self.alloc);
         if room.resize(PIECE, 0).is_err() {
-            return Err(Fault::Memory);
+            return Err(Failure::Memory);
         }
         let room = room.as_mut_slice();
         let most = self.program.most();
@@ -146,17 +144,18 @@ impl<P: Program, R: Files + Clock> Taker<'_, P, R> {
             let piece = self.take_piece(intake, input, &mut room[..asked])?;
             let count = piece.count as u64;
             if count > most - read {
-                return Err(Fault::Reading);
+                return Err(Failure::Reading);
             }
             read += count;
             if piece.is_last {
                 self.tell_end(&piece.intake, read, err);
-                return Ok(piece.intake);
+                let last = self.write_told(piece.intake, true, out, err)?;
+                return Ok(last);
             }
             self.tell_stride(&piece.intake, read, count, err);
             intake = self.tell_piece(piece, asked, out, err)?;
         }
-        Err(Fault::Reading)
+        Err(Failure::Reading)
     }
 
     /// Reads once, into the room, and has the program take what came.
@@ -165,7 +164,7 @@ impl<P: Program, R: Files + Clock> Taker<'_, P, R> {
         intake: P::Intake,
         input: &mut I,
         room: &mut [u8],
-    ) -> Result<Piece<P::Intake>, Fault<P::Refusal, P::Finding>>
+    ) -> Result<Piece<P::Intake>, Failure<P::Refusal, P::Finding>>
         requires { 0 < length room.old }
         ensures taken { IfOk result (λ piece. (piece.count ≤ length room.old)
             × TakesOn P.promise intake piece.intake piece.count
@@ -205,14 +204,14 @@ impl<P: Program, R: Files + Clock> Taker<'_, P, R> {
         asked: usize,
         out: &mut O,
         err: &mut E,
-    ) -> Result<P::Intake, Fault<P::Refusal, P::Finding>>
+    ) -> Result<P::Intake, Failure<P::Refusal, P::Finding>>
         ensures told { IfOk result (TellsOn P.promise self.now.options.now piece.intake
             O.contents out.old out.new) }
         ensures begun { OnErr result ((out.new ≡ out.old)
             ⊎ TellsLast P.promise self.now.options.now piece.intake
             (O.contents out.old) (O.contents out.new)) }
         ensures stops { IfErr result
-            (λ fault. (fault ≡ Fault.Memory) ⊎ (fault ≡ Fault.Writing)) }
+            (λ fault. (fault ≡ Failure.Memory) ⊎ (fault ≡ Failure.Writing)) }
         ensures quiet { (arguments : List Text) → P.promise.asks arguments self.now.options.now
             → P.promise.warns arguments ≡ false → err.new ≡ err.old }
     {
@@ -223,21 +222,21 @@ impl<P: Program, R: Files + Clock> Taker<'_, P, R> {
     }
 
     /// Has the program tell of what it has taken, and writes that: what it leaves out to `err`, and
-    /// the text to `out`, whole, which is then flushed.
+    /// the text to `out`, whole, which is then flushed. Then has it keep what it is to keep.
     fn write_told<O: Write, E: Write>(
         &self,
         intake: P::Intake,
         is_idle: bool,
         out: &mut O,
         err: &mut E,
-    ) -> Result<P::Intake, Fault<P::Refusal, P::Finding>>
+    ) -> Result<P::Intake, Failure<P::Refusal, P::Finding>>
         ensures told { IfOk result (TellsOn P.promise self.now.options.now intake
             O.contents out.old out.new) }
         ensures begun { OnErr result ((out.new ≡ out.old)
             ⊎ TellsLast P.promise self.now.options.now intake
             (O.contents out.old) (O.contents out.new)) }
         ensures stops { IfErr result
-            (λ fault. (fault ≡ Fault.Memory) ⊎ (fault ≡ Fault.Writing)) }
+            (λ fault. (fault ≡ Failure.Memory) ⊎ (fault ≡ Failure.Writing)) }
         ensures quiet { (arguments : List Text) → P.promise.asks arguments self.now.options.now
             → P.promise.warns arguments ≡ false → err.new ≡ err.old }
     {
@@ -245,7 +244,8 @@ impl<P: Program, R: Files + Clock> Taker<'_, P, R> {
             .program
             .tell(self.rt, self.alloc, self.options, intake, is_idle)?;
         warn(&told.warnings, err);
-        put_told(told, out)
+        let intake = put_told(told, out)?;
+        self.program.keep(self.rt, self.alloc, self.options, intake)
     }
 
     /// Tells how far the input has been read, where the last of these bytes end a stride.
@@ -285,15 +285,15 @@ impl<P: Program, R: Files + Clock> Taker<'_, P, R> {
 fn put_told<T: Drop, E: Debug + Display + Drop, F: Debug + Display + Drop, W: Write>(
     told: Told<T>,
     out: &mut W,
-) -> Result<T, Fault<E, F>>
+) -> Result<T, Failure<E, F>>
     ensures ok { IfOk result (λ intake. (intake ≡ told.intake)
         × IsPut W.contents told.text.items out.old out.new) }
     ensures begun { OnErr result ((0 < length told.text.items)
         × TakesAny told.text.items (W.contents out.old) (W.contents out.new)) }
-    ensures kind { IfErr result (λ fault. fault ≡ Fault.Writing) }
+    ensures kind { IfErr result (λ fault. fault ≡ Failure.Writing) }
 {
-    if !told.text.is_empty() {
-        write_flushed(out, &told.text)?;
+    if !told.text.is_empty() && write_flushed(out, &told.text).is_err() {
+        return Err(Failure::Writing);
     }
     Ok(told.intake)
 }

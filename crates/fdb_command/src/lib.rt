@@ -6,7 +6,7 @@
 mod arguments;
 mod driving;
 mod ending;
-mod fault;
+mod failure;
 mod input;
 mod intake;
 mod output;
@@ -17,6 +17,6 @@ pub use arguments::{
     number_argument,
 };
 pub use driving::drive;
-pub use fault::Fault;
-pub use output::{OutputFault, write_whole};
-pub use program::{Answer, Program, Told};
+pub use failure::Failure;
+pub use output::write_whole;
+pub use program::{Output, Program, Told};

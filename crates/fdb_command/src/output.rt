@@ -1,23 +1,18 @@
 //! All of some bytes, to a writer that may take them in parts.
 
 ghost use Rattle.std.specs.Prelude.{◌≡◌, ◌≢◌, ◌<◌, ◌≤◌, [], OnOk, OnErr, IfOk, IfErr, Ok, Err};
+ghost use Rattle.std.specs.Prelude.{IsErrAnd};
 ghost use Rattle.std.specs.Prelude.{length, take};
 ghost use Rattle.std.specs.Io.KnownBytes.{Appends, Keeps};
 ghost use Rattle.std.specs.IoError.{error_kind};
 ghost use Rattle.fdb_command.specs.Output.{TakesAny, TakesSome};
 
 use std::io;
-use std::io::{ErrorKind, Write};
+use std::io::{Error, ErrorKind, Write};
 
-/// Why bytes were not written: any error of the writer but an interruption, or a write that took
-/// none.
-#[derive(Clone, Copy, Debug, PartialEq, Eq)]
-pub enum OutputFault {
-    Writing,
-}
-
-/// Writes all of these bytes. A writer that fails is not called again.
-pub fn write_whole<W: Write>(writer: &mut W, lines: &[u8]) -> Result<(), OutputFault>
+/// Writes all of these bytes. A writer that fails is not called again: any error is one but an
+/// interruption, and so is a write that takes none.
+pub fn write_whole<W: Write>(writer: &mut W, lines: &[u8]) -> io::Result<()>
     ensures ok { OnOk result (Appends (W.contents writer.old) (W.contents writer.new) lines.now) }
     ensures cut { OnErr result
         (TakesSome lines.now (W.contents writer.old) (W.contents writer.new)) }
@@ -34,20 +29,17 @@ pub fn write_whole<W: Write>(writer: &mut W, lines: &[u8]) -> Result<(), OutputF
         }
         rest = &rest[count..];
     }
-    Err(OutputFault::Writing)
+    Err(Error::from(ErrorKind::Interrupted))
 }
 
 /// Writes all of these bytes, and flushes them.
-pub(crate) fn write_flushed<W: Write>(writer: &mut W, lines: &[u8]) -> Result<(), OutputFault>
+pub(crate) fn write_flushed<W: Write>(writer: &mut W, lines: &[u8]) -> io::Result<()>
     ensures ok { OnOk result (Appends (W.contents writer.old) (W.contents writer.new) lines.now) }
     ensures begun { OnErr result
         (TakesAny lines.now (W.contents writer.old) (W.contents writer.new)) }
 {
     write_whole(writer, lines)?;
-    match writer.flush() {
-        Ok(()) => Ok(()),
-        Err(_) => Err(OutputFault::Writing),
-    }
+    writer.flush()
 }
 
 /// Writes lines, if there are some. Where they cannot be written, nothing changes.
@@ -61,7 +53,7 @@ pub(crate) fn warn<W: Write>(lines: &[u8], err: &mut W)
 
 /// Writes once, and answers how many of the bytes the writer
 /// took, which is none where it was interrupted.
-fn write_once<W: Write>(writer: &mut W, bytes: &[u8]) -> Result<usize, OutputFault>
+fn write_once<W: Write>(writer: &mut W, bytes: &[u8]) -> io::Result<usize>
     ensures bound { IfOk result (λ count. count ≤ length bytes.now) }
     ensures ok { IfOk result
         (λ count. Appends (W.contents writer.old) (W.contents writer.new) (take count bytes.now)) }
@@ -72,18 +64,19 @@ fn write_once<W: Write>(writer: &mut W, bytes: &[u8]) -> Result<usize, OutputFau
 
 /// How many bytes a write took, which is none where it was interrupted, and is
 /// to be tried again. A writer that takes nothing without an error has failed.
-fn count_written(written: io::Result<usize>) -> Result<usize, OutputFault>
+fn count_written(written: io::Result<usize>) -> io::Result<usize>
     ensures some { IfOk written (λ count. 0 < count → result ≡ Ok count) }
-    ensures none { IfOk written (λ count. count ≡ 0 → result ≡ Err OutputFault.Writing) }
+    ensures none { IfOk written (λ count. count ≡ 0
+        → IsErrAnd result (λ error. error_kind error ≡ ErrorKind.WriteZero)) }
     ensures interrupted { IfErr written (λ error. error_kind error ≡ ErrorKind.Interrupted
         → result ≡ Ok 0) }
     ensures failed { IfErr written (λ error. error_kind error ≢ ErrorKind.Interrupted
-        → result ≡ Err OutputFault.Writing) }
+        → result ≡ Err error) }
 {
     match written {
-        Ok(0) => Err(OutputFault::Writing),
+        Ok(0) => Err(Error::from(ErrorKind::WriteZero)),
         Ok(count) => Ok(count),
         Err(error) if error.kind() == ErrorKind::Interrupted => Ok(0),
-        Err(_) => Err(OutputFault::Writing),
+        Err(error) => Err(error),
     }
 }

@@ -7,7 +7,7 @@ ghost use Rattle.fdb_command.specs.Arguments.{AreMatches};
 ghost use Rattle.fdb_command.specs.Driving.{Promise, Stops};
 
 use crate::arguments::ArgumentsFault;
-use crate::fault::Fault;
+use crate::failure::Failure;
 use clap::{ArgMatches, Command};
 use std::alloc::{AllocError, Global};
 use std::fmt::{Debug, Display};
@@ -16,7 +16,7 @@ use std::time::Clock;
 
 /// What a program makes of its input.
 #[derive(Debug, Drop)]
-pub struct Answer<E: Debug + Display + Drop, F: Debug + Display + Drop> {
+pub struct Output<E: Debug + Display + Drop, F: Debug + Display + Drop> {
     /// What is written to the output, whole, behind what was told, also where a fault was found.
     pub text: Vec<u8>,
     /// Whole lines for standard error, in front of the text. Where they cannot be written, nothing
@@ -93,11 +93,10 @@ pub trait Program {
         rt: &R,
         alloc: Global,
         options: &Self::Options,
-    ) -> Result<Self::Intake, Fault<Self::Refusal, Self::Finding>>
+    ) -> Result<Self::Intake, Failure<Self::Refusal, Self::Finding>>
         ensures taken { IfOk result (λ intake. promise.taken options.now intake [] []) }
-        ensures stops { IfErr result (λ fault. (fault ≡ Fault.Reading)
-            ⊎ ((arguments : List Text) (bytes : List ℕ) → promise.asks arguments options.now
-            → Stops promise arguments bytes fault)) };
+        ensures stops { IfErr result (λ fault. (arguments : List Text) (bytes : List ℕ)
+            → promise.asks arguments options.now → Stops promise arguments bytes fault) };
 
     /// Takes the next bytes, by what the flags say that the intake was begun with. An error is a
     /// refusal or a fault that holds whatever bytes come after these, or that memory was refused.
@@ -105,7 +104,7 @@ pub trait Program {
         &self,
         intake: Self::Intake,
         bytes: &[u8],
-    ) -> Result<Self::Intake, Fault<Self::Refusal, Self::Finding>>
+    ) -> Result<Self::Intake, Failure<Self::Refusal, Self::Finding>>
         ensures taken { IfOk result (λ next. (options : Self.Options) (before told : List ℕ)
             → promise.taken options intake before told
             → promise.taken options next (before ++ bytes.now) told) }
@@ -125,21 +124,40 @@ pub trait Program {
         options: &Self::Options,
         intake: Self::Intake,
         is_idle: bool,
-    ) -> Result<Told<Self::Intake>, Fault<Self::Refusal, Self::Finding>>
+    ) -> Result<Told<Self::Intake>, Failure<Self::Refusal, Self::Finding>>
         ensures told { IfOk result (λ it. (before told : List ℕ)
             → promise.taken options.now intake before told
             → promise.taken options.now it.intake before (told ++ it.text.items)) }
         ensures quiet { IfOk result (λ it. (arguments : List Text)
             → promise.asks arguments options.now → promise.warns arguments ≡ false
             → it.warnings.items ≡ []) }
-        ensures stops { IfErr result
-            (λ fault. (fault ≡ Fault.Memory) ⊎ (fault ≡ Fault.Writing)) }
+        ensures stops { IfErr result (λ fault. fault ≡ Failure.Memory) }
     {
         Ok(Told {
             intake,
             text: Vec::new(alloc),
             warnings: Vec::new(alloc),
         })
+    }
+
+    /// Keeps elsewhere what the program is to go on from later, where it does. It is called when what
+    /// was told has been written and flushed, before more is read. A program that leaves this out
+    /// keeps nothing.
+    fn keep<R: Files + Clock>(
+        &self,
+        rt: &R,
+        alloc: Global,
+        options: &Self::Options,
+        intake: Self::Intake,
+    ) -> Result<Self::Intake, Failure<Self::Refusal, Self::Finding>>
+        ensures taken { IfOk result (λ next. (before told : List ℕ)
+            → promise.taken options.now intake before told
+            → promise.taken options.now next before told) }
+        ensures stops { IfErr result (λ fault. (fault ≡ Failure.Memory) ⊎ ((fault ≡ Failure.Writing)
+            × ((arguments : List Text) → promise.asks arguments options.now
+            → promise.keeps arguments ≡ true))) }
+    {
+        Ok(intake)
     }
 
     /// How many calls the intake has, where the arguments ask that progress is told.

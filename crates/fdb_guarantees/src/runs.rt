@@ -1,8 +1,10 @@
 //! Over whole runs, of a workload and of a script.
 
-ghost use Rattle.std.specs.Prelude.{◌≡◌, ◌+◌, ◌*◌, ◌<◌, ◌≤◌, ℕ, IfOk, Some, slice_get, take};
+ghost use Rattle.std.specs.Prelude.{◌≡◌, ◌+◌, ◌*◌, ◌<◌, ◌≤◌, ℕ, IfOk, List, Some, slice_get, take};
+ghost use Rattle.fdb_client.specs.Account.{Account};
 ghost use Rattle.fdb_client.specs.Cluster.{IsClusterConfig};
 ghost use Rattle.fdb_client.specs.Merging.{chain_in};
+ghost use Rattle.fdb_client.specs.Settling.{logs_of};
 ghost use Rattle.fdb_client.specs.declared.cluster.TheConstants.{MAX_GRV_PROXIES};
 ghost use Rattle.fdb_history.specs.Event.{positions_from, register_after};
 ghost use Rattle.fdb_history.specs.Faults.{Nowhere};
@@ -18,8 +20,8 @@ use std::alloc::{AllocError, Global};
 use std::sync::Wait;
 use std::thread::Threads;
 
-/// Whatever a workload does, one history of the register explains what its clients were answered,
-/// and no answer is stray: each commit version was issued to the one call that drew it.
+/// Whatever a workload does, one history of the register explains what the clients that it leaves
+/// were answered, and no answer is stray: each commit version was issued to the one call that drew it.
 pub fn run_whole<R: Threads + Wait + Sync, W: Workload<R> + Drop>(
     rt: &R,
     alloc: Global,
@@ -27,6 +29,9 @@ pub fn run_whole<R: Threads + Wait + Sync, W: Workload<R> + Drop>(
     workload: W,
 ) -> Result<(WorkloadOutcome<W::Output>, Result<History, AllocError>), FinishError>
     requires { IsClusterConfig config }
+    ensures gives { IfOk result (λ ran. (left : List Account)
+        × W.gives workload config.entry left ran.0.output
+        × (ran.0.run.logs.items ≡ logs_of left)) }
     ensures linear { IfOk result (λ left. IfOk left.1 (λ history.
         IsLinear config.entry.start left.0.run.logs.items history.events)) }
     ensures justified { IfOk result (λ left. Nowhere (IsStray

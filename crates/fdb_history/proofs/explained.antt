@@ -1,4 +1,2 @@
 pub mod Stamps
-pub mod Clients
-pub mod Changes
 pub mod NoFault

@@ -1,8 +1,7 @@
-pub mod Blocks
 pub mod Grouped
 pub mod Ranks
-pub mod Changes
 pub mod Logs
 pub mod Legal
+pub mod Counted
 pub mod Explained
 pub mod Sorted

@@ -1,7 +1,7 @@
 //! The events of a history: what the register was told, and what it answered.
 
 ghost use Rattle.std.specs.Prelude.{◌≡◌};
-ghost use Rattle.fdb_history.specs.Event.{is_change, register_after};
+ghost use Rattle.fdb_history.specs.Event.{is_change};
 
 use crate::register::Record;
 use crate::sequence::Sequence;
@@ -53,21 +53,4 @@ impl Event {
     {
         matches!(self, Event::Report { changed: true, .. })
     }
-}
-
-/// The record after the events: each report makes it what `Record::after_report` says, and reads
-/// change nothing.
-///
-/// It takes the reports as they come, and asks nothing of
-/// the flags and the records that the events claim.
-pub fn register_after(start: Record, events: &[Event]) -> Record
-    ensures { result ≡ register_after start events.now }
-{
-    let mut current = start;
-    for event in events {
-        if let Event::Report { rec, .. } = event {
-            current = current.after_report(*rec);
-        }
-    }
-    current
 }

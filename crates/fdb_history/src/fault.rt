@@ -56,7 +56,7 @@ impl fmt::Display for AuditFault {
             AuditFault::NotAbove { client, call } => ("NotAbove", client, call),
             AuditFault::Clash { position } => return write!(f, "Clash {position}"),
             AuditFault::Gap { position } => return write!(f, "Gap {position}"),
-            AuditFault::Memory => return f.write_str("want of memory"),
+            AuditFault::Memory => return f.write_str("out of memory"),
         };
         write!(f, "{name} {client} {call}")
     }

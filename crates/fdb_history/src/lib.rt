@@ -23,12 +23,12 @@ mod service;
 
 pub use auditing::{audit, history_of};
 pub use chain::{Ask, Issued, MAX_STEP};
-pub use event::{Event, History, register_after};
+pub use event::{Event, History};
 pub use fault::AuditFault;
 pub use gate::{Gate, OpenGate, Place};
 pub use grv::{GrvOpts, Priority, Tag, TagLimit};
 pub use log::{Call, CallAnswer, ClientLog, Input, Refusal};
-pub use register::{MAX_VERSION, Record};
+pub use register::{MAX_VERSION, Record, register_after};
 pub use replies::Replies;
 pub use sequence::Sequence;
 pub use service::Service;

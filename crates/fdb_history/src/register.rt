@@ -1,8 +1,10 @@
 //! The live committed version as a register, and what it is after a list of events.
 
 ghost use Rattle.std.specs.Prelude.{◌≡◌};
+ghost use Rattle.fdb_history.specs.Event.{register_after};
 ghost use Rattle.fdb_history.specs.Register.{after_report, changes, raises, version_for};
 
+use crate::event::Event;
 use std::fmt;
 
 /// The greatest version: FoundationDB's versions are signed
@@ -71,6 +73,23 @@ impl Record {
             self.version
         }
     }
+}
+
+/// The record after the events: each report makes it what `Record::after_report` says, and reads
+/// change nothing.
+///
+/// It takes the reports as they come, and asks nothing of
+/// the flags and the records that the events claim.
+pub fn register_after(start: Record, events: &[Event]) -> Record
+    ensures { result ≡ register_after start events.now }
+{
+    let mut current = start;
+    for event in events {
+        if let Event::Report { rec, .. } = event {
+            current = current.after_report(*rec);
+        }
+    }
+    current
 }
 
 /// The twenty hexadecimal digits of a metadata version, in lower case.

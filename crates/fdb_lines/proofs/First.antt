@@ -9,18 +9,18 @@ use Rattle.fdb_lines.specs.declared.end.End.{End}
 use Rattle.fdb_lines.specs.declared.fault.Fault.{Fault}
 use Rattle.fdb_lines.specs.declared.fault.Fault.TheVariants.{Order, Wrong, NotAbove, Twice, Stray}
 use Rattle.fdb_lines.specs.declared.line.Line.{Line}
-use Rattle.fdb_lines.specs.declared.seen.Seen.{Seen}
+use Rattle.fdb_lines.specs.declared.exposure.Exposure.{Exposure}
 use Rattle.fdb_lines.specs.Before.{ended}
 use Rattle.fdb_lines.specs.Late.{is_outdated, IsFirstThat}
 use Rattle.fdb_lines.specs.Lines.{line_at}
-use Rattle.fdb_lines.specs.private.Ends.{Moment, comes_by, end_at, end_key, no_end, AreNewest, IsNewestAt}
+use Rattle.fdb_lines.specs.private.EndTable.{Moment, comes_by, end_at, end_key, no_end, AreNewest, IsNewestAt}
 use Rattle.fdb_lines.specs.private.Known.{counts_at, had_ended, moment, stands_in, version_in, AreEnds}
 use Rattle.fdb_lines.specs.private.Late.{outdates_by, IsFirstEnd}
 use Rattle.fdb_lines.proofs.Entries.{entry, entry_for}
 
 -- ---- the entries of a table of all
 
-abbrev pub IsOf : Seen → List Line → ℕ → End → Type 0
+abbrev pub IsOf : Exposure → List Line → ℕ → End → Type 0
 IsOf seen lines n end =
     (end.place < n) × (end.group ≡ 0) × (counts_at seen lines end.place ≡ true) × (ended (line_at lines end.place) ≡ Some end.time)
     × (end.version ≡ version_in lines end.place)
@@ -42,7 +42,7 @@ time_is end counts (Some t) same =
     let time : t ≡ end.time = omega arith in
     (group, is, ap (λ (m : ℕ). Some m) time)
 
-pub end_is : (seen : Seen) (lines : List Line) (n : ℕ) (ends : List End) → AreEnds false seen lines n ends → (i : ℕ) → i < length ends → IsOf seen lines n (end_at ends i)
+pub end_is : (seen : Exposure) (lines : List Line) (n : ℕ) (ends : List End) → AreEnds false seen lines n ends → (i : ℕ) → i < length ends → IsOf seen lines n (end_at ends i)
 end_is seen lines n ends are i lt =
     let is = entry _ _ _ _ _ n ends no_end are i lt in
     let end = end_at ends i in
@@ -50,7 +50,7 @@ end_is seen lines n ends are i lt =
     (is.0, time.0, time.1, time.2, is.1)
 
 -- each line that lets its version be known and ended has an entry
-pub end_for : (seen : Seen) (lines : List Line) (n : ℕ) (ends : List End) → AreEnds false seen lines n ends → (j time : ℕ) → j < n → counts_at seen lines j ≡ true
+pub end_for : (seen : Exposure) (lines : List Line) (n : ℕ) (ends : List End) → AreEnds false seen lines n ends → (j time : ℕ) → j < n → counts_at seen lines j ≡ true
     → ended (line_at lines j) ≡ Some time → (i : ℕ) × (i < length ends) × ((end_at ends i).place ≡ j)
 end_for seen lines n ends are j time lt counts end =
     let passes : stands_in false seen (line_at lines j) j (moment 0 (time + 1) 0) ≡ true = rw (counts, end) (grind (arith, nat_tests)) in
@@ -126,7 +126,7 @@ time_below : (one other : End) → one.group ≡ 0 → other.group ≡ 0 → end
 time_below one other a b le = grind (arith, one.fits, other.fits)
 
 -- the first line that outdates a version
-pub first_is : (fault : Fault) (seen : Seen) (lines : List Line) (ends : List End) (v front : ℕ) → IsNonDecreasingBy end_key ends → AreEnds false seen lines (length lines) ends
+pub first_is : (fault : Fault) (seen : Exposure) (lines : List Line) (ends : List End) (v front : ℕ) → IsNonDecreasingBy end_key ends → AreEnds false seen lines (length lines) ends
     → BehindBefore ends fault v front → (front < length ends → is_outdated fault v (end_at ends front).version ≡ true)
     → front < length ends → IsFirstThat (outdates_by fault seen lines v) lines (end_at ends front).place (end_at ends front).time
 first_is fault seen lines ends v front sorted are below above lt =
@@ -147,7 +147,7 @@ first_is fault seen lines ends v front sorted are below above lt =
           omega arith;
     }
 
-pub none_is : (fault : Fault) (seen : Seen) (lines : List Line) (ends : List End) (v front : ℕ) → AreEnds false seen lines (length lines) ends
+pub none_is : (fault : Fault) (seen : Exposure) (lines : List Line) (ends : List End) (v front : ℕ) → AreEnds false seen lines (length lines) ends
     → BehindBefore ends fault v front → length ends ≤ front → IsFirstEnd (outdates_by fault seen lines v) lines None
 none_is fault seen lines ends v front are below past j lt shown = by (ended (line_at lines j)) refl
   where
@@ -164,10 +164,10 @@ none_is fault seen lines ends v front are below past j lt shown = by (ended (lin
 
 -- ---- the search
 
-pub one_group : (seen : Seen) (lines : List Line) (ends : List End) → AreEnds false seen lines (length lines) ends → OneGroup ends
+pub one_group : (seen : Exposure) (lines : List Line) (ends : List End) → AreEnds false seen lines (length lines) ends → OneGroup ends
 one_group seen lines ends are i lt = (end_is seen lines (length lines) ends are i lt).1
 
-pub found_first : (fault : Fault) (seen : Seen) (lines : List Line) (ends : List End) (newest : List ℕ) (v front : ℕ) (end : End) → IsNonDecreasingBy end_key ends → AreNewest ends newest
+pub found_first : (fault : Fault) (seen : Exposure) (lines : List Line) (ends : List End) (newest : List ℕ) (v front : ℕ) (end : End) → IsNonDecreasingBy end_key ends → AreNewest ends newest
     → AreEnds false seen lines (length lines) ends → IsPoint ends newest fault v front → front < length ends → end ≡ get_or ends front end
     → IsFirstEnd (outdates_by fault seen lines v) lines (Some end)
 found_first fault seen lines ends newest v front end sorted settled are point lt is =
@@ -175,7 +175,7 @@ found_first fault seen lines ends newest v front end sorted settled are point lt
     let at : end_at ends front ≡ end = get_or_default ends front no_end end lt ∙ sym is in
     subst (λ (e : End). IsFirstThat (outdates_by fault seen lines v) lines e.place e.time) at (first_is fault seen lines ends v front sorted are first.0 first.1 lt)
 
-pub found_none : (fault : Fault) (seen : Seen) (lines : List Line) (ends : List End) (newest : List ℕ) (v front : ℕ) → AreNewest ends newest
+pub found_none : (fault : Fault) (seen : Exposure) (lines : List Line) (ends : List End) (newest : List ℕ) (v front : ℕ) → AreNewest ends newest
     → AreEnds false seen lines (length lines) ends → IsPoint ends newest fault v front → length ends ≤ front → IsFirstEnd (outdates_by fault seen lines v) lines None
 found_none fault seen lines ends newest v front settled are point past =
     none_is fault seen lines ends v front are (first_in ends newest fault front v settled (one_group seen lines ends are) point).0 past

@@ -6,13 +6,13 @@ use Rattle.fdb_lines.specs.declared.line.Line.{Line}
 use Rattle.fdb_lines.specs.declared.reason.Means.{Means}
 use Rattle.fdb_lines.specs.declared.reason.Means.TheVariants.{Own}
 use Rattle.fdb_lines.specs.declared.reason.Witness.{Witness}
-use Rattle.fdb_lines.specs.declared.seen.Seen.{Seen}
+use Rattle.fdb_lines.specs.declared.exposure.Exposure.{Exposure}
 use Rattle.fdb_lines.specs.Before.{is_of, has_heard, one_client, by_telling}
 use Rattle.fdb_lines.specs.Before.{heard_by as heard_at}
 use Rattle.fdb_lines.specs.Lines.{line_at, kind_of, is_learn, teller_of}
 use Rattle.fdb_lines.specs.Reasons.{IsMeans}
 use Rattle.fdb_lines.specs.private.Known.{counts_at, newer, version_in, lets_know, IsKnownBy, KnowsOf}
-use Rattle.fdb_lines.specs.private.Seen.{counts}
+use Rattle.fdb_lines.specs.private.Exposure.{counts}
 use Rattle.fdb_lines.specs.private.Telling.{gained, heard_by, learnt_by, IsHeard, IsHeardAs}
 use Rattle.fdb_lines.proofs.Knowing.{as_well, newer_is}
 
@@ -28,18 +28,18 @@ of_one a o e = grind (arith, nat_tests)
 abbrev IsOf : List Line → ℕ → ℕ → Witness → Type 0
 IsOf lines n a by = IsHeardAs lines n a by.line by.means
 
-abbrev new : Seen → List Line → ℕ → ℕ → Bool
+abbrev new : Exposure → List Line → ℕ → ℕ → Bool
 new seen lines k j =
     (k == j || (is_learn (kind_of (line_at lines k).call) && has_heard lines k (teller_of (line_at lines k).call) j)) && counts_at seen lines j
 
--- a line that learns lets hear of what its teller has heard of
-learns_new : (seen : Seen) (lines : List Line) (k j : ℕ) → is_learn (kind_of (line_at lines k).call) ≡ true
+-- a line that learns lets learn of what its teller has heard of
+learns_new : (seen : Exposure) (lines : List Line) (k j : ℕ) → is_learn (kind_of (line_at lines k).call) ≡ true
     → (has_heard lines k (teller_of (line_at lines k).call) j && counts_at seen lines j) ≡ new seen lines k j
 learns_new seen lines k j does =
     let own = λ (e : k ≡ j). ap (counts_at seen lines) e in
     grind (arith, nat_tests)
 
-learnt_is : (seen : Seen) (lines : List Line) (k a : ℕ) (o : Option Witness) → is_of a (line_at lines k).client ≡ true → is_learn (kind_of (line_at lines k).call) ≡ true
+learnt_is : (seen : Exposure) (lines : List Line) (k a : ℕ) (o : Option Witness) → is_of a (line_at lines k).client ≡ true → is_learn (kind_of (line_at lines k).call) ≡ true
     → IsHeard seen lines k (teller_of (line_at lines k).call) o → IsKnownBy (new seen lines k) (IsOf lines (suc k) a) lines (learnt_by k o)
 learnt_is seen lines k a None of does none = λ j lt. sym (learns_new seen lines k j does) ∙ none j lt
 learnt_is seen lines k a (Some w) of does h = (
@@ -49,8 +49,8 @@ learnt_is seen lines k a (Some w) of does h = (
   λ j lt passes. h.3 j lt (learns_new seen lines k j does ∙ passes),
 )
 
--- what a line lets its client hear of
-gained_is : (seen : Seen) (lines : List Line) (newest : ℕ → Option Witness) (k a : ℕ) → k < length lines → is_of a (line_at lines k).client ≡ true
+-- what a line lets its client learn of
+gained_is : (seen : Exposure) (lines : List Line) (newest : ℕ → Option Witness) (k a : ℕ) → k < length lines → is_of a (line_at lines k).client ≡ true
     → ((p : ℕ) → IsHeard seen lines k p (newest p)) → IsKnownBy (new seen lines k) (IsOf lines (suc k) a) lines (gained seen newest k (line_at lines k).call)
 gained_is seen lines newest k a lt of are = by (is_learn (kind_of (line_at lines k).call)) (counts seen (kind_of (line_at lines k).call)) refl refl
   where
@@ -67,7 +67,7 @@ gained_is seen lines newest k a lt of are = by (is_learn (kind_of (line_at lines
     by false false does_not is = λ j l. let own = λ (e : k ≡ j). ap (counts_at seen lines) e in grind (arith, nat_tests)
 
 -- what each client has heard of by one line more
-pub heard_more : (seen : Seen) (lines : List Line) (newest : ℕ → Option Witness) (k q : ℕ) → k < length lines → ((p : ℕ) → IsHeard seen lines k p (newest p))
+pub heard_more : (seen : Exposure) (lines : List Line) (newest : ℕ → Option Witness) (k q : ℕ) → k < length lines → ((p : ℕ) → IsHeard seen lines k p (newest p))
     → IsHeard seen lines (suc k) q
     (cond (is_of q (line_at lines k).client) (newer lines (newest q) (gained seen newest k (line_at lines k).call)) (newest q))
 heard_more seen lines newest k q lt are =
@@ -92,7 +92,7 @@ heard_more seen lines newest k q lt are =
 means_is : (margin : ℕ) (lines : List Line) (k a j : ℕ) (means : Means) → (line_at lines k).client ≡ Some a → IsHeardAs lines k a j means → IsMeans margin lines j k means
 means_is margin lines k a j means is h = grind arith
 
-pub knows_is : (margin : ℕ) (seen : Seen) (lines : List Line) (newest : ℕ → Option Witness) (k : ℕ) → ((p : ℕ) → IsHeard seen lines k p (newest p))
+pub knows_is : (margin : ℕ) (seen : Exposure) (lines : List Line) (newest : ℕ → Option Witness) (k : ℕ) → ((p : ℕ) → IsHeard seen lines k p (newest p))
     → KnowsOf (lets_know (by_telling lines) seen lines) margin lines k (heard_by newest (line_at lines k).client)
 knows_is margin seen lines newest k are = by (line_at lines k).client refl
   where

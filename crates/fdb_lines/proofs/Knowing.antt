@@ -7,12 +7,12 @@ use Rattle.fdb_lines.specs.declared.line.Line.{Line}
 use Rattle.fdb_lines.specs.declared.reason.Means.{Means}
 use Rattle.fdb_lines.specs.declared.reason.Means.TheVariants.{Ended, Own}
 use Rattle.fdb_lines.specs.declared.reason.Witness.{Witness}
-use Rattle.fdb_lines.specs.declared.seen.Seen.{Seen}
+use Rattle.fdb_lines.specs.declared.exposure.Exposure.{Exposure}
 use Rattle.fdb_lines.specs.Before.{began, ended, one_client, ended_before, by_time}
 use Rattle.fdb_lines.specs.Faults.{greatest_of}
 use Rattle.fdb_lines.specs.Lines.{line_at}
 use Rattle.fdb_lines.specs.Reasons.{IsMeans}
-use Rattle.fdb_lines.specs.private.Ends.{is_earlier}
+use Rattle.fdb_lines.specs.private.EndTable.{is_earlier}
 use Rattle.fdb_lines.specs.private.Entries.{IsNewest}
 use Rattle.fdb_lines.specs.private.Known.{counts_at, had_ended, newer, newest_known, of_all, of_own, of_version, version_by, version_in, witness, lets_know, AreKnownOf, IsFound, IsKnownBy, KnowsOf}
 use Rattle.fdb_lines.proofs.Numbers.{greatest_bound, greatest_least}
@@ -52,7 +52,7 @@ version_is test Is lines (Some by) is =
     omega arith
 
 -- and where that is at most a version, it is the witness of that version
-pub found_is : (before : ℕ → ℕ → Bool) (margin : ℕ) (seen : Seen) (lines : List Line) (k version : ℕ) (o : Option Witness)
+pub found_is : (before : ℕ → ℕ → Bool) (margin : ℕ) (seen : Exposure) (lines : List Line) (k version : ℕ) (o : Option Witness)
     → KnowsOf (lets_know before seen lines) margin lines k o → newest_known before seen lines k ≤ version
     → IsFound before margin seen lines k version (of_version lines version o)
 found_is before margin seen lines k version None none most = λ j lt. let fails = none j lt in grind arith
@@ -87,18 +87,15 @@ pub known_so : (test : ℕ → ℕ → Bool) (margin : ℕ) (lines : List Line) 
 known_so test margin lines k means None so none = none
 known_so test margin lines k means (Some j) so is = (is.0, is.1, so j is.1, is.2)
 
-pub ended_means : (margin : ℕ) (seen : Seen) (lines : List Line) (k j : ℕ) → of_all margin seen lines k j ≡ true → IsMeans margin lines j k Ended
+pub ended_means : (margin : ℕ) (seen : Exposure) (lines : List Line) (k j : ℕ) → of_all margin seen lines k j ≡ true → IsMeans margin lines j k Ended
 ended_means margin seen lines k j is = by (ended (line_at lines j)) refl (and_parts (counts_at seen lines j) _ is).1
   where
     by : (o : Option ℕ) → ended (line_at lines j) ≡ o → had_ended o j (began (line_at lines k) - margin) 0 ≡ true → IsMeans margin lines j k Ended
     by None e had = absurd (both_ways false refl had)
     by (Some end) e had = (end, e, grind (arith, nat_tests))
 
-pub own_means : (margin : ℕ) (seen : Seen) (lines : List Line) (k j : ℕ) → of_own seen lines k j ≡ true → IsMeans margin lines j k Own
+pub own_means : (margin : ℕ) (seen : Exposure) (lines : List Line) (k j : ℕ) → of_own seen lines k j ≡ true → IsMeans margin lines j k Own
 own_means margin seen lines k j is = grind arith
-
-pub none_own : (seen : Seen) (lines : List Line) (k j : ℕ) → (line_at lines k).client ≡ None → of_own seen lines k j ≡ false
-none_own seen lines k j none = grind arith
 
 -- what comes before by time stands in one of the tables
 by_two : (margin j k time end : ℕ) (counts same : Bool)
@@ -106,7 +103,7 @@ by_two : (margin j k time end : ℕ) (counts same : Bool)
     ≡ ((counts && is_earlier end j (time - margin) 0) || (counts && (same && is_earlier end j time k)))
 by_two margin j k time end counts same = grind (arith, nat_tests)
 
-before_is : (margin : ℕ) (seen : Seen) (lines : List Line) (j k : ℕ) (end : Option ℕ)
+before_is : (margin : ℕ) (seen : Exposure) (lines : List Line) (j k : ℕ) (end : Option ℕ)
     → (ended_before margin (nat_lt j k) (line_at lines j) end (line_at lines k) && counts_at seen lines j)
     ≡ ((counts_at seen lines j && had_ended end j (began (line_at lines k) - margin) 0)
     || (counts_at seen lines j && (one_client (line_at lines j).client (line_at lines k).client && had_ended end j (began (line_at lines k)) k)))
@@ -114,7 +111,7 @@ before_is margin seen lines j k None = grind arith
 before_is margin seen lines j k (Some end) =
     by_two margin j k (began (line_at lines k)) end (counts_at seen lines j) (one_client (line_at lines j).client (line_at lines k).client)
 
-pub both_are : (margin : ℕ) (seen : Seen) (lines : List Line) (k : ℕ) (one other : Option Witness)
+pub both_are : (margin : ℕ) (seen : Exposure) (lines : List Line) (k : ℕ) (one other : Option Witness)
     → KnowsOf (of_all margin seen lines) margin lines k one → KnowsOf (of_own seen lines) margin lines k other
     → KnowsOf (lets_know (by_time margin lines) seen lines) margin lines k (newer lines one other)
 both_are margin seen lines k one other is too =

@@ -1,9 +1,9 @@
 -- By how much a call is late in a part that stands for all: as in all, or by more than a horizon and at least by so much.
-use Rattle.std.proofs.Common.{◌≡◌, ◌≢◌, ◌⊎◌, ℕ, ◌+◌, ◌-◌, ◌<◌, ◌≤◌, nat_lt, nat_le, Bool, true, false, ◌&&◌, List, Option, None, Some, length, slice_index, refl, ap, sym, subst, ◌∙◌, inl, inr, arith}
+use Rattle.std.proofs.Common.{◌≡◌, ◌≢◌, ◌⊎◌, ℕ, ◌+◌, ◌-◌, ◌<◌, ◌≤◌, Bool, true, false, List, Option, None, Some, length, slice_index, refl, ap, sym, subst, ◌∙◌, inl, inr, arith}
 use Rattle.std.proofs.lemmas.Bool.{and_from, and_parts, both_ways, cases_lt}
 use Rattle.std.proofs.lemmas.Bool.Decides.{nat_tests}
 use Rattle.std.proofs.lemmas.List.{length-map}
-use Rattle.std.proofs.lemmas.Option.{none-some, same_Some}
+use Rattle.std.proofs.lemmas.Option.{none-some}
 use Rattle.fdb_lines.specs.declared.fault.Fault.{Fault}
 use Rattle.fdb_lines.specs.declared.fault.Fault.TheVariants.{Order, Wrong, NotAbove, Twice, Stray}
 use Rattle.fdb_lines.specs.declared.late.Late.{Late}
@@ -11,14 +11,12 @@ use Rattle.fdb_lines.specs.declared.line.Line.{Line}
 use Rattle.fdb_lines.specs.declared.opts.AuditOpts.{AuditOpts}
 use Rattle.fdb_lines.specs.Audit.{case_of}
 use Rattle.fdb_lines.specs.Before.{began, ended}
-use Rattle.fdb_lines.specs.Carried.{is_past, past_by, with_times, IsCovered, MayGo, StandFor}
+use Rattle.fdb_lines.specs.Carried.{past_by, with_times, IsCovered, MayGo, StandFor}
 use Rattle.fdb_lines.specs.Faults.{stands}
 use Rattle.fdb_lines.specs.Keys.{placed_late}
 use Rattle.fdb_lines.specs.Late.{can_outdate, is_outdated, outdates, IsFirstThat, IsLate, IsLateAt, IsLateAtLeast}
-use Rattle.fdb_lines.specs.Lines.{Kind, Lines, kind_of, line_at, lines_in, shows, version_of}
-use Rattle.fdb_lines.specs.Reasons.{shows_or_draws}
+use Rattle.fdb_lines.specs.Lines.{Kind, Lines, kind_of, line_at, lines_in, version_of}
 use Rattle.fdb_lines.specs.Watching.{is_watched, opts_of}
-use Rattle.fdb_lines.specs.private.Late.{IsFirstEnd}
 use Rattle.fdb_lines.proofs.Above.{not_above_true, order_true}
 use Rattle.fdb_lines.proofs.Carried.{at_part, began_by}
 use Rattle.fdb_lines.proofs.Lateness.{first_is, none_is, own_is}

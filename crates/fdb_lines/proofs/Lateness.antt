@@ -10,7 +10,7 @@ use Rattle.fdb_lines.specs.declared.late.Late.{Late}
 use Rattle.fdb_lines.specs.declared.line.Line.{Line}
 use Rattle.fdb_lines.specs.declared.line.Times.{Times}
 use Rattle.fdb_lines.specs.declared.opts.AuditOpts.{AuditOpts}
-use Rattle.fdb_lines.specs.declared.seen.Seen.TheVariants.{Shown, Drawn}
+use Rattle.fdb_lines.specs.declared.exposure.Exposure.TheVariants.{Shown, Drawn}
 use Rattle.fdb_lines.specs.Audit.{case_of, start_of}
 use Rattle.fdb_lines.specs.Before.{began, by_time, ended, ended_before, ended_of}
 use Rattle.fdb_lines.specs.Carried.{with_times}
@@ -228,18 +228,18 @@ first_of lines one other j end is least = record {
   first = λ i time lt passes at. elim (cases_Bool (one i)) [ inl one_too ↦ is.first i time lt one_too at | inr not_one ↦ least i time lt (grind arith) at ];
 }
 
-turned : (lines : List Line) (one other : ℕ → Bool) (o : Option End) → IsFirstEnd (λ j. other j || one j) lines o → IsFirstEnd (λ j. one j || other j) lines o
-turned lines one other o = same_first lines (λ j. other j || one j) (λ j. one j || other j) o (λ j lt. grind arith)
+stepped : (lines : List Line) (one other : ℕ → Bool) (o : Option End) → IsFirstEnd (λ j. other j || one j) lines o → IsFirstEnd (λ j. one j || other j) lines o
+stepped lines one other o = same_first lines (λ j. other j || one j) (λ j. one j || other j) o (λ j lt. grind arith)
 
 sooner_is : (lines : List Line) (one other : ℕ → Bool) (a b : Option End) → IsFirstEnd one lines a → IsFirstEnd other lines b → IsFirstEnd (λ j. one j || other j) lines (sooner a b)
 sooner_is lines one other None None none none_too = λ j lt passes. elim (cases_Bool (one j)) [ inl is ↦ none j lt is | inr not_one ↦ none_too j lt (grind arith) ]
 sooner_is lines one other None (Some b) none is =
-    turned lines one other (Some b) (first_of lines other one b.place b.time is (λ i time lt passes at. absurd (none-some time (sym (none i lt passes) ∙ at))))
+    stepped lines one other (Some b) (first_of lines other one b.place b.time is (λ i time lt passes at. absurd (none-some time (sym (none i lt passes) ∙ at))))
 sooner_is lines one other (Some a) None is none =
     first_of lines one other a.place a.time is (λ i time lt passes at. absurd (none-some time (sym (none i lt passes) ∙ at)))
 sooner_is lines one other (Some a) (Some b) is is_too = elim (cases_lt b.time a.time) [
   | inl less ↦
-      rw (to_test less) (turned lines one other (Some b) (first_of lines other one b.place b.time is_too (λ i time lt passes at. let least = is.first i time lt passes at in omega arith)))
+      rw (to_test less) (stepped lines one other (Some b) (first_of lines other one b.place b.time is_too (λ i time lt passes at. let least = is.first i time lt passes at in omega arith)))
   | inr ge ↦
       rw (to_no_test ge) (first_of lines one other a.place a.time is (λ i time lt passes at. let least = is_too.first i time lt passes at in omega arith))
 ]

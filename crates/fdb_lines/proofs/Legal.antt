@@ -1,13 +1,13 @@
--- Where the acts of the order by version come from, and that it is legal.
+-- Where the effects of the order by version come from, and that it is legal.
 use Rattle.std.proofs.Common.{◌≡◌, ◌⊎◌, ℕ, ◌+◌, ◌*◌, ◌<◌, ◌≤◌, true, List, map, length, Some, slice_get, refl, ap, sym, ◌∙◌, inl, inr, arith}
 use Rattle.std.proofs.lemmas.Bool.Decides.{nat_tests}
 use Rattle.fdb_lines.specs.Faults.{IsFaultless}
 use Rattle.fdb_lines.specs.Lines.{Case, Read, kind_at, version_at, shows}
-use Rattle.fdb_lines.specs.declared.act.Act.{Act}
-use Rattle.fdb_lines.specs.declared.act.Act.TheVariants.{Asks, Reports, Reads}
+use Rattle.fdb_lines.specs.declared.effect.Effect.{Effect}
+use Rattle.fdb_lines.specs.declared.effect.Effect.TheVariants.{Asks, Reports, Reads}
 use Rattle.fdb_lines.specs.Explained.{Happens, ReportedBefore, IsLegal}
 use Rattle.fdb_lines.specs.Order.{Item, ask_item, shared_item, take_item, needs_ask, needs_report, IsRanked}
-use Rattle.fdb_lines.proofs.Sorted.{In, KeyLess, SameKey, Rises, index_of, in_at, rises_at, places, index_at, act_at, item_at}
+use Rattle.fdb_lines.proofs.Sorted.{In, KeyLess, SameKey, Rises, index_of, in_at, rises_at, places, index_at, effect_at, item_at}
 use Rattle.fdb_lines.proofs.Steps.{IsAllowed, legal_allowed}
 use Rattle.fdb_lines.proofs.Facts.{no_order, no_wrong, asked_above, raises_it}
 
@@ -43,20 +43,20 @@ same_items c rank ranked x y p q s =
     let same : p.line ≡ q.line → take_item c rank p.line ≡ take_item c rank q.line = ap (take_item c rank) in
     grind (arith, nat_tests)
 
--- what the item of an act is
-abbrev pub IsFor : Case → Act → ℕ → Item → Type 0
+-- what the item of an effect is
+abbrev pub IsFor : Case → Effect → ℕ → Item → Type 0
 IsFor c (Asks v) k x = (needs_ask c k ≡ true) × (version_at c k ≡ v) × (x.stage ≡ 4 * v) × (x.rank ≡ 0)
 IsFor c (Reports v) k x = (needs_ask c k ≡ true) × (version_at c k ≡ v) × (4 * v + 1 ≤ x.stage)
 IsFor c (Reads v) k x = (kind_at c k ≡ Read) × (version_at c k ≡ v) × (x.stage ≡ 4 * v + 3)
 
-is_for : (c : Case) (rank : ℕ → ℕ) (x : Item) (p : Origin c rank x) (act : Act) → x.act ≡ act → IsFor c act p.line x
-is_for c rank x p act e = grind (arith, nat_tests)
+is_for : (c : Case) (rank : ℕ → ℕ) (x : Item) (p : Origin c rank x) (effect : Effect) → x.effect ≡ effect → IsFor c effect p.line x
+is_for c rank x p effect e = grind (arith, nat_tests)
 
 raising : (c : Case) (rank : ℕ → ℕ) (v k : ℕ) → raises_it c v k ≡ true
-    → (shows (kind_at c k) ≡ true) × ((take_item c rank k).act ≡ Reports v) × ((take_item c rank k).stage < 4 * v + 3)
+    → (shows (kind_at c k) ≡ true) × ((take_item c rank k).effect ≡ Reports v) × ((take_item c rank k).stage < 4 * v + 3)
 raising c rank v k h = grind (arith, nat_tests)
 
--- ---- any list that rises by the keys and has the acts that are needed and no others
+-- ---- any list that rises by the keys and has the effects that are needed and no others
 
 pub record IsOrder (c : Case) (rank : ℕ → ℕ) (s : List Item) : Type 0 where
   pub rises : Rises s
@@ -70,28 +70,28 @@ module _ (c : Case) (rank : ℕ → ℕ) (ranked : IsRanked c rank) (none : IsFa
   place x i = index_at items x (λ y j s. same_items c rank ranked x y (o.origins x i) (o.origins y j) s) i
 
   -- an item with a lower key happens before
-  earlier : (x y : Item) (m : ℕ) (act : Act) → In x items → x.act ≡ act → slice_get items m ≡ Some y → KeyLess x y
-      → (i : ℕ) × (i < m) × Happens (map (λ z. z.act) items) i act
-  earlier x y m act i e h less =
-      (index_of x items, (places items (index_of x items) m x y o.rises (place x i) h).0 less, act_at items (index_of x items) x (place x i) ∙ ap Some e)
+  earlier : (x y : Item) (m : ℕ) (effect : Effect) → In x items → x.effect ≡ effect → slice_get items m ≡ Some y → KeyLess x y
+      → (i : ℕ) × (i < m) × Happens (map (λ z. z.effect) items) i effect
+  earlier x y m effect i e h less =
+      (index_of x items, (places items (index_of x items) m x y o.rises (place x i) h).0 less, effect_at items (index_of x items) x (place x i) ∙ ap Some e)
 
-  -- the item of an act
-  pub item_of : (m : ℕ) (act : Act) → Happens (map (λ z. z.act) items) m act
-      → (x : Item) × (slice_get items m ≡ Some x) × (x.act ≡ act) × (p : Origin c rank x) × IsFor c act p.line x
-  item_of m act h =
-      let it = item_at items m act h in
+  -- the item of an effect
+  pub item_of : (m : ℕ) (effect : Effect) → Happens (map (λ z. z.effect) items) m effect
+      → (x : Item) × (slice_get items m ≡ Some x) × (x.effect ≡ effect) × (p : Origin c rank x) × IsFor c effect p.line x
+  item_of m effect h =
+      let it = item_at items m effect h in
       let from = o.origins it.0 (in_at items m it.0 it.1) in
-      (it.0, it.1, it.2, from, is_for c rank it.0 from act it.2)
+      (it.0, it.1, it.2, from, is_for c rank it.0 from effect it.2)
 
-  -- what was reported before an act is the start, or stands no higher
-  low : (m w : ℕ) (x : Item) → slice_get items m ≡ Some x → ReportedBefore c.start (map (λ z. z.act) items) m w → (w ≡ c.start) ⊎ (4 * w + 1 ≤ x.stage)
+  -- what was reported before an effect is the start, or stands no higher
+  low : (m w : ℕ) (x : Item) → slice_get items m ≡ Some x → ReportedBefore c.start (map (λ z. z.effect) items) m w → (w ≡ c.start) ⊎ (4 * w + 1 ≤ x.stage)
   low m w x at (inl first) = inl first
   low m w x at (inr q) =
       let y = item_of q.0 (Reports w) q.2 in
       let less = rises_at items q.0 m y.0 x o.rises y.1 at q.1 in
       inr (omega arith)
 
-  allowed : (m : ℕ) (act : Act) → Happens (map (λ z. z.act) items) m act → IsAllowed c.start (map (λ z. z.act) items) m act
+  allowed : (m : ℕ) (effect : Effect) → Happens (map (λ z. z.effect) items) m effect → IsAllowed c.start (map (λ z. z.effect) items) m effect
   allowed m (Asks v) h =
       let x = item_of m (Asks v) h in
       let above = asked_above c none x.3.line x.3.there x.4.0 in (
@@ -117,5 +117,5 @@ module _ (c : Case) (rank : ℕ → ℕ) (ranked : IsRanked c rank) (none : IsFa
         λ w r. let under = low m w x.0 x.1 r in omega arith,
       )
 
-  pub legal : IsLegal c.start (map (λ z. z.act) items)
-  legal = (legal_allowed c.start (map (λ z. z.act) items)).0 allowed
+  pub legal : IsLegal c.start (map (λ z. z.effect) items)
+  legal = (legal_allowed c.start (map (λ z. z.effect) items)).0 allowed

@@ -8,7 +8,7 @@ pub mod Steps
 pub mod Told
 pub mod Ranked
 pub mod Arranged
-pub mod Turned
+pub mod Stepped
 pub mod Shared
 pub mod Tests
 pub mod Listed
@@ -19,7 +19,7 @@ pub mod Entries
 pub mod Knowing
 pub mod Hearing
 pub mod Newest
-pub mod Marking
+pub mod Locating
 pub mod Carried
 pub mod Staying
 pub mod Watched

@@ -3,7 +3,7 @@ use Rattle.std.proofs.Common.{◌≡◌, ◌≢◌, ◌⊎◌, ℕ, ◌-◌, ◌
 use Rattle.std.specs.List.Sorted.{IsNonDecreasingBy}
 use Rattle.std.proofs.lemmas.Bool.Decides.{nat_tests}
 use Rattle.fdb_lines.specs.declared.end.End.{End}
-use Rattle.fdb_lines.specs.private.Ends.{key, end_key, end_at, no_end, comes_by, IsFront, IsNewestAt}
+use Rattle.fdb_lines.specs.private.EndTable.{key, end_key, end_at, no_end, comes_by, IsFront, IsNewestAt}
 use Rattle.fdb_lines.specs.private.Entries.{IsNewest}
 use Rattle.fdb_lines.specs.private.Known.{moment}
 

@@ -1,5 +1,5 @@
 -- The greatest of some numbers, and tests on numbers below one.
-use Rattle.std.proofs.Common.{◌≡◌, ◌⊎◌, ℕ, zero, suc, ◌<◌, ◌≤◌, Bool, true, false, cond, refl, ap, inl, inr, arith}
+use Rattle.std.proofs.Common.{◌≡◌, ◌⊎◌, ℕ, zero, suc, ◌<◌, ◌≤◌, Bool, true, false, cond, refl, inl, inr, arith}
 use Rattle.std.proofs.lemmas.Bool.{cases_lt, false_from_ne_true, both_ways}
 use Rattle.fdb_lines.specs.Faults.{greatest_of, some_below}
 
@@ -29,11 +29,3 @@ some_find test (suc n) h = let rest = some_find test n in grind arith
 
 pub none_at : (test : ℕ → Bool) (n i : ℕ) → some_below test n ≡ false → i < n → test i ≡ false
 none_at test n i none h = false_from_ne_true (test i) (λ p. both_ways (some_below test n) none (some_at test n i h p))
-
--- tests that agree have one greatest
-pub greatest_same : (one other : ℕ → Bool) (f : ℕ → ℕ) (n : ℕ) → ((i : ℕ) → i < n → one i ≡ other i) → greatest_of one f n ≡ greatest_of other f n
-greatest_same one other f zero h = refl
-greatest_same one other f (suc n) h =
-    let rest = greatest_same one other f n (λ i l. h i (omega arith)) in
-    let here = ap (λ b. cond b (f n) 0) (h n (omega arith)) in
-    omega arith

@@ -8,7 +8,7 @@ use Rattle.fdb_lines.specs.declared.line.Line.{Line}
 use Rattle.fdb_lines.specs.Before.{began, ended, one_client, ended_before, by_time}
 use Rattle.fdb_lines.specs.Lines.{line_at}
 use Rattle.fdb_lines.specs.Summary.{tally}
-use Rattle.fdb_lines.specs.private.Ends.{end_key, end_at, no_end, IsFront}
+use Rattle.fdb_lines.specs.private.EndTable.{end_key, end_at, no_end, IsFront}
 use Rattle.fdb_lines.specs.private.Ended.{stands_before, count_before, had_ended, times_before, HasEnds, HasTimes}
 use Rattle.fdb_lines.specs.private.Entries.{IsFrontBy}
 use Rattle.fdb_lines.proofs.Tallies.{adds, item_at, tally_sums}

@@ -8,7 +8,7 @@ use Rattle.fdb_lines.specs.Audit.{AreExplained}
 use Rattle.fdb_lines.specs.Keys.{case_of_key, key_at, keys_of, lines_of_key, places_of, AreExplainedByKey}
 use Rattle.fdb_lines.specs.Lines.{line_at, Lines}
 use Rattle.fdb_lines.specs.Listing.{faults_below}
-use Rattle.fdb_lines.specs.Turns.{acts_of}
+use Rattle.fdb_lines.specs.OrderSteps.{effects_of}
 use Rattle.fdb_lines.specs.private.KeyOrders.{AreOrders}
 use Rattle.fdb_lines.proofs.Keyed.{has_key, place_is, same_is}
 use Rattle.fdb_lines.proofs.Listed.{explained_by_length}
@@ -38,7 +38,7 @@ all_explained log keys opts orders (names, all) key = elim (cases_lt 0 (length (
       let its : (get_or orders i d).key ≡ key =
       sym (get_or-map of orders i d None lt) ∙ (ap (λ ks. key_at ks i) names ∙ (has.2 ∙ same_is _ _ is.1)) in
       let order = all i d lt in
-      subst (λ q. AreExplained (case_of_key log keys opts q)) its (acts_of order.0, order.1.explains)
+      subst (λ q. AreExplained (case_of_key log keys opts q)) its (effects_of order.0, order.1.explains)
   | inr ge ↦ no_lines log keys opts key (omega arith)
 ]
 

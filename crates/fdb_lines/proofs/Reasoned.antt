@@ -1,5 +1,5 @@
 -- Why a fault stands in a part that stands for all is why it stands in all.
-use Rattle.std.proofs.Common.{◌≡◌, ◌⊎◌, ℕ, zero, suc, max, ◌+◌, ◌<◌, ◌≤◌, ◌==◌, nat_lt, Bool, true, false, ◌&&◌, ◌||◌, List, Option, None, Some, length, slice_index, refl, ap, sym, subst, ◌∙◌, inl, inr, arith}
+use Rattle.std.proofs.Common.{◌≡◌, ◌⊎◌, ℕ, zero, suc, ◌<◌, ◌≤◌, ◌==◌, nat_lt, Bool, true, false, ◌&&◌, ◌||◌, List, Option, None, Some, length, slice_index, refl, ap, sym, subst, ◌∙◌, inl, inr, arith}
 use Rattle.std.proofs.lemmas.Bool.{and_from, and_parts, both_ways, cases_lt, false_from_ne_true}
 use Rattle.std.proofs.lemmas.Bool.Decides.{nat_tests}
 use Rattle.std.proofs.lemmas.List.{length-map}
@@ -13,12 +13,11 @@ use Rattle.fdb_lines.specs.declared.reason.Reason.TheVariants.{Known, Unreported
 use Rattle.fdb_lines.specs.declared.reason.Witness.{Witness}
 use Rattle.fdb_lines.specs.Before.{began, by_time, ended, ended_before, has_heard, is_of, one_client}
 use Rattle.fdb_lines.specs.Carried.{with_times, IsCovered, MayGo, StandFor}
-use Rattle.fdb_lines.specs.Faults.{knows, last}
 use Rattle.fdb_lines.specs.Keys.{placed_by, placed_means, placed_reason}
 use Rattle.fdb_lines.specs.Lines.{Kind, is_learn, kind_of, line_at, lines_in, shows, teller_of, version_of}
 use Rattle.fdb_lines.specs.Reasons.{knew_by, shows_or_draws, IsKnown, IsMeans, IsReason, IsWitness}
 use Rattle.fdb_lines.specs.Watching.{is_watched, opts_of}
-use Rattle.fdb_lines.proofs.Carried.{as_much, at_part, before_part, drawn_is, here, known, lets, past_before, version_in}
+use Rattle.fdb_lines.proofs.Carried.{as_much, at_part, before_part, drawn_is, known, lets, past_before, version_in}
 use Rattle.fdb_lines.proofs.Numbers.{greatest_bound}
 
 -- ---- what was heard of

@@ -1,37 +1,45 @@
 -- What the tables of a log say, and why a fault stands.
-use Rattle.std.proofs.Common.{◌≡◌, ℕ, max, ◌-◌, ◌<◌, ◌≤◌, ◌==◌, nat_lt, Bool, true, false, ◌&&◌, List, length, Option, None, Some, is_some, refl, ap, sym, arith}
+use Rattle.std.proofs.Common.{◌≡◌, ℕ, max, ◌-◌, ◌<◌, ◌≤◌, ◌==◌, nat_lt, Bool, true, false, ◌&&◌, List, length, Option, None, Some, is_some, refl, ap, subst, sym, arith}
 use Rattle.std.proofs.lemmas.Bool.Decides.{nat_tests}
 use Rattle.std.proofs.lemmas.List.Folds.{list_any_at}
 use Rattle.fdb_lines.specs.declared.fault.Fault.TheVariants.{Order, Wrong, NotAbove, Twice, Stray}
 use Rattle.fdb_lines.specs.declared.line.Line.{Line}
+use Rattle.fdb_lines.specs.declared.log.Log.{Log}
 use Rattle.fdb_lines.specs.declared.opts.AuditOpts.{AuditOpts}
 use Rattle.fdb_lines.specs.declared.reason.Reason.TheVariants.{Known, Reported}
 use Rattle.fdb_lines.specs.declared.reason.Witness.{Witness}
-use Rattle.fdb_lines.specs.declared.seen.Seen.{Seen}
-use Rattle.fdb_lines.specs.declared.seen.Seen.TheVariants.{Shown, Drawn}
-use Rattle.fdb_lines.specs.declared.sort.Sort.TheVariants.{Raises, Owned, Nameless}
+use Rattle.fdb_lines.specs.declared.exposure.Exposure.{Exposure}
+use Rattle.fdb_lines.specs.declared.exposure.Exposure.TheVariants.{Shown, Drawn}
+use Rattle.fdb_lines.specs.declared.line_kind.LineKind.TheVariants.{Raises, Owned, Nameless}
+use Rattle.fdb_lines.specs.declared.tables.Made.{Made}
 use Rattle.fdb_lines.specs.Audit.{case_of, start_of}
 use Rattle.fdb_lines.specs.Before.{comes_before}
 use Rattle.fdb_lines.specs.Faults.{is_drawn, is_own, is_raised, knows, some_below, last, stands}
 use Rattle.fdb_lines.specs.Lines.{Case, Kind, Lines, Read, Commit, Ask, Report, Learn, client_at, draws, is_ask, is_commit, kind_at, kind_of, line_at, nobody, reports, shows, version_at}
+use Rattle.fdb_lines.specs.Log.{lines_of}
 use Rattle.fdb_lines.specs.Reasons.{IsFirst, IsKnown, IsReason, draws_again, draws_it, reports_it, shows_or_draws}
 use Rattle.fdb_lines.specs.private.Entries.{other, IsFirstFrom}
 use Rattle.fdb_lines.specs.private.Known.{by_at, counts_at, newest_known, of_version, version_by, version_in}
-use Rattle.fdb_lines.specs.private.Marks.{is_marked_at, knows_at, name}
-use Rattle.fdb_lines.specs.private.Tables.{drawn_by, has_ask, AreKnownIn, IsAnswer, IsFoundIn}
+use Rattle.fdb_lines.specs.private.Locators.{is_located_at, knows_at, name}
+use Rattle.fdb_lines.specs.private.Tables.{asked_of, drawn_by, has_ask, AreKnownIn, AreTables, Asked, IsAnswer, IsFoundIn}
 use Rattle.fdb_lines.proofs.Entries.{first_is, first_same}
 use Rattle.fdb_lines.proofs.Knowing.{found_is, version_is}
 use Rattle.fdb_lines.proofs.Numbers.{greatest_bound, greatest_least, some_at}
 
 -- ---- the tables
 
+-- what holds of the tables of a log, of what is asked of it
+pub are_asked : {log : Log} {opts : AuditOpts} {made : Made} {asked : Asked} → asked_of log opts ≡ asked → AreTables (lines_of log) opts made
+    → AreTables (lines_of asked.log) asked.opts made
+are_asked {made = made} same are = subst (λ (asked : Asked). AreTables (lines_of asked.log) asked.opts made) same are
+
 abbrev before : Lines → AuditOpts → ℕ → ℕ → Bool
 before log opts = comes_before log.timed opts.margin log.lines
 
-abbrev pub newest : Lines → AuditOpts → Seen → ℕ → ℕ
+abbrev pub newest : Lines → AuditOpts → Exposure → ℕ → ℕ
 newest log opts seen k = newest_known (comes_before log.timed opts.margin log.lines) seen log.lines k
 
-pub newest_is : (log : Lines) (opts : AuditOpts) (seen : Seen) (known : List (Option Witness)) (k : ℕ) → AreKnownIn log opts seen known → k < length log.lines
+pub newest_is : (log : Lines) (opts : AuditOpts) (seen : Exposure) (known : List (Option Witness)) (k : ℕ) → AreKnownIn log opts seen known → k < length log.lines
     → version_by log.lines (by_at known k) ≡ newest log opts seen k
 newest_is log opts seen known k are lt = version_is _ _ log.lines (by_at known k) (are.1 k lt)
 
@@ -39,7 +47,7 @@ pub knows_is : (log : Lines) (opts : AuditOpts) (shown : List (Option Witness)) 
     → knows_at (start_of opts.complete) log.lines shown k ≡ knows (case_of log opts) k
 knows_is log opts shown k are lt = ap (max (start_of opts.complete)) (newest_is log opts Shown shown k are lt)
 
-pub known_is : (log : Lines) (opts : AuditOpts) (seen : Seen) (known : List (Option Witness)) (k version : ℕ) → AreKnownIn log opts seen known → k < length log.lines
+pub known_is : (log : Lines) (opts : AuditOpts) (seen : Exposure) (known : List (Option Witness)) (k version : ℕ) → AreKnownIn log opts seen known → k < length log.lines
     → newest log opts seen k ≤ version → IsFoundIn log opts seen k version (of_version log.lines version (by_at known k))
 known_is log opts seen known k version are lt most =
     found_is (comes_before log.timed opts.margin log.lines) opts.margin seen log.lines k version (by_at known k) (are.1 k lt) most
@@ -78,18 +86,18 @@ pub answered : (test question : ℕ → Bool) (n : ℕ) (first : Option ℕ) →
 answered test question n first same found = sym (first_is question n first (first_same test question n first same found))
 
 pub raised_is : (log : Lines) (opts : AuditOpts) (shown : List (Option Witness)) (v : ℕ) (first : Option ℕ) → AreKnownIn log opts Shown shown
-    → IsFirstFrom (is_marked_at Raises (start_of opts.complete) log.lines shown (name v 0)) 0 (length log.lines) first → is_some first ≡ is_raised (case_of log opts) v
+    → IsFirstFrom (is_located_at Raises (start_of opts.complete) log.lines shown (name v 0)) 0 (length log.lines) first → is_some first ≡ is_raised (case_of log opts) v
 raised_is log opts shown v first are =
     answered _ _ (length log.lines) first (λ j l. let knows = knows_is log opts shown j are l in grind (arith, nat_tests))
 
 -- who drew a version
 pub owned_is : (log : Lines) (opts : AuditOpts) (shown : List (Option Witness)) (k a : ℕ) (first : Option ℕ) → client_at (case_of log opts) k ≡ Some a
-    → IsFirstFrom (is_marked_at Owned (start_of opts.complete) log.lines shown (name (version_at (case_of log opts) k) a)) 0 (length log.lines) first
+    → IsFirstFrom (is_located_at Owned (start_of opts.complete) log.lines shown (name (version_at (case_of log opts) k) a)) 0 (length log.lines) first
     → is_some first ≡ is_own (case_of log opts) k
 owned_is log opts shown k a first whose = answered _ _ (length log.lines) first (λ j l. grind (arith, nat_tests))
 
 pub nameless_is : (log : Lines) (opts : AuditOpts) (shown : List (Option Witness)) (k : ℕ) (first : Option ℕ) → client_at (case_of log opts) k ≡ None
-    → IsFirstFrom (is_marked_at Nameless (start_of opts.complete) log.lines shown (name (version_at (case_of log opts) k) 0)) 0 (length log.lines) first
+    → IsFirstFrom (is_located_at Nameless (start_of opts.complete) log.lines shown (name (version_at (case_of log opts) k) 0)) 0 (length log.lines) first
     → is_some first ≡ is_own (case_of log opts) k
 nameless_is log opts shown k first whose = answered _ _ (length log.lines) first (λ j l. grind (arith, nat_tests))
 
@@ -112,7 +120,7 @@ beside_an_ask c k first not_commit =
 -- ---- a version that was known
 
 -- a greatest that none has is 0
-untold : (log : Lines) (opts : AuditOpts) (seen : Seen) (k version : ℕ) → IsFoundIn log opts seen k version None → newest log opts seen k ≡ version → version ≡ 0
+untold : (log : Lines) (opts : AuditOpts) (seen : Exposure) (k version : ℕ) → IsFoundIn log opts seen k version None → newest log opts seen k ≡ version → version ≡ 0
 untold log opts seen k version none is =
     let test = λ (j : ℕ). before log opts j k && counts_at seen log.lines j in
     let most = greatest_least test (version_in log.lines) (length log.lines) (version - 1) (λ i l passes.

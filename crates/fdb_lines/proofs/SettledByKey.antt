@@ -1,7 +1,7 @@
 -- All that are open settle: what is told of each key, and how it goes on.
-use Rattle.std.proofs.Common.{◌≡◌, ◌≢◌, ◌⊎◌, ◌&&◌, ◌||◌, ℕ, zero, suc, max, ◌-◌, ◌<◌, ◌≤◌, nat_le, nat_lt, Bool, true, false, cond, List, [], ◌∷◌, ◌++◌, Option, None, Some, Vec, length, map, get_or, slice_index, refl, ap, sym, subst, ◌∙◌, inl, inr, arith, append-nil}
+use Rattle.std.proofs.Common.{◌≡◌, ◌≢◌, ◌⊎◌, ◌&&◌, ◌||◌, ℕ, zero, suc, max, ◌<◌, ◌≤◌, nat_le, Bool, true, false, cond, List, [], ◌∷◌, ◌++◌, Option, None, Some, Vec, length, map, get_or, slice_index, refl, ap, sym, subst, ◌∙◌, inl, inr, arith, append-nil}
 use Rattle.std.specs.declared.alloc.Global.{Global}
-use Rattle.std.specs.List.{All, AllPairs, Contains}
+use Rattle.std.specs.List.{All}
 use Rattle.std.proofs.lemmas.Bool.Decides.{nat_tests}
 use Rattle.std.proofs.lemmas.Bool.{both_ways}
 use Rattle.std.proofs.lemmas.List.{get_or_default, get_or-map, length-map}
@@ -15,13 +15,13 @@ use Rattle.fdb_lines.specs.declared.watch.Watch.{Watch}
 use Rattle.fdb_lines.specs.Before.{began}
 use Rattle.fdb_lines.specs.KeyParts.{lines_of_one, names_of, HasSeenOne}
 use Rattle.fdb_lines.specs.Keys.{key_at, keys_of, places_of}
-use Rattle.fdb_lines.specs.KeyWatch.{AreTold, GoesOn, HasEntry, HasNothingToTell, HasSettled, IsToldOf}
+use Rattle.fdb_lines.specs.KeyWatch.{AreTold, GoesOn, HasEntry, HasNothingToTell, IsToldOf}
 use Rattle.fdb_lines.specs.Lines.{Case, line_at, lines_in, nobody}
 use Rattle.fdb_lines.specs.Log.{lines_of}
 use Rattle.fdb_lines.specs.Watch.{due, judged_from, HasSeen, IsTold}
 use Rattle.fdb_lines.specs.Watching.{begins_before, told_of, watched}
 use Rattle.fdb_lines.specs.private.Due.{told_at, told_below}
-use Rattle.fdb_lines.specs.private.KeyParts.{flag_at, flags_of, AreEntries, AreNext, AreOpen, ArePut, IsAlike, IsEntry, IsNext, IsNextOf}
+use Rattle.fdb_lines.specs.private.KeyParts.{flag_at, flags_of, AreEntries, AreNext, AreOpen, ArePut, IsAlike, IsNext, IsNextOf}
 use Rattle.fdb_lines.specs.private.Quiet.{IsQuiet}
 use Rattle.fdb_lines.proofs.Carried.{at_part, fewer_are}
 use Rattle.fdb_lines.proofs.Keyed.{each_once}

@@ -1,4 +1,4 @@
--- Turns that share an act are of lines, in their order.
+-- OrderSteps that share an effect are of lines, in their order.
 use Rattle.std.proofs.Common.{◌≡◌, ◌≢◌, ℕ, zero, suc, ◌+◌, ◌*◌, ◌==◌, ◌&&◌, nat_lt, ◌<◌, ◌≤◌, Bool, true, false, cond, List, [], ◌∷◌, ◌++◌, map, length, slice_get, slice_index_or, Option, Some, None, refl, ap, sym, subst, ◌∙◌, arith, option_to_list, is_some}
 use Rattle.std.proofs.lemmas.Bool.Decides.{nat_tests}
 use Rattle.std.specs.Ordering.{bool_cmp, is_eq, is_lt, nat_cmp, ordering_then}
@@ -9,36 +9,36 @@ use Rattle.std.specs.List.{sum_by}
 use Rattle.std.proofs.lemmas.Bool.{both_ways}
 use Rattle.std.proofs.lemmas.Option.{none-some, same_Some}
 use Rattle.std.proofs.lemmas.List.Sums.{sum_by-append, sum_by-cons}
-use Rattle.fdb_lines.specs.contracts.spot.KeyOrd.TheImpl.{cmp-value}
-use Rattle.fdb_lines.specs.contracts.spot.KeyOrd.TheImpl.Laws.{matches_eq-law}
-use Rattle.fdb_lines.specs.declared.spot.Spot.{Spot}
-use Rattle.fdb_lines.specs.declared.turn.Turn.{Turn}
+use Rattle.fdb_lines.specs.contracts.slot.KeyOrd.TheImpl.{cmp-value}
+use Rattle.fdb_lines.specs.contracts.slot.KeyOrd.TheImpl.Laws.{matches_eq-law}
+use Rattle.fdb_lines.specs.declared.slot.Slot.{Slot}
+use Rattle.fdb_lines.specs.declared.step.OrderStep.{OrderStep}
 use Rattle.fdb_lines.specs.Before.{is_of}
 use Rattle.fdb_lines.specs.Lines.{Kind, Read, Commit, Ask, Report, Learn, Case, draws, kind_at, shows, version_at}
 use Rattle.fdb_lines.specs.Order.{Item, ask_item, needs_ask, needs_report, report_item, shared_item, take_by, take_item}
-use Rattle.fdb_lines.specs.private.Spots.{entries_below, entry_of, item_of, spot_rank, turns_from}
+use Rattle.fdb_lines.specs.private.Slots.{entries_below, entry_of, item_of, slot_rank, steps_from}
 use Rattle.fdb_lines.proofs.Sorted.{SameKey}
-use Rattle.fdb_lines.proofs.Turned.{is_one, turns_by}
+use Rattle.fdb_lines.proofs.Stepped.{is_one, steps_by}
 
-pub one_same : (x y : Spot) → is_one x y ≡ true → SameKey (item_of x) (item_of y)
+pub one_same : (x y : Slot) → is_one x y ≡ true → SameKey (item_of x) (item_of y)
 one_same x y e = (grind (arith, nat_tests), grind (arith, nat_tests))
 
--- a line's spot at the place of the one above has that of a lower line there
-abbrev IsNext : Spot → Spot → Type 0
+-- a line's slot at the place of the one above has that of a lower line there
+abbrev IsNext : Slot → Slot → Type 0
 IsNext x s = is_one s x ≡ true → (b : ℕ) → s.line ≡ Some b → (a : ℕ) × (x.line ≡ Some a) × (a < b)
 
-abbrev Follow : Spot → List Spot → Type 0
+abbrev Follow : Slot → List Slot → Type 0
 Follow x [] = Unit {0}
 Follow x (s ∷ ss) = IsNext x s × Follow s ss
 
--- a turn that shares the act above is of a line, and that above of a lower one
-abbrev pub Chained : Option ℕ → List Turn → Type 0
+-- a step that shares the effect above is of a line, and that above of a lower one
+abbrev pub Chained : Option ℕ → List OrderStep → Type 0
 Chained above [] = Unit {0}
-Chained above (turn ∷ turns) = (turn.shared ≡ true → (a b : ℕ) × (above ≡ Some a) × (turn.line ≡ Some b) × (a < b)) × Chained turn.line turns
+Chained above (step ∷ steps) = (step.shared ≡ true → (a b : ℕ) × (above ≡ Some a) × (step.line ≡ Some b) × (a < b)) × Chained step.line steps
 
-none_chained : (line above : Option ℕ) (turns : List Turn) → line ≡ None → Chained line turns → Chained above turns
+none_chained : (line above : Option ℕ) (steps : List OrderStep) → line ≡ None → Chained line steps → Chained above steps
 none_chained line above [] none h = tt
-none_chained line above (turn ∷ turns) none h = (λ shared. let of = h.0 shared in absurd (none-some of.0 (sym none ∙ of.2)), h.1)
+none_chained line above (step ∷ steps) none h = (λ shared. let of = h.0 shared in absurd (none-some of.0 (sym none ∙ of.2)), h.1)
 
 line_of : (line : Option ℕ) → is_some line ≡ true → (b : ℕ) × (line ≡ Some b)
 line_of None some = absurd (both_ways false refl some)
@@ -48,29 +48,29 @@ no_line : (line : Option ℕ) → is_some line ≡ false → line ≡ None
 no_line None none = refl
 no_line (Some b) none = absurd (both_ways true none refl)
 
--- others have no turn where they share one
-chained : (x : Spot) (ss : List Spot) → Follow x ss → Chained x.line (turns_from (Some x.key) ss)
+-- others have no step where they share one
+chained : (x : Slot) (ss : List Slot) → Follow x ss → Chained x.line (steps_from (Some x.key) ss)
 chained x [] follow = tt
 chained x (s ∷ ss) follow = by (is_one s x) (is_some s.line) refl refl (chained s ss follow.1)
   where
-    by : (b d : Bool) → is_one s x ≡ b → is_some s.line ≡ d → Chained s.line (turns_from (Some s.key) ss)
-        → Chained x.line (turns_by s (turns_from (Some s.key) ss) b d)
+    by : (b d : Bool) → is_one s x ≡ b → is_some s.line ≡ d → Chained s.line (steps_from (Some s.key) ss)
+        → Chained x.line (steps_by s (steps_from (Some s.key) ss) b d)
     by false d other line rest = (λ shared. absurd (both_ways false refl shared), rest)
     by true true same line rest = (λ _. let of = line_of s.line line in let up = follow.0 same of.0 of.1 in (up.0, of.0, up.1, of.1, up.2), rest)
     by true false same line rest = none_chained s.line x.line _ (no_line s.line line) rest
 
-pub chained_at : (above : Option ℕ) (turns : List Turn) → Chained above turns → (i : ℕ) (one turn : Turn) → slice_get turns i ≡ Some one
-    → slice_get turns (suc i) ≡ Some turn → turn.shared ≡ true → (a b : ℕ) × (one.line ≡ Some a) × (turn.line ≡ Some b) × (a < b)
-chained_at above [] h i one turn at next shared = absurd (none-some one at)
-chained_at above (x ∷ []) h zero one turn at next shared = absurd (none-some turn next)
-chained_at above (x ∷ y ∷ turns) h zero one turn at next shared =
+pub chained_at : (above : Option ℕ) (steps : List OrderStep) → Chained above steps → (i : ℕ) (one step : OrderStep) → slice_get steps i ≡ Some one
+    → slice_get steps (suc i) ≡ Some step → step.shared ≡ true → (a b : ℕ) × (one.line ≡ Some a) × (step.line ≡ Some b) × (a < b)
+chained_at above [] h i one step at next shared = absurd (none-some one at)
+chained_at above (x ∷ []) h zero one step at next shared = absurd (none-some step next)
+chained_at above (x ∷ y ∷ steps) h zero one step at next shared =
     let same = same_Some x one at in
-    let own = same_Some y turn next in
-    let of = h.1.0 (ap (λ (t : Turn). t.shared) own ∙ shared) in
-    (of.0, of.1, ap (λ (t : Turn). t.line) (sym same) ∙ of.2, ap (λ (t : Turn). t.line) (sym own) ∙ of.3, of.4)
-chained_at above (x ∷ turns) h (suc i) one turn at next shared = chained_at x.line turns h.1 i one turn at next shared
+    let own = same_Some y step next in
+    let of = h.1.0 (ap (λ (t : OrderStep). t.shared) own ∙ shared) in
+    (of.0, of.1, ap (λ (t : OrderStep). t.line) (sym same) ∙ of.2, ap (λ (t : OrderStep). t.line) (sym own) ∙ of.3, of.4)
+chained_at above (x ∷ steps) h (suc i) one step at next shared = chained_at x.line steps h.1 i one step at next shared
 
--- ---- spots of one place are of different lines, and stand in the order of these
+-- ---- slots of one place are of different lines, and stand in the order of these
 
 -- 1 for an entry of a line at a stage, and else 0
 abbrev pub weight : ℕ → ℕ → Item × Option ℕ → ℕ
@@ -102,7 +102,7 @@ single c a stage zero = (omega arith, λ _. refl)
 single c a stage (suc k) =
     let f = weight a stage in
     let ask : Item × Option ℕ = (ask_item (version_at c k), cond (draws (kind_at c k)) (Some k) None) in
-    let take : Item × Option ℕ = (take_item c (spot_rank c.lines) k, Some k) in
+    let take : Item × Option ℕ = (take_item c (slot_rank c.lines) k, Some k) in
     let report : Item × Option ℕ = (shared_item (version_at c k), None) in
     let asks = option_to_list (cond (needs_ask c k) (Some ask) None) in
     let takes = option_to_list (cond (shows (kind_at c k)) (Some take) None) in
@@ -119,15 +119,15 @@ single c a stage (suc k) =
     let before = below.1 in
     grind (arith, nat_tests)
 
-abbrev pub IsFew : List Spot → Type 0
-IsFew spots = (a stage : ℕ) → sum_by (weight a stage) (map entry_of spots) ≤ 1
+abbrev pub IsFew : List Slot → Type 0
+IsFew slots = (a stage : ℕ) → sum_by (weight a stage) (map entry_of slots) ≤ 1
 
--- no spot is less than the one above: by the key, and then lines come first, in their order
-abbrev pub IsPlaced : Spot → Spot → Type 0
+-- no slot is less than the one above: by the key, and then lines come first, in their order
+abbrev pub IsPlaced : Slot → Slot → Type 0
 IsPlaced x s = is_lt (ordering_then (ordering_then (cmp-value.it s.key x.key) (bool_cmp (is_none s.line) (is_none x.line))) (option_cmp nat_cmp s.line x.line)) ≡ false
 
-abbrev pub ArePlaced : List Spot → Type 0
-ArePlaced spots = (k : ℕ) (d : Spot) → k + 1 < length spots → IsPlaced (slice_index_or spots k d) (slice_index_or spots (k + 1) d)
+abbrev pub ArePlaced : List Slot → Type 0
+ArePlaced slots = (k : ℕ) (d : Slot) → k + 1 < length slots → IsPlaced (slice_index_or slots k d) (slice_index_or slots (k + 1) d)
 
 placed_line : (o : Ordering) (mine above : Option ℕ) (b : ℕ) → is_eq o ≡ true → mine ≡ Some b
     → is_lt (ordering_then (ordering_then o (bool_cmp (is_none mine) (is_none above))) (option_cmp nat_cmp mine above)) ≡ false
@@ -138,7 +138,7 @@ placed_line Equal None above b same own h = absurd (none-some b own)
 placed_line Equal (Some c) None b same own h = absurd (both_ways true h refl)
 placed_line Equal (Some c) (Some a) b same own h = (a, refl, let is = same_Some c b own in grind (arith, nat_tests))
 
-follow : (x : Spot) (ss : List Spot) → ArePlaced (x ∷ ss) → IsFew (x ∷ ss) → Follow x ss
+follow : (x : Slot) (ss : List Slot) → ArePlaced (x ∷ ss) → IsFew (x ∷ ss) → Follow x ss
 follow x [] placed few = tt
 follow x (s ∷ ss) placed few = (
   λ same b own.
@@ -158,6 +158,6 @@ follow x (s ∷ ss) placed few = (
       omega arith),
 )
 
-pub chain : (spots : List Spot) → ArePlaced spots → IsFew spots → Chained None (turns_from None spots)
+pub chain : (slots : List Slot) → ArePlaced slots → IsFew slots → Chained None (steps_from None slots)
 chain [] placed few = tt
 chain (x ∷ ss) placed few = (λ shared. absurd (both_ways false refl shared), chained x ss (follow x ss placed few))

@@ -1,7 +1,7 @@
 -- Lists of lists: one is made, or grows.
 use Rattle.std.proofs.Common.{◌≡◌, ◌≢◌, ℕ, zero, suc, ◌<◌, List, [], ◌∷◌, ◌++◌, Vec, length, map, set, get_or, refl, ap, sym, ◌∙◌, arith}
 use Rattle.std.specs.declared.alloc.Global.{Global}
-use Rattle.std.proofs.lemmas.List.{get_or-map, get_or-set_other, get_or-set_same, length-map, map-set, map_push}
+use Rattle.std.proofs.lemmas.List.{get_or-map, get_or-set_other, get_or-set_same, length-map, map-set}
 use Rattle.fdb_lines.specs.private.Keys.{items_at}
 
 -- what stands past a list is as good as in it
@@ -10,13 +10,6 @@ nothing_more [] none zero = refl
 nothing_more [] none (suc k) = refl
 nothing_more (x ∷ xs) none zero = refl
 nothing_more (x ∷ xs) none (suc k) = nothing_more xs none k
-
--- an empty one more
-pub empty_more : {X : Type 0} (lists : List (Vec X Global)) (list : Vec X Global) (k : ℕ) → list.items ≡ [] → items_at (lists ++ list ∷ []) k ≡ items_at lists k
-empty_more {X} lists list k none =
-    let items = λ (v : Vec X Global). v.items in
-    ap (λ (ls : List (List X)). get_or ls k []) (map_push items lists list)
-    ∙ (ap (λ (l : List X). get_or (map items lists ++ l ∷ []) k []) none ∙ nothing_more (map items lists) [] k)
 
 -- one is written
 pub items_set_same : {X : Type 0} (lists : List (Vec X Global)) (i : ℕ) (list : Vec X Global) → i < length lists → items_at (set lists i list) i ≡ list.items

@@ -3,7 +3,7 @@ use Rattle.std.proofs.Common.{◌≡◌, ◌⊎◌, ℕ, zero, suc, ◌<◌, ◌
 use Rattle.std.proofs.lemmas.Bool.{cond_both}
 use Rattle.std.proofs.lemmas.Bool.Decides.{nat_tests}
 use Rattle.std.proofs.lemmas.Option.{same_Some, none-some, slice_get-map}
-use Rattle.fdb_lines.specs.declared.act.Act.{Act}
+use Rattle.fdb_lines.specs.declared.effect.Effect.{Effect}
 use Rattle.fdb_lines.specs.Order.{Item, key_lt, put, put_if}
 
 abbrev pub In : Item → List Item → Type 0
@@ -19,9 +19,6 @@ SameKey x y = (x.stage ≡ y.stage) × (x.rank ≡ y.rank)
 abbrev pub Rises : List Item → Type 0
 Rises [] = Unit {0}
 Rises (x ∷ xs) = ((y : Item) → In y xs → KeyLess x y) × Rises xs
-
-pub less_trans : (x y z : Item) → KeyLess x y → KeyLess y z → KeyLess x z
-less_trans x y z p q = grind arith
 
 -- an item with this key
 abbrev pub Keyed : Item → List Item → Type 0
@@ -96,11 +93,11 @@ index_at (y ∷ ys) x f i =
     let here = f y (inl refl) in
     grind (arith, nat_tests)
 
--- the acts of the items
-pub act_at : (xs : List Item) (i : ℕ) (x : Item) → slice_get xs i ≡ Some x → slice_get (map (λ z. z.act) xs) i ≡ Some x.act
-act_at xs i x h = slice_get-map (λ z. z.act) xs i ∙ ap (option_map (λ z. z.act)) h
+-- the effects of the items
+pub effect_at : (xs : List Item) (i : ℕ) (x : Item) → slice_get xs i ≡ Some x → slice_get (map (λ z. z.effect) xs) i ≡ Some x.effect
+effect_at xs i x h = slice_get-map (λ z. z.effect) xs i ∙ ap (option_map (λ z. z.effect)) h
 
-pub item_at : (xs : List Item) (i : ℕ) (a : Act) → slice_get (map (λ z. z.act) xs) i ≡ Some a → (x : Item) × (slice_get xs i ≡ Some x) × (x.act ≡ a)
+pub item_at : (xs : List Item) (i : ℕ) (a : Effect) → slice_get (map (λ z. z.effect) xs) i ≡ Some a → (x : Item) × (slice_get xs i ≡ Some x) × (x.effect ≡ a)
 item_at [] i a h = absurd (none-some a h)
-item_at (y ∷ ys) zero a h = (y, refl, same_Some y.act a h)
+item_at (y ∷ ys) zero a h = (y, refl, same_Some y.effect a h)
 item_at (y ∷ ys) (suc i) a h = item_at ys i a h

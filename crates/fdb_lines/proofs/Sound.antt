@@ -3,8 +3,8 @@ use Rattle.std.proofs.Common.{◌≡◌, ◌≢◌, ◌⊎◌, ℕ, zero, suc, �
 use Rattle.std.proofs.lemmas.Bool.{and_parts, false_from_ne_true}
 use Rattle.std.proofs.lemmas.Bool.Decides.{nat_tests}
 use Rattle.fdb_lines.specs.Lines.{Read, Report, Case, kind_at, version_at, client_at, draws, shows, same_client}
-use Rattle.fdb_lines.specs.declared.act.Act.{Act}
-use Rattle.fdb_lines.specs.declared.act.Act.TheVariants.{Asks, Reports, Reads}
+use Rattle.fdb_lines.specs.declared.effect.Effect.{Effect}
+use Rattle.fdb_lines.specs.declared.effect.Effect.TheVariants.{Asks, Reports, Reads}
 use Rattle.fdb_lines.specs.Explained.{Happens, ReportedBefore, IsMoment, Explains}
 use Rattle.fdb_lines.specs.declared.fault.Fault.TheVariants.{Order, Wrong, NotAbove, Twice, Stray}
 use Rattle.fdb_lines.specs.Faults.{stands, IsFaultless, knows, last, is_drawn, is_own, is_raised, is_reported}
@@ -15,7 +15,7 @@ use Rattle.fdb_lines.proofs.Facts.{raises_it, draws_own}
 same_client_from : (a b : Option ℕ) → a ≡ b → same_client a b ≡ true
 same_client_from a b e = grind (arith, nat_tests)
 
-module _ (c : Case) (history : List Act) (e : Explains c history) where
+module _ (c : Case) (history : List Effect) (e : Explains c history) where
   -- what a call knows was reported before it
   known_before : (k p : ℕ) → k < length c.lines → IsMoment c e.asked e.took k p → ReportedBefore c.start history p (knows c k)
   known_before k p lk moment =

@@ -1,10 +1,10 @@
 -- The lines that are kept stand for all.
-use Rattle.std.proofs.Common.{◌≡◌, ◌⊎◌, ℕ, zero, suc, ◌+◌, ◌<◌, ◌≤◌, nat_lt, Bool, true, false, cond, ◌&&◌, ◌||◌, not, List, [], ◌∷◌, ◌++◌, Option, None, Some, length, slice_index, refl, ap, sym, ◌∙◌, inl, inr, arith, append-nil, length-append}
+use Rattle.std.proofs.Common.{◌≡◌, ◌⊎◌, ℕ, zero, suc, ◌+◌, ◌<◌, ◌≤◌, nat_lt, Bool, true, false, cond, ◌&&◌, ◌||◌, List, [], ◌∷◌, ◌++◌, Option, None, Some, length, slice_index, refl, ap, sym, ◌∙◌, inl, inr, arith, append-nil, length-append}
 use Rattle.std.proofs.lemmas.Bool.{and_from, and_parts, both_ways, cases_lt, cases_Bool}
 use Rattle.std.proofs.lemmas.Bool.Decides.{nat_tests}
 use Rattle.std.proofs.lemmas.List.{get_or_append_left, get_or_push, length-map}
 use Rattle.fdb_lines.specs.declared.line.Line.{Line}
-use Rattle.fdb_lines.specs.Before.{began, ended}
+use Rattle.fdb_lines.specs.Before.{ended}
 use Rattle.fdb_lines.specs.Carried.{ends_later, is_open, is_past, open_count, places_where, IsAmong, IsCovered, MayGo, StandFor}
 use Rattle.fdb_lines.specs.Lines.{draws, kind_of, line_at, shows, version_of, lines_in}
 use Rattle.fdb_lines.specs.Reasons.{shows_or_draws}

@@ -1,5 +1,5 @@
 -- Why a stale read is one, or a version is not above others, stays true, whatever begins later.
-use Rattle.std.proofs.Common.{◌≡◌, ℕ, zero, suc, max, ◌<◌, ◌≤◌, ◌==◌, Bool, true, false, ◌&&◌, ◌||◌, List, ◌++◌, Option, None, Some, length, refl, ap, sym, subst, ◌∙◌, inl, inr, arith, length-append}
+use Rattle.std.proofs.Common.{◌≡◌, ℕ, zero, suc, ◌<◌, ◌≤◌, ◌==◌, Bool, true, false, ◌&&◌, ◌||◌, List, ◌++◌, Option, None, Some, length, refl, ap, sym, subst, ◌∙◌, inl, inr, arith, length-append}
 use Rattle.std.proofs.lemmas.Bool.{both_ways, cases_lt}
 use Rattle.fdb_lines.specs.declared.fault.Fault.{Fault}
 use Rattle.fdb_lines.specs.declared.fault.Fault.TheVariants.{Order, Wrong, NotAbove, Twice, Stray}
@@ -12,7 +12,7 @@ use Rattle.fdb_lines.specs.declared.reason.Witness.{Witness}
 use Rattle.fdb_lines.specs.Before.{began, by_time, ended, has_heard, is_of, one_client}
 use Rattle.fdb_lines.specs.Carried.{with_times}
 use Rattle.fdb_lines.specs.Lines.{Kind, is_learn, kind_of, line_at, shows, teller_of, version_of}
-use Rattle.fdb_lines.specs.Reasons.{knew_by, shows_or_draws, IsKnown, IsMeans, IsReason, IsWitness}
+use Rattle.fdb_lines.specs.Reasons.{knew_by, shows_or_draws, IsKnown, IsMeans, IsReason}
 use Rattle.fdb_lines.specs.Watching.{is_watched, opts_of}
 use Rattle.fdb_lines.proofs.Carried.{drawn_is, first_line, lets_none, no_later}
 

@@ -1,5 +1,5 @@
 -- What a watch finds by the lines that it keeps is what it has to tell of all.
-use Rattle.std.proofs.Common.{◌≡◌, ℕ, ◌-◌, ◌<◌, ◌≤◌, nat_le, nat_lt, Bool, true, false, ◌&&◌, ◌||◌, List, Option, length, map, slice_index, slice_index_or, refl, ap, sym, subst, ◌∙◌, inl, inr, arith}
+use Rattle.std.proofs.Common.{◌≡◌, ℕ, ◌<◌, ◌≤◌, nat_le, Bool, true, false, ◌&&◌, ◌||◌, List, Option, length, map, slice_index, slice_index_or, refl, ap, sym, subst, ◌∙◌, inl, inr, arith}
 use Rattle.std.specs.List.{All}
 use Rattle.std.proofs.lemmas.Bool.{and_parts, both_ways, cases_lt}
 use Rattle.std.proofs.lemmas.Bool.Decides.{nat_tests}
@@ -13,15 +13,15 @@ use Rattle.fdb_lines.specs.declared.reason.Finding.{Finding}
 use Rattle.fdb_lines.specs.declared.watch.Watch.{Watch}
 use Rattle.fdb_lines.specs.Audit.{case_of}
 use Rattle.fdb_lines.specs.Before.{began}
-use Rattle.fdb_lines.specs.Carried.{with_times, StandFor}
+use Rattle.fdb_lines.specs.Carried.{with_times}
 use Rattle.fdb_lines.specs.Faults.{stands}
-use Rattle.fdb_lines.specs.Keys.{placed_finding, placed_found}
-use Rattle.fdb_lines.specs.Late.{HasLate, HasLateSince}
+use Rattle.fdb_lines.specs.Keys.{placed_found}
+use Rattle.fdb_lines.specs.Late.{HasLate}
 use Rattle.fdb_lines.specs.Lines.{Lines, line_at, lines_in}
 use Rattle.fdb_lines.specs.Log.{lines_of}
 use Rattle.fdb_lines.specs.Reasons.{found_of, HasReason}
 use Rattle.fdb_lines.specs.Watch.{due, judged_from, HasSeen, IsTold}
-use Rattle.fdb_lines.specs.Watching.{begins_before, is_due, is_watched, opts_of, told_of}
+use Rattle.fdb_lines.specs.Watching.{begins_before, is_watched, opts_of}
 use Rattle.fdb_lines.specs.private.Due.{due_at, told_below}
 use Rattle.fdb_lines.proofs.Carried.{at_part, stand_for_all}
 use Rattle.fdb_lines.proofs.LateKept.{late_same}

@@ -1,6 +1,6 @@
 -- What is asked of a log, by its lines and the options of an audit. (this product's own)
 use Rattle.std.specs.Prelude.{ℕ, Bool, true, false, List, Option, None, Some}
-use Rattle.fdb_lines.specs.declared.act.Act.{Act}
+use Rattle.fdb_lines.specs.declared.effect.Effect.{Effect}
 use Rattle.fdb_lines.specs.declared.opts.AuditOpts.{AuditOpts}
 use Rattle.fdb_lines.specs.Lines.{Case, Lines}
 use Rattle.fdb_lines.specs.Before.{comes_before}
@@ -24,6 +24,6 @@ case_of log opts = record {
   complete = is_complete opts.complete;
 }
 
--- some history explains the lines: it orders their acts, and what others may have done
+-- some history explains the lines: it orders their effects, and what others may have done
 abbrev pub AreExplained : Case → Type 0
-AreExplained c = (history : List Act) × Explains c history
+AreExplained c = (history : List Effect) × Explains c history

@@ -1,23 +1,23 @@
 -- When lines are explained: there is an order of the calls, and of what others may have done, that register and
 -- sequencer allow, in which what comes before comes before. (linearizability of Herlihy and Wing, 1990)
 use Rattle.std.specs.Prelude.{◌≡◌, ◌≢◌, ◌⊎◌, ℕ, ◌<◌, ◌≤◌, ◌&&◌, ◌||◌, Bool, false, List, Some, slice_get, length, IsTrue}
-use Rattle.fdb_lines.specs.declared.act.Act.{Act}
-use Rattle.fdb_lines.specs.declared.act.Act.TheVariants.{Asks, Reports, Reads}
+use Rattle.fdb_lines.specs.declared.effect.Effect.{Effect}
+use Rattle.fdb_lines.specs.declared.effect.Effect.TheVariants.{Asks, Reports, Reads}
 use Rattle.fdb_lines.specs.Lines.{Kind, Read, Commit, Ask, Report, Learn, Case, kind_at, version_at, client_at, draws, reports, shows, is_commit}
 
 -- what happens at a moment of a history, counted from 0
-abbrev pub Happens : List Act → ℕ → Act → Type 0
-Happens history moment act = slice_get history moment ≡ Some act
+abbrev pub Happens : List Effect → ℕ → Effect → Type 0
+Happens history moment effect = slice_get history moment ≡ Some effect
 
 -- a version was reported before a moment, or all began with it
-abbrev pub ReportedBefore : ℕ → List Act → ℕ → ℕ → Type 0
+abbrev pub ReportedBefore : ℕ → List Effect → ℕ → ℕ → Type 0
 ReportedBefore start history moment v =
     (v ≡ start) ⊎ ((m : ℕ) × (m < moment) × Happens history m (Reports v))
 
-abbrev pub AskedBefore : List Act → ℕ → ℕ → Type 0
+abbrev pub AskedBefore : List Effect → ℕ → ℕ → Type 0
 AskedBefore history moment v = (m : ℕ) × (m < moment) × Happens history m (Asks v)
 
-pub record IsLegal (start : ℕ) (history : List Act) : Type 0 where
+pub record IsLegal (start : ℕ) (history : List Effect) : Type 0 where
   -- a read has a version that was reported before it, and the greatest
   pub had : (m v : ℕ) → Happens history m (Reads v) → ReportedBefore start history m v
   pub greatest : (m v w : ℕ) → Happens history m (Reads v) → ReportedBefore start history m w → w ≤ v
@@ -27,19 +27,19 @@ pub record IsLegal (start : ℕ) (history : List Act) : Type 0 where
   pub rising : (m v w : ℕ) → Happens history m (Asks v) → AskedBefore history m w → w < v
   pub above : (m v w : ℕ) → Happens history m (Asks v) → ReportedBefore start history m w → w < v
 
--- the act that a line's read or report is; nothing asks for that of a line that has neither
-abbrev pub taken_by : Kind → ℕ → Act
+-- the effect that a line's read or report is; nothing asks for that of a line that has neither
+abbrev pub taken_by : Kind → ℕ → Effect
 taken_by Read v = Reads v
 taken_by Commit v = Reports v
 taken_by Ask v = Reports v
 taken_by Report v = Reports v
 taken_by Learn v = Reports v
 
-abbrev pub taken : Case → ℕ → Act
+abbrev pub taken : Case → ℕ → Effect
 taken c k = taken_by (kind_at c k) (version_at c k)
 
 -- Callers who logged nothing may ask, read, and report what nobody in the log reports.
-abbrev pub OthersMay : Case → Act → Type 0
+abbrev pub OthersMay : Case → Effect → Type 0
 OthersMay c (Asks v) = Unit {0}
 OthersMay c (Reports v) = (k : ℕ) → k < length c.lines → IsTrue (reports (kind_at c k)) → version_at c k ≢ v
 OthersMay c (Reads v) = Unit {0}
@@ -53,7 +53,7 @@ abbrev pub IsMoment : Case → (ℕ → ℕ) → (ℕ → ℕ) → ℕ → ℕ �
 IsMoment c asked took k m =
     (IsTrue (draws (kind_at c k)) × (m ≡ asked k)) ⊎ (IsTrue (shows (kind_at c k)) × (m ≡ took k))
 
-pub record Explains (c : Case) (history : List Act) : Type 0 where
+pub record Explains (c : Case) (history : List Effect) : Type 0 where
   pub legal : IsLegal c.start history
   -- each line's ask has a moment, and its read or report has one
   pub asked : ℕ → ℕ
@@ -72,6 +72,6 @@ pub record Explains (c : Case) (history : List Act) : Type 0 where
       → version_at c j ≡ version_at c k
       → (i : ℕ) × (i < length c.lines) × IsTrue (draws (kind_at c i)) × (version_at c i ≡ version_at c k)
       × (client_at c i ≡ client_at c k)
-  -- every other act was done by callers who logged nothing, if the log may lack calls
-  pub others : (m : ℕ) (act : Act) → Happens history m act
-      → ((k : ℕ) × (k < length c.lines) × IsMoment c asked took k m) ⊎ ((c.complete ≡ false) × OthersMay c act)
+  -- every other effect was done by callers who logged nothing, if the log may lack calls
+  pub others : (m : ℕ) (effect : Effect) → Happens history m effect
+      → ((k : ℕ) × (k < length c.lines) × IsMoment c asked took k m) ⊎ ((c.complete ≡ false) × OthersMay c effect)

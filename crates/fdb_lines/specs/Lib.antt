@@ -10,7 +10,7 @@ pub mod Keys
 pub mod KeyOrders
 pub mod Late
 pub mod Listing
-pub mod Turns
+pub mod OrderSteps
 pub mod Text
 pub mod Reasons
 pub mod Summary

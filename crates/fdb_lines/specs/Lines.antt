@@ -1,7 +1,7 @@
 -- The lines of a log: what kind of call each is, its version, and its client. (this product's own)
 use Rattle.std.specs.Prelude.{ℕ, Bool, true, false, ◌==◌, List, Option, None, Some, map, slice_index_or}
-use Rattle.fdb_lines.specs.declared.line.Call.{Call}
-use Rattle.fdb_lines.specs.declared.line.Call.TheVariants.{Read as ReadOf, Commit as CommitOf, Ask as AskOf, Report as ReportOf, Learn as LearnFrom}
+use Rattle.fdb_lines.specs.declared.line.Operation.{Operation}
+use Rattle.fdb_lines.specs.declared.line.Operation.TheVariants.{Read as ReadOf, Commit as CommitOf, Ask as AskOf, Report as ReportOf, Learn as LearnFrom}
 use Rattle.fdb_lines.specs.declared.line.Line.{Line}
 use Rattle.fdb_lines.specs.declared.line.Times.{Times}
 
@@ -12,7 +12,7 @@ pub data Kind : Type 0 where
   Report : Kind
   Learn : Kind
 
-abbrev pub kind_of : Call → Kind
+abbrev pub kind_of : Operation → Kind
 kind_of (ReadOf v) = Read
 kind_of (CommitOf v) = Commit
 kind_of (AskOf v) = Ask
@@ -20,7 +20,7 @@ kind_of (ReportOf v) = Report
 kind_of (LearnFrom a) = Learn
 
 -- the version of a call, and 0 for a line that has learnt
-abbrev pub version_of : Call → ℕ
+abbrev pub version_of : Operation → ℕ
 version_of (ReadOf v) = v
 version_of (CommitOf v) = v
 version_of (AskOf v) = v
@@ -28,7 +28,7 @@ version_of (ReportOf v) = v
 version_of (LearnFrom a) = 0
 
 -- from whom a line has learnt, and 0 for a call
-abbrev pub teller_of : Call → ℕ
+abbrev pub teller_of : Operation → ℕ
 teller_of (ReadOf v) = 0
 teller_of (CommitOf v) = 0
 teller_of (AskOf v) = 0

@@ -1,8 +1,8 @@
 -- The order that explains lines without a fault: by version, and at a version first its ask, then the report of the
 -- commits that share it (or of others), then the reports that raise, and then the reads, and the reports that came late.
 use Rattle.std.specs.Prelude.{◌≡◌, ℕ, zero, suc, ◌+◌, ◌*◌, ◌<◌, ◌==◌, ◌&&◌, ◌||◌, not, nat_lt, Bool, true, false, cond, List, [], ◌∷◌, map, length, IsTrue}
-use Rattle.fdb_lines.specs.declared.act.Act.{Act}
-use Rattle.fdb_lines.specs.declared.act.Act.TheVariants.{Asks, Reports, Reads}
+use Rattle.fdb_lines.specs.declared.effect.Effect.{Effect}
+use Rattle.fdb_lines.specs.declared.effect.Effect.TheVariants.{Asks, Reports, Reads}
 use Rattle.fdb_lines.specs.declared.line.Line.{Line}
 use Rattle.fdb_lines.specs.Lines.{Kind, Read, Commit, Ask, Report, Learn, Case, kind_at, version_at, line_at, shows, is_read, is_learn}
 use Rattle.fdb_lines.specs.Before.{began}
@@ -11,21 +11,21 @@ use Rattle.fdb_lines.specs.Faults.{knows, is_reported}
 pub record Item : Type 0 where
   pub stage : ℕ
   pub rank : ℕ
-  pub act : Act
+  pub effect : Effect
 
 abbrev pub ask_item : ℕ → Item
-ask_item v = record { stage = 4 * v; rank = 0; act = Asks v }
+ask_item v = record { stage = 4 * v; rank = 0; effect = Asks v }
 
 abbrev pub shared_item : ℕ → Item
-shared_item v = record { stage = 4 * v + 1; rank = 0; act = Reports v }
+shared_item v = record { stage = 4 * v + 1; rank = 0; effect = Reports v }
 
 -- a report that raises stands at its version, and a late one at what was known
 abbrev pub report_item : Bool → ℕ → ℕ → ℕ → Item
-report_item true rank known v = record { stage = 4 * v + 2; rank = rank; act = Reports v }
-report_item false rank known v = record { stage = 4 * known + 3; rank = rank; act = Reports v }
+report_item true rank known v = record { stage = 4 * v + 2; rank = rank; effect = Reports v }
+report_item false rank known v = record { stage = 4 * known + 3; rank = rank; effect = Reports v }
 
 abbrev pub take_by : Kind → ℕ → ℕ → ℕ → Item
-take_by Read rank known v = record { stage = 4 * v + 3; rank = rank; act = Reads v }
+take_by Read rank known v = record { stage = 4 * v + 3; rank = rank; effect = Reads v }
 take_by Commit rank known v = shared_item v
 take_by Ask rank known v = shared_item v
 take_by Report rank known v = report_item (nat_lt known v) rank known v
@@ -59,8 +59,8 @@ sorted c rank (suc k) =
     (put_if (shows (kind_at c k)) (take_item c rank k)
     (put_if (needs_report c k) (shared_item (version_at c k)) (sorted c rank k)))
 
-abbrev pub history : Case → (ℕ → ℕ) → List Act
-history c rank = map (λ x. x.act) (sorted c rank (length c.lines))
+abbrev pub history : Case → (ℕ → ℕ) → List Effect
+history c rank = map (λ x. x.effect) (sorted c rank (length c.lines))
 
 -- What the proof needs of the order: it is transitive, and no line comes before one with a lower rank.
 pub record IsRanked (c : Case) (rank : ℕ → ℕ) : Type 0 where

@@ -24,7 +24,7 @@ line_error_text TooMany = codes "too many lines"
 line_error_text SomeTimes = codes "times on some lines only"
 line_error_text TimedLearn = codes "a learn beside times"
 line_error_text NoClient = codes "no client and no times"
-line_error_text Memory = codes "want of memory"
+line_error_text Memory = codes "out of memory"
 
 abbrev pub watch_error_text : WatchError → List ℕ
 watch_error_text NoTimes = codes "no times"

@@ -1,11 +1,11 @@
-pub mod Seen
+pub mod Exposure
 pub mod Entries
-pub mod Ends
+pub mod EndTable
 pub mod Known
 pub mod Telling
-pub mod Marks
+pub mod Locators
 pub mod Tables
-pub mod Spots
+pub mod Slots
 pub mod Due
 pub mod Ended
 pub mod Standing

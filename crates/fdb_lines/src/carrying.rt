@@ -11,7 +11,7 @@ ghost use Rattle.fdb_lines.specs.private.Standing.{counts_past, is_above, is_at,
 ghost use Rattle.fdb_lines.specs.private.Standing.{is_needed, lets_of};
 
 use crate::known::version_in;
-use crate::line::{Call, Line};
+use crate::line::{Line, Operation};
 use crate::log::Log;
 use std::alloc::{AllocError, Global};
 
@@ -101,7 +101,7 @@ fn ends_later(line: &Line, margin: u64, at: u64) -> bool
 }
 
 /// Whether a call lets its version be known: it shows one, or draws one too.
-fn lets_of(drawn: bool, call: Call) -> bool
+fn lets_of(drawn: bool, call: Operation) -> bool
     ensures { result ≡ lets_of drawn (kind_of call) }
 {
     if drawn {

@@ -9,11 +9,12 @@ ghost use Rattle.fdb_lines.specs.Watching.{begins_before};
 ghost use Rattle.fdb_lines.specs.private.Due.{due_at, is_due_by, told_below};
 
 use crate::fault::Fault;
-use crate::judging::add_finding;
+use crate::finding::add_finding;
 use crate::line::Line;
 use crate::log::Log;
 use crate::opts::AuditOpts;
 use crate::reason::Finding;
+use crate::tables::Tables;
 use crate::tables_of::tables_of;
 use std::alloc::{AllocError, Global};
 
@@ -66,12 +67,13 @@ pub(crate) fn findings_due(
         (λ found. All (HasReason (lines_of log.now) opts.now) found.items) }
     ensures late { IfOk result (λ found. All (HasLate (lines_of log.now) opts.now) found.items) }
 {
-    let tables = tables_of(alloc, log, opts)?;
+    let made = tables_of(alloc, log, opts)?;
+    let tables = Tables::new(log, opts, &made);
     let mut found = Vec::new(alloc);
     for place in 0..numbers.len() {
         if due.has(numbers[place], &log.lines()[place]) {
-            add_finding(&mut found, &tables, log, opts, place, Fault::Order)?;
-            add_finding(&mut found, &tables, log, opts, place, Fault::NotAbove)?;
+            add_finding(&mut found, &tables, place, Fault::Order)?;
+            add_finding(&mut found, &tables, place, Fault::NotAbove)?;
         }
     }
     Ok(found)

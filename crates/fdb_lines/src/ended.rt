@@ -3,10 +3,10 @@
 ghost use Rattle.std.specs.Prelude.{◌≡◌, ◌+◌, ℕ, ◌≤◌, IfOk, OnOk, Option, cond, length};
 ghost use Rattle.std.specs.List.Sorted.{IsNonDecreasingBy};
 ghost use Rattle.fdb_lines.specs.private.Ended.{count_before, line_before, HasEnds};
-ghost use Rattle.fdb_lines.specs.private.Ends.{end_key};
+ghost use Rattle.fdb_lines.specs.private.EndTable.{end_key};
 
 use crate::end::End;
-use crate::ends::{front_near, order};
+use crate::end_table::{front_near, order};
 use crate::line::Line;
 use std::alloc::{AllocError, Global};
 

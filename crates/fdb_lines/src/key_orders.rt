@@ -4,7 +4,7 @@ ghost use Rattle.std.specs.Prelude.{◌≡◌, All, IfErr, IfOk, MatchOption, On
 ghost use Rattle.std.specs.Prelude.{map, slice_get};
 ghost use Rattle.fdb_lines.specs.Keys.{faults_by_key, keys_of, AreExplainedByKey};
 ghost use Rattle.fdb_lines.specs.Keys.{HasLateByKey, HasReasonByKey};
-ghost use Rattle.fdb_lines.specs.KeyOrders.{placed_turn, IsOrderOfKey};
+ghost use Rattle.fdb_lines.specs.KeyOrders.{placed_step, IsOrderOfKey};
 ghost use Rattle.fdb_lines.specs.Log.{lines_of};
 ghost use Rattle.fdb_lines.specs.Reasons.{found_of};
 ghost use Rattle.fdb_lines.specs.private.KeyOrders.{AreOrders};
@@ -16,10 +16,10 @@ use crate::opts::AuditOpts;
 use crate::ordering::order;
 use crate::parts::parts_of;
 use crate::reason::Finding;
-use crate::turn::Turn;
+use crate::step::OrderStep;
 use std::alloc::{AllocError, Global};
 
-/// For each key of a log, in the order of its first line, an order of the acts of its lines that
+/// For each key of a log, in the order of its first line, an order of the effects of its lines that
 /// explains them; where the lines of some key have none, the first fault, as
 /// [`findings_by_key`](crate::findings_by_key) tells it. An error only where memory is refused.
 ///
@@ -72,39 +72,43 @@ fn orders_of(
     for part in 0..parts.len() {
         let places = &parts[part].places;
         let lines = log.part(alloc, places)?;
-        let Some(turns) = order(alloc, &lines, opts)? else {
+        let Some(steps) = order(alloc, &lines, opts)? else {
             return Ok(None);
         };
         orders.push(KeyOrder {
             key: parts[part].key,
-            turns: placed_turns(alloc, places, &turns)?,
+            steps: placed_steps(alloc, places, &steps)?,
         })?;
     }
     Ok(Some(orders))
 }
 
-/// Turns, with their lines told of the whole log.
-fn placed_turns(alloc: Global, places: &[u32], turns: &[Turn]) -> Result<Vec<Turn>, AllocError>
-    ensures { IfOk result (λ placed. placed.items ≡ map (placed_turn places.now) turns.now) }
+/// OrderSteps, with their lines told of the whole log.
+fn placed_steps(
+    alloc: Global,
+    places: &[u32],
+    steps: &[OrderStep],
+) -> Result<Vec<OrderStep>, AllocError>
+    ensures { IfOk result (λ placed. placed.items ≡ map (placed_step places.now) steps.now) }
 {
-    let mut placed = Vec::with_capacity(alloc, turns.len())?;
-    for turn in turns {
-        placed.push(placed_turn(places, *turn))?;
+    let mut placed = Vec::with_capacity(alloc, steps.len())?;
+    for step in steps {
+        placed.push(placed_step(places, *step))?;
     }
     Ok(placed)
 }
 
-fn placed_turn(places: &[u32], turn: Turn) -> Turn
-    ensures { result ≡ placed_turn places.now turn }
+fn placed_step(places: &[u32], step: OrderStep) -> OrderStep
+    ensures { result ≡ placed_step places.now step }
 {
-    let line = match turn.line {
+    let line = match step.line {
         Some(line) => Some(place_in(places, line)),
         None => None,
     };
-    Turn {
-        act: turn.act,
+    OrderStep {
+        effect: step.effect,
         line,
-        shared: turn.shared,
+        shared: step.shared,
     }
 }
 

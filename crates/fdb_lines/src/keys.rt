@@ -11,12 +11,13 @@ ghost use Rattle.fdb_lines.specs.Reasons.{found_of};
 ghost use Rattle.fdb_lines.specs.private.Keys.{items_at, placed_at, AreToldAt};
 
 use crate::fault::Found;
-use crate::judging::add_findings;
+use crate::finding::add_findings;
 use crate::late::Late;
 use crate::log::Log;
 use crate::opts::AuditOpts;
 use crate::parts::parts_of;
 use crate::reason::{Finding, Means, Reason, Witness};
+use crate::tables::Tables;
 use crate::tables_of::tables_of;
 use std::alloc::{AllocError, Global};
 
@@ -100,10 +101,11 @@ fn judge_part(
         → items_at judged.new.items k ≡ items_at judged.old.items k) }
 {
     let part = log.part(alloc, places)?;
-    let tables = tables_of(alloc, &part, opts)?;
+    let made = tables_of(alloc, &part, opts)?;
+    let tables = Tables::new(&part, opts, &made);
     for (at, place) in places.iter().enumerate() {
         let mut here = Vec::new(alloc);
-        add_findings(&mut here, &tables, &part, opts, at)?;
+        add_findings(&mut here, &tables, at)?;
         add_placed(&mut judged[*place as usize], &here, places, *place)?;
     }
     Ok(())

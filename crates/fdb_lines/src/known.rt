@@ -2,21 +2,21 @@
 
 ghost use Rattle.std.specs.Prelude.{◌≡◌, ◌≤◌, IfOk, List, OnOk, length, false, true};
 ghost use Rattle.fdb_lines.specs.declared.line.Line.{Line};
-ghost use Rattle.fdb_lines.specs.declared.seen.Seen.{Seen};
+ghost use Rattle.fdb_lines.specs.declared.exposure.Exposure.{Exposure};
 ghost use Rattle.fdb_lines.specs.Before.{by_time};
 ghost use Rattle.fdb_lines.specs.Lines.{line_at};
-ghost use Rattle.fdb_lines.specs.private.Ends.{AreSettled};
+ghost use Rattle.fdb_lines.specs.private.EndTable.{AreSettled};
 ghost use Rattle.fdb_lines.specs.private.Entries.{IsNewest};
 ghost use Rattle.fdb_lines.specs.private.Known.{by_at, newer, of_all, of_own, version_by};
 ghost use Rattle.fdb_lines.specs.private.Known.{version_in, witness, AreEnds, AreKnown};
 ghost use Rattle.fdb_lines.specs.private.Known.{AreKnownOf, IsEndOf};
 
 use crate::end::End;
-use crate::ends::Ends;
+use crate::end_table::EndTable;
+use crate::exposure::{Exposure, counts};
+use crate::hints::Hints;
 use crate::line::Line;
-use crate::nears::Nears;
 use crate::reason::{Means, Witness};
-use crate::seen::{Seen, counts};
 use std::alloc::{AllocError, Global};
 
 /// By time: for each line the newest of the lines before it that let their versions be known, if
@@ -25,9 +25,9 @@ pub(crate) fn known_by_time(
     alloc: Global,
     lines: &[Line],
     margin: u64,
-    seen: Seen,
-    ends: &Ends,
-    own: &Ends,
+    seen: Exposure,
+    ends: &EndTable,
+    own: &EndTable,
 ) -> Result<Vec<Option<Witness>>, AllocError>
     requires few { length lines.now ≤ 4294967295 }
     requires settled { AreSettled ends.now × AreSettled own.now }
@@ -46,8 +46,8 @@ fn known_of_all(
     alloc: Global,
     lines: &[Line],
     margin: u64,
-    seen: Seen,
-    ends: &Ends,
+    seen: Exposure,
+    ends: &EndTable,
 ) -> Result<Vec<Option<Witness>>, AllocError>
     requires settled { AreSettled ends.now }
     requires ends { AreEnds false seen lines.now (length lines.now) ends.now.ends.items }
@@ -67,10 +67,10 @@ fn known_of_all(
 /// Adds to each the newest of the client's own lines that had ended, by the table of those.
 fn add_own(
     alloc: Global,
-    table: &Ends,
+    table: &EndTable,
     lines: &[Line],
     margin: u64,
-    seen: Seen,
+    seen: Exposure,
     known: &mut Vec<Option<Witness>>,
 ) -> Result<(), AllocError>
     requires few { length lines.now ≤ 4294967295 }
@@ -81,32 +81,32 @@ fn add_own(
     ensures { OnOk result
         (AreKnown (by_time margin lines.now) margin seen lines.now known.new.items) }
 {
-    let mut nears = Nears::new(alloc, lines.len())?;
+    let mut hints = Hints::new(alloc, lines.len())?;
     for (place, line) in lines.iter().enumerate() {
-        let own = own_before(table, line, place as u32, &mut nears);
+        let own = own_before(table, line, place as u32, &mut hints);
         known[place] = newer(lines, known[place], witness(own, Means::Own));
     }
     Ok(())
 }
 
 /// The newest of the client's own lines that had ended when its line at a place began.
-fn own_before(table: &Ends, line: &Line, place: u32, nears: &mut Nears) -> Option<u32>
+fn own_before(table: &EndTable, line: &Line, place: u32, hints: &mut Hints) -> Option<u32>
     requires { AreSettled table.now }
-    ensures { (seen : Seen) (lines : List Line) → line.now ≡ line_at lines place
+    ensures { (seen : Exposure) (lines : List Line) → line.now ≡ line_at lines place
         → AreEnds true seen lines (length lines) table.now.ends.items
         → IsNewest (of_own seen lines place) (version_in lines) (length lines) result }
 {
     let client = line.client?;
-    table.newest_before(client, line.began(), place, nears.of(client))
+    table.newest_before(client, line.began(), place, hints.of(client))
 }
 
 /// The table of the lines that let a version be known and that ended.
 pub(crate) fn table_of(
     alloc: Global,
     lines: &[Line],
-    seen: Seen,
+    seen: Exposure,
     by_client: bool,
-) -> Result<Ends, AllocError>
+) -> Result<EndTable, AllocError>
     requires { length lines.now ≤ 4294967295 }
     ensures settled { IfOk result (λ table. AreSettled table) }
     ensures ends { IfOk result
@@ -118,11 +118,11 @@ pub(crate) fn table_of(
             ends.push(end)?;
         }
     }
-    Ends::new(alloc, ends)
+    EndTable::new(alloc, ends)
 }
 
 /// The end of a line, where it stands in the table.
-fn end_of(line: &Line, above: u32, seen: Seen, by_client: bool) -> Option<End>
+fn end_of(line: &Line, above: u32, seen: Exposure, by_client: bool) -> Option<End>
     ensures { IsEndOf by_client seen line.now above result }
 {
     if !counts(seen, line.call) {

@@ -3,7 +3,7 @@
 ghost use Rattle.std.specs.Prelude.{ℕ, ◌<◌, ◌≤◌, ◌≡◌, ◌≢◌, ◌↔◌, ◌++◌, ◌∷◌, [], List, Option};
 ghost use Rattle.std.specs.Prelude.{length, map, not, slice_index, true, IfSome, IsTrue, Some};
 ghost use Rattle.std.specs.List.{filter};
-ghost use Rattle.fdb_lines.specs.declared.act.Act.{Act};
+ghost use Rattle.fdb_lines.specs.declared.effect.Effect.{Effect};
 ghost use Rattle.fdb_lines.specs.declared.fault.Fault.{Fault};
 ghost use Rattle.fdb_lines.specs.declared.fault.Fault.TheVariants.{Order, NotAbove, Twice};
 ghost use Rattle.fdb_lines.specs.declared.fault.Found.{Found};
@@ -28,7 +28,7 @@ ghost use Rattle.fdb_lines.specs.Watching.{told_of};
 
 /// No fault is invented: where some history explains the lines, none stands.
 pub fn nothing_is_invented()
-    ensures { (c : Case) (history : List Act) → Explains c history → IsFaultless c }
+    ensures { (c : Case) (history : List Effect) → Explains c history → IsFaultless c }
 {}
 
 /// No fault is hidden: where none stands, an order explains the lines.
@@ -53,9 +53,9 @@ pub fn no_read_goes_back()
         → k < length c.lines → kind_at c k ≡ Read → c.start ≤ version_at c k }
 {}
 
-/// A history is legal exactly where register and sequencer run through it, one act after another.
+/// A history is legal exactly where register and sequencer run through it, one effect after another.
 pub fn legal_exactly_where_it_runs()
-    ensures { (start : ℕ) (history : List Act) → IsTrue (runs (fresh start) history) ↔ IsLegal start history }
+    ensures { (start : ℕ) (history : List Effect) → IsTrue (runs (fresh start) history) ↔ IsLegal start history }
 {}
 
 /// Only an ask is exempt: any other call precedes each line that it comes before.

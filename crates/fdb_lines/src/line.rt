@@ -6,7 +6,7 @@ ghost use Rattle.std.proofs.Props.{props};
 
 /// What a line says that was done, with the version that was read, drawn or reported.
 #[derive(Clone, Copy, Debug, PartialEq, Eq)]
-pub enum Call {
+pub enum Operation {
     /// A read got this version: the newest that was reported when the read was answered.
     Read(u64),
     /// A commit got this version: it was drawn and reported meanwhile, maybe for others too.
@@ -19,7 +19,7 @@ pub enum Call {
     Learn(u32),
 }
 
-impl Call {
+impl Operation {
     ghost use Rattle.fdb_lines.specs.Lines.{draws, is_ask, is_commit, is_learn, is_read};
     ghost use Rattle.fdb_lines.specs.Lines.{is_report, kind_of, reports, shows, version_of};
 
@@ -28,11 +28,11 @@ impl Call {
         ensures { result ≡ version_of self }
     {
         match self {
-            Call::Read(version)
-            | Call::Commit(version)
-            | Call::Ask(version)
-            | Call::Report(version) => version,
-            Call::Learn(_) => 0,
+            Operation::Read(version)
+            | Operation::Commit(version)
+            | Operation::Ask(version)
+            | Operation::Report(version) => version,
+            Operation::Learn(_) => 0,
         }
     }
 
@@ -40,49 +40,49 @@ impl Call {
     pub fn is_read(self) -> bool
         ensures { result ≡ is_read (kind_of self) }
     {
-        matches!(self, Call::Read(_))
+        matches!(self, Operation::Read(_))
     }
 
     /// Whether this both draws a version and reports it.
     pub fn is_commit(self) -> bool
         ensures { result ≡ is_commit (kind_of self) }
     {
-        matches!(self, Call::Commit(_))
+        matches!(self, Operation::Commit(_))
     }
 
     /// Whether this draws a version and leaves the report to another line.
     pub fn is_ask(self) -> bool
         ensures { result ≡ is_ask (kind_of self) }
     {
-        matches!(self, Call::Ask(_))
+        matches!(self, Operation::Ask(_))
     }
 
     /// Whether this reports a version that it did not draw itself.
     pub fn is_report(self) -> bool
         ensures { result ≡ is_report (kind_of self) }
     {
-        matches!(self, Call::Report(_))
+        matches!(self, Operation::Report(_))
     }
 
     /// Whether this is no call, but says that the client has learnt from another.
     pub fn is_learn(self) -> bool
         ensures { result ≡ is_learn (kind_of self) }
     {
-        matches!(self, Call::Learn(_))
+        matches!(self, Operation::Learn(_))
     }
 
     /// Whether this draws a version: a commit or an ask.
     pub fn draws(self) -> bool
         ensures { result ≡ draws (kind_of self) }
     {
-        matches!(self, Call::Commit(_) | Call::Ask(_))
+        matches!(self, Operation::Commit(_) | Operation::Ask(_))
     }
 
     /// Whether this reports a version: a commit or a report.
     pub fn reports(self) -> bool
         ensures { result ≡ reports (kind_of self) }
     {
-        matches!(self, Call::Commit(_) | Call::Report(_))
+        matches!(self, Operation::Commit(_) | Operation::Report(_))
     }
 
     /// Whether this shows that the register has got to a version: a read, a commit or a report.
@@ -120,7 +120,7 @@ impl Times {
 #[derive(Clone, Copy, Debug, PartialEq, Eq)]
 pub struct Line {
     pub client: Option<u32>,
-    pub call: Call,
+    pub call: Operation,
     pub times: Option<Times>,
 }
 

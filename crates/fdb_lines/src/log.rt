@@ -4,7 +4,7 @@ ghost use Rattle.std.specs.Prelude.{◌≡◌, ℕ, ◌<◌, ◌≤◌, ◌⊎�
 ghost use Rattle.std.specs.Prelude.{IfOk, OnOk, length, slice_index};
 ghost use Rattle.fdb_lines.specs.Lines.{has_times, line_at};
 
-use crate::line::{Call, Line};
+use crate::line::{Line, Operation};
 use std::alloc::{AllocError, Global};
 use std::error::Error;
 use std::fmt;
@@ -39,7 +39,7 @@ impl fmt::Display for LineError {
             LineError::SomeTimes => "times on some lines only",
             LineError::TimedLearn => "a learn beside times",
             LineError::NoClient => "no client and no times",
-            LineError::Memory => "want of memory",
+            LineError::Memory => "out of memory",
         })
     }
 }
@@ -131,7 +131,7 @@ impl Log {
             Some(LineError::TooMany)
         } else if !self.lines.is_empty() && self.timed != timed {
             Some(LineError::SomeTimes)
-        } else if timed && matches!(line.call, Call::Learn(_)) {
+        } else if timed && matches!(line.call, Operation::Learn(_)) {
             Some(LineError::TimedLearn)
         } else if !timed && line.client.is_none() {
             Some(LineError::NoClient)

@@ -10,9 +10,9 @@ ghost use Rattle.fdb_lines.specs.private.Ended.{HasEnds, HasTimes, pairs_below};
 
 use crate::end_times::EndTimes;
 use crate::ended::Ended;
+use crate::hints::Hints;
 use crate::line::Line;
 use crate::log::Log;
-use crate::nears::Nears;
 use crate::opts::AuditOpts;
 use std::alloc::{AllocError, Global};
 use std::thread::{Threads, join};
@@ -127,10 +127,10 @@ fn pairs_among(
         ≡ pairs_below (by_time margin lines.now) (length lines.now) to) }
     ensures fit { IfOk result (λ n. n ≤ (to - from) * 4294967295) }
 {
-    let mut nears = Nears::new(alloc, lines.len())?;
+    let mut hints = Hints::new(alloc, lines.len())?;
     let mut pairs: u64 = 0;
     for place in from..to {
-        pairs += before(all, own, lines, place, margin, &mut nears);
+        pairs += before(all, own, lines, place, margin, &mut hints);
     }
     Ok(pairs)
 }
@@ -143,7 +143,7 @@ fn before(
     lines: &[Line],
     place: usize,
     margin: u64,
-    nears: &mut Nears,
+    hints: &mut Hints,
 ) -> u64
     requires few { length lines.now ≤ 4294967295 }
     requires place { place < length lines.now }
@@ -155,7 +155,7 @@ fn before(
     let began = line.began();
     let bound = began.saturating_sub(margin);
     let earlier = all.before(bound);
-    let near = nears.of(line.client.unwrap_or(0));
+    let near = hints.of(line.client.unwrap_or(0));
     let known = own.before(line.client, began, place as u32, near);
     let twice = own.before(line.client, bound, 0, near);
     (earlier + known - twice) as u64

@@ -12,7 +12,7 @@ ghost use Rattle.fdb_lines.specs.Lines.{version_of};
 ghost use Rattle.fdb_lines.specs.Log.{lines_of};
 ghost use Rattle.fdb_lines.specs.Summary.{how_many, ordered, unreported};
 
-use crate::line::Call;
+use crate::line::Operation;
 use crate::log::Log;
 use crate::opts::AuditOpts;
 use crate::pairs::{ordered, ordered_by};
@@ -130,7 +130,7 @@ pub(crate) fn unreported(alloc: Global, log: &Log, opts: &AuditOpts) -> Result<u
 }
 
 /// Adds the version of a call, if it is wanted.
-fn add(versions: &mut BTreeSet<u64>, call: Call, wanted: bool) -> Result<(), AllocError>
+fn add(versions: &mut BTreeSet<u64>, call: Operation, wanted: bool) -> Result<(), AllocError>
     ensures versions { OnOk result ((v : ℕ) → contains nat_cmp versions.new v
         ≡ ((wanted && version_of call == v) || contains nat_cmp versions.old v)) }
     ensures more { OnOk result (btree_set_len versions.new ≡ btree_set_len versions.old

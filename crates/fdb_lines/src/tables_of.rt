@@ -3,44 +3,44 @@
 ghost use Rattle.std.specs.Prelude.{◌≡◌, ◌≤◌, IfOk, false, length, true};
 ghost use Rattle.std.specs.Thread.{IsSync};
 ghost use Rattle.fdb_lines.specs.Log.{lines_of};
-ghost use Rattle.fdb_lines.specs.declared.seen.Seen.TheVariants.{Drawn, Shown};
-ghost use Rattle.fdb_lines.specs.private.Ends.{AreSettled};
+ghost use Rattle.fdb_lines.specs.declared.exposure.Exposure.TheVariants.{Drawn, Shown};
+ghost use Rattle.fdb_lines.specs.private.EndTable.{AreSettled};
 ghost use Rattle.fdb_lines.specs.private.Known.{AreEnds};
-ghost use Rattle.fdb_lines.specs.private.Marks.{AreMarks};
+ghost use Rattle.fdb_lines.specs.private.Locators.{AreLocators};
 ghost use Rattle.fdb_lines.specs.private.Tables.{has_ask, AreDrawnIn, AreKnownIn, AreTables};
 
-use crate::ends::Ends;
+use crate::end_table::EndTable;
+use crate::exposure::Exposure;
 use crate::known::{known_by_time, table_of};
 use crate::line::Line;
+use crate::line_kind::LineKind;
+use crate::locators::Locators;
 use crate::log::Log;
-use crate::marks::Marks;
 use crate::opts::AuditOpts;
 use crate::reason::Witness;
-use crate::seen::Seen;
-use crate::sort::Sort;
-use crate::tables::{DrawTables, Tables};
+use crate::tables::{DrawTables, Made};
 use crate::telling::known_by_telling;
 use std::alloc::{AllocError, Global};
 use std::thread::{Threads, join};
 
 /// The tables of a log. `n log n` in how many lines there are.
-pub(crate) fn tables_of(alloc: Global, log: &Log, opts: &AuditOpts) -> Result<Tables, AllocError>
-    ensures { IfOk result (λ tables. AreTables (lines_of log.now) opts.now tables) }
+pub(crate) fn tables_of(alloc: Global, log: &Log, opts: &AuditOpts) -> Result<Made, AllocError>
+    ensures { IfOk result (λ made. AreTables (lines_of log.now) opts.now made) }
 {
     let lines = log.lines();
     let start = opts.start();
-    let firsts = table_of(alloc, lines, Seen::Shown, false)?;
-    let own = table_of(alloc, lines, Seen::Shown, true)?;
-    let shown = known(alloc, log, opts, Seen::Shown, &firsts, &own)?;
+    let firsts = table_of(alloc, lines, Exposure::Shown, false)?;
+    let own = table_of(alloc, lines, Exposure::Shown, true)?;
+    let shown = known(alloc, log, opts, Exposure::Shown, &firsts, &own)?;
     drop(own);
     let drawn = known_draws(alloc, log, opts)?;
-    let reports = Marks::new(alloc, start, lines, &shown, Sort::Reports)?;
-    let raises = Marks::new(alloc, start, lines, &shown, Sort::Raises)?;
-    let draws = Marks::new(alloc, start, lines, &shown, Sort::Draws)?;
-    let asks = Marks::new(alloc, start, lines, &shown, Sort::Asks)?;
-    let owned = Marks::new(alloc, start, lines, &shown, Sort::Owned)?;
-    let nameless = Marks::new(alloc, start, lines, &shown, Sort::Nameless)?;
-    Ok(Tables {
+    let reports = Locators::new(alloc, start, lines, &shown, LineKind::Reports)?;
+    let raises = Locators::new(alloc, start, lines, &shown, LineKind::Raises)?;
+    let draws = Locators::new(alloc, start, lines, &shown, LineKind::Draws)?;
+    let asks = Locators::new(alloc, start, lines, &shown, LineKind::Asks)?;
+    let owned = Locators::new(alloc, start, lines, &shown, LineKind::Owned)?;
+    let nameless = Locators::new(alloc, start, lines, &shown, LineKind::Nameless)?;
+    Ok(Made {
         shown,
         drawn,
         reports,
@@ -59,8 +59,8 @@ pub(crate) fn tables_by<R: Threads + Sync>(
     alloc: Global,
     log: &Log,
     opts: &AuditOpts,
-) -> Result<Tables, AllocError>
-    ensures { IfOk result (λ tables. AreTables (lines_of log.now) opts.now tables) }
+) -> Result<Made, AllocError>
+    ensures { IfOk result (λ made. AreTables (lines_of log.now) opts.now made) }
 {
     let lines = log.lines();
     let (firsts, own) = two_tables(rt, alloc, lines);
@@ -72,15 +72,23 @@ pub(crate) fn tables_by<R: Threads + Sync>(
     let drawn = drawn?;
     let start = opts.start();
     let known = shown.as_slice();
-    let ((reports, raises), (draws, owned)) = four_marks(rt, alloc, start, lines, known);
-    let (asks, nameless) = two_marks(rt, alloc, start, lines, known, Sort::Asks, Sort::Nameless);
+    let ((reports, raises), (draws, owned)) = four_locators(rt, alloc, start, lines, known);
+    let (asks, nameless) = two_locators(
+        rt,
+        alloc,
+        start,
+        lines,
+        known,
+        LineKind::Asks,
+        LineKind::Nameless,
+    );
     let reports = reports?;
     let raises = raises?;
     let draws = draws?;
     let asks = asks?;
     let owned = owned?;
     let nameless = nameless?;
-    Ok(Tables {
+    Ok(Made {
         shown,
         drawn,
         reports,
@@ -99,8 +107,8 @@ fn two_known<R: Threads + Sync>(
     alloc: Global,
     log: &Log,
     opts: &AuditOpts,
-    ends: &Ends,
-    own: &Ends,
+    ends: &EndTable,
+    own: &EndTable,
 ) -> (
     Result<Vec<Option<Witness>>, AllocError>,
     Result<Option<DrawTables>, AllocError>,
@@ -125,7 +133,7 @@ fn two_known<R: Threads + Sync>(
                 own.now.ends.items }
             ensures { IfOk result
                 (λ known. AreKnownIn (lines_of log.entry.now) opts.entry.now Shown known.items) }
-        { known(alloc, log, opts, Seen::Shown, ends, own) },
+        { known(alloc, log, opts, Exposure::Shown, ends, own) },
         || -> Result<Option<DrawTables>, AllocError>
             ensures { IfOk result
                 (λ drawn. AreDrawnIn (lines_of log.entry.now) opts.entry.now drawn) }
@@ -138,7 +146,7 @@ fn two_tables<R: Threads + Sync>(
     rt: &R,
     alloc: Global,
     lines: &[Line],
-) -> (Result<Ends, AllocError>, Result<Ends, AllocError>)
+) -> (Result<EndTable, AllocError>, Result<EndTable, AllocError>)
     requires { length lines.now ≤ 4294967295 }
     ensures settled { IfOk result.0 (λ table. AreSettled table) }
     ensures ends { IfOk result.0 (λ table. AreEnds false Shown lines.now (length lines.now)
@@ -149,89 +157,109 @@ fn two_tables<R: Threads + Sync>(
 {
     join(
         rt,
-        || -> Result<Ends, AllocError>
+        || -> Result<EndTable, AllocError>
             requires { length lines.now ≤ 4294967295 }
             ensures settled { IfOk result (λ table. AreSettled table) }
             ensures ends { IfOk result (λ table. AreEnds false Shown lines.entry.now
                 (length lines.entry.now) table.ends.items) }
-        { table_of(alloc, lines, Seen::Shown, false) },
-        || -> Result<Ends, AllocError>
+        { table_of(alloc, lines, Exposure::Shown, false) },
+        || -> Result<EndTable, AllocError>
             requires { length lines.now ≤ 4294967295 }
             ensures settled { IfOk result (λ table. AreSettled table) }
             ensures ends { IfOk result (λ table. AreEnds true Shown lines.entry.now
                 (length lines.entry.now) table.ends.items) }
-        { table_of(alloc, lines, Seen::Shown, true) },
+        { table_of(alloc, lines, Exposure::Shown, true) },
     )
 }
 
-/// The marks by which most is looked for, made in four threads.
-fn four_marks<R: Threads + Sync>(
+/// The locators by which most is looked for, made in four threads.
+fn four_locators<R: Threads + Sync>(
     rt: &R,
     alloc: Global,
     start: u64,
     lines: &[Line],
     known: &[Option<Witness>],
 ) -> (
-    (Result<Marks, AllocError>, Result<Marks, AllocError>),
-    (Result<Marks, AllocError>, Result<Marks, AllocError>),
+    (Result<Locators, AllocError>, Result<Locators, AllocError>),
+    (Result<Locators, AllocError>, Result<Locators, AllocError>),
 )
     requires { length lines.now ≤ 4294967295 }
-    ensures reports { IfOk result.0.0 (λ table. AreMarks Sort.Reports start
-        lines.now known.now (length lines.now) table.marks.items) }
-    ensures raises { IfOk result.0.1 (λ table. AreMarks Sort.Raises start
-        lines.now known.now (length lines.now) table.marks.items) }
-    ensures draws { IfOk result.1.0 (λ table. AreMarks Sort.Draws start
-        lines.now known.now (length lines.now) table.marks.items) }
-    ensures owned { IfOk result.1.1 (λ table. AreMarks Sort.Owned start
-        lines.now known.now (length lines.now) table.marks.items) }
+    ensures reports { IfOk result.0.0 (λ table. AreLocators LineKind.Reports start
+        lines.now known.now (length lines.now) table.locators.items) }
+    ensures raises { IfOk result.0.1 (λ table. AreLocators LineKind.Raises start
+        lines.now known.now (length lines.now) table.locators.items) }
+    ensures draws { IfOk result.1.0 (λ table. AreLocators LineKind.Draws start
+        lines.now known.now (length lines.now) table.locators.items) }
+    ensures owned { IfOk result.1.1 (λ table. AreLocators LineKind.Owned start
+        lines.now known.now (length lines.now) table.locators.items) }
 {
     join(
         rt,
-        || -> (Result<Marks, AllocError>, Result<Marks, AllocError>)
+        || -> (Result<Locators, AllocError>, Result<Locators, AllocError>)
             requires { IsSync R.row × (length lines.now ≤ 4294967295) }
-            ensures reports { IfOk result.0 (λ table. AreMarks Sort.Reports start
-                lines.entry.now known.entry.now (length lines.entry.now) table.marks.items) }
-            ensures raises { IfOk result.1 (λ table. AreMarks Sort.Raises start
-                lines.entry.now known.entry.now (length lines.entry.now) table.marks.items) }
-        { two_marks(rt, alloc, start, lines, known, Sort::Reports, Sort::Raises) },
-        || -> (Result<Marks, AllocError>, Result<Marks, AllocError>)
+            ensures reports { IfOk result.0 (λ table. AreLocators LineKind.Reports start
+                lines.entry.now known.entry.now (length lines.entry.now) table.locators.items) }
+            ensures raises { IfOk result.1 (λ table. AreLocators LineKind.Raises start
+                lines.entry.now known.entry.now (length lines.entry.now) table.locators.items) }
+        {
+            two_locators(
+                rt,
+                alloc,
+                start,
+                lines,
+                known,
+                LineKind::Reports,
+                LineKind::Raises,
+            )
+        },
+        || -> (Result<Locators, AllocError>, Result<Locators, AllocError>)
             requires { IsSync R.row × (length lines.now ≤ 4294967295) }
-            ensures draws { IfOk result.0 (λ table. AreMarks Sort.Draws start
-                lines.entry.now known.entry.now (length lines.entry.now) table.marks.items) }
-            ensures owned { IfOk result.1 (λ table. AreMarks Sort.Owned start
-                lines.entry.now known.entry.now (length lines.entry.now) table.marks.items) }
-        { two_marks(rt, alloc, start, lines, known, Sort::Draws, Sort::Owned) },
+            ensures draws { IfOk result.0 (λ table. AreLocators LineKind.Draws start
+                lines.entry.now known.entry.now (length lines.entry.now) table.locators.items) }
+            ensures owned { IfOk result.1 (λ table. AreLocators LineKind.Owned start
+                lines.entry.now known.entry.now (length lines.entry.now) table.locators.items) }
+        {
+            two_locators(
+                rt,
+                alloc,
+                start,
+                lines,
+                known,
+                LineKind::Draws,
+                LineKind::Owned,
+            )
+        },
     )
 }
 
-/// The marks of two sorts, made in two threads.
-fn two_marks<R: Threads + Sync>(
+/// The locators of two sorts, made in two threads.
+fn two_locators<R: Threads + Sync>(
     rt: &R,
     alloc: Global,
     start: u64,
     lines: &[Line],
     known: &[Option<Witness>],
-    one: Sort,
-    other: Sort,
-) -> (Result<Marks, AllocError>, Result<Marks, AllocError>)
+    one: LineKind,
+    other: LineKind,
+) -> (Result<Locators, AllocError>, Result<Locators, AllocError>)
     requires { length lines.now ≤ 4294967295 }
-    ensures one { IfOk result.0 (λ table. AreMarks one start lines.now known.now
-        (length lines.now) table.marks.items) }
-    ensures other { IfOk result.1 (λ table. AreMarks other start lines.now known.now
-        (length lines.now) table.marks.items) }
+    ensures one { IfOk result.0 (λ table. AreLocators one start lines.now known.now
+        (length lines.now) table.locators.items) }
+    ensures other { IfOk result.1 (λ table. AreLocators other start lines.now known.now
+        (length lines.now) table.locators.items) }
 {
     join(
         rt,
-        || -> Result<Marks, AllocError>
+        || -> Result<Locators, AllocError>
             requires { length lines.now ≤ 4294967295 }
-            ensures { IfOk result (λ table. AreMarks one start lines.entry.now
-                known.entry.now (length lines.entry.now) table.marks.items) }
-        { Marks::new(alloc, start, lines, known, one) },
-        || -> Result<Marks, AllocError>
+            ensures { IfOk result (λ table. AreLocators one start lines.entry.now
+                known.entry.now (length lines.entry.now) table.locators.items) }
+        { Locators::new(alloc, start, lines, known, one) },
+        || -> Result<Locators, AllocError>
             requires { length lines.now ≤ 4294967295 }
-            ensures { IfOk result (λ table. AreMarks other start lines.entry.now
-                known.entry.now (length lines.entry.now) table.marks.items) }
-        { Marks::new(alloc, start, lines, known, other) },
+            ensures { IfOk result (λ table. AreLocators other start lines.entry.now
+                known.entry.now (length lines.entry.now) table.locators.items) }
+        { Locators::new(alloc, start, lines, known, other) },
     )
 }
 
@@ -240,9 +268,9 @@ fn known(
     alloc: Global,
     log: &Log,
     opts: &AuditOpts,
-    seen: Seen,
-    ends: &Ends,
-    own: &Ends,
+    seen: Exposure,
+    ends: &EndTable,
+    own: &EndTable,
 ) -> Result<Vec<Option<Witness>>, AllocError>
     requires settled { AreSettled ends.now × AreSettled own.now }
     requires ends { let lines = (lines_of log.now).lines in
@@ -267,9 +295,9 @@ fn known_draws(alloc: Global, log: &Log, opts: &AuditOpts) -> Result<Option<Draw
     if !has_ask(lines) {
         return Ok(None);
     }
-    let firsts = table_of(alloc, lines, Seen::Drawn, false)?;
-    let own = table_of(alloc, lines, Seen::Drawn, true)?;
-    let known = known(alloc, log, opts, Seen::Drawn, &firsts, &own)?;
+    let firsts = table_of(alloc, lines, Exposure::Drawn, false)?;
+    let own = table_of(alloc, lines, Exposure::Drawn, true)?;
+    let known = known(alloc, log, opts, Exposure::Drawn, &firsts, &own)?;
     Ok(Some(DrawTables { known, firsts }))
 }
 

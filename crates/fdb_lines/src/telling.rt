@@ -7,10 +7,10 @@ ghost use Rattle.fdb_lines.specs.Before.{by_telling, is_of};
 ghost use Rattle.fdb_lines.specs.private.Known.{newer, AreKnown};
 ghost use Rattle.fdb_lines.specs.private.Telling.{gained, heard_by, learnt_by};
 
+use crate::exposure::{Exposure, counts};
 use crate::known::newer;
-use crate::line::{Call, Line};
+use crate::line::{Line, Operation};
 use crate::reason::{Means, Witness};
-use crate::seen::{Seen, counts};
 use std::alloc::{AllocError, Global};
 use std::collections::BTreeMap;
 
@@ -19,7 +19,7 @@ use std::collections::BTreeMap;
 pub(crate) fn known_by_telling(
     alloc: Global,
     lines: &[Line],
-    seen: Seen,
+    seen: Exposure,
 ) -> Result<Vec<Option<Witness>>, AllocError>
     requires { length lines.now ≤ 4294967295 }
     ensures { IfOk result (λ known. (margin : ℕ)
@@ -29,7 +29,7 @@ pub(crate) fn known_by_telling(
     let mut known = Vec::with_capacity(alloc, lines.len())?;
     for (place, line) in lines.iter().enumerate() {
         known.push(heard_by(&newest, line.client))?;
-        hear(&mut newest, lines, line, place as u32, seen)?;
+        learn(&mut newest, lines, line, place as u32, seen)?;
     }
     Ok(known)
 }
@@ -45,12 +45,12 @@ fn heard_by(newest: &BTreeMap<u32, Witness>, client: Option<u32>) -> Option<Witn
 }
 
 /// A client has heard of its line from here on, or of what it has learnt.
-fn hear(
+fn learn(
     newest: &mut BTreeMap<u32, Witness>,
     lines: &[Line],
     line: &Line,
     place: u32,
-    seen: Seen,
+    seen: Exposure,
 ) -> Result<(), AllocError>
     ensures { OnOk result ((q : ℕ) → get nat_cmp newest.new q ≡ cond (is_of q line.now.client)
         (newer lines.now (get nat_cmp newest.old q)
@@ -67,12 +67,17 @@ fn hear(
     Ok(())
 }
 
-/// What a line lets its client hear of.
-fn gained(newest: &BTreeMap<u32, Witness>, call: Call, place: u32, seen: Seen) -> Option<Witness>
+/// What a line lets its client learn of.
+fn gained(
+    newest: &BTreeMap<u32, Witness>,
+    call: Operation,
+    place: u32,
+    seen: Exposure,
+) -> Option<Witness>
     ensures { result ≡ gained seen (λ p. get nat_cmp newest.now p) place call }
 {
     match call {
-        Call::Learn(teller) => learnt_by(newest.get(&teller).copied(), place),
+        Operation::Learn(teller) => learnt_by(newest.get(&teller).copied(), place),
         _ if counts(seen, call) => Some(Witness {
             line: place,
             means: Means::Own,

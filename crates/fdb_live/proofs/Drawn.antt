@@ -1,6 +1,7 @@
 -- Versions that stand in the answers, and the answers to one commit proxy.
-use Rattle.std.proofs.Common.{◌≡◌, ◌≢◌, ℕ, ◌==◌, Bool, true, false, List, [], ◌∷◌, ◌++◌, length, cond, refl, sym, ap, ◌∙◌, subst, arith, length-append}
+use Rattle.std.proofs.Common.{◌≡◌, ◌≢◌, ℕ, ◌==◌, List, [], ◌∷◌, ◌++◌, length, sym, ap, ◌∙◌, subst, arith, length-append}
 use Rattle.std.specs.Prelude.{All, Contains}
+use Rattle.std.proofs.lemmas.Grind.{common_steps}
 use Rattle.std.proofs.lemmas.Bool.Decides.{nat_tests}
 use Rattle.std.proofs.lemmas.List.{append-nil, map-append, nil_from_length, get_or_append_left}
 use Rattle.std.proofs.lemmas.List.Elements.{All-push, All-weaker, Contains-append_left, filter-append}
@@ -37,18 +38,10 @@ pub answers_to-append : (n : ℕ) (xs ys : List Issued) → answers_to n (xs ++ 
 answers_to-append n xs ys = filter-append (λ (answer : Issued). answer.proxy == n) xs ys
 
 pub answers_to-push_own : (n : ℕ) (xs : List Issued) (answer : Issued) → answer.proxy ≡ n → answers_to n (xs ++ answer ∷ []) ≡ answers_to n xs ++ answer ∷ []
-answers_to-push_own n xs answer own = answers_to-append n xs (answer ∷ []) ∙ ap (λ l. answers_to n xs ++ l) (one (answer.proxy == n) refl)
-  where
-    one : (b : Bool) → (answer.proxy == n) ≡ b → cond b (answer ∷ []) [] ≡ answer ∷ []
-    one true e = refl
-    one false e = absurd (grind (arith, nat_tests))
+answers_to-push_own n xs answer own = grind (arith, common_steps, nat_tests)
 
 pub answers_to-push_other : (n : ℕ) (xs : List Issued) (answer : Issued) → answer.proxy ≢ n → answers_to n (xs ++ answer ∷ []) ≡ answers_to n xs
-answers_to-push_other n xs answer other = answers_to-append n xs (answer ∷ []) ∙ (ap (λ l. answers_to n xs ++ l) (none (answer.proxy == n) refl) ∙ append-nil _)
-  where
-    none : (b : Bool) → (answer.proxy == n) ≡ b → cond b (answer ∷ []) [] ≡ []
-    none true e = absurd (other (grind (arith, nat_tests)))
-    none false e = refl
+answers_to-push_other n xs answer other = grind (arith, common_steps, nat_tests)
 
 nothing_more : (ms bs cs : List Issued) → ms ≡ (ms ++ bs) ++ cs → ms ≡ ms ++ bs
 nothing_more ms bs cs e =

@@ -1,5 +1,6 @@
 -- Who sits where, once one has taken the place of another.
-use Rattle.std.proofs.Common.{◌≡◌, ◌≢◌, ℕ, ◌==◌, Bool, true, false, true≢false, if◌then◌else◌, refl, sym, arith}
+use Rattle.std.proofs.Common.{◌≡◌, ◌≢◌, ℕ, ◌==◌, true, false, true≢false, if◌then◌else◌, sym, arith}
+use Rattle.std.proofs.lemmas.Grind.{common_steps}
 use Rattle.std.proofs.lemmas.Bool.Decides.{nat_tests}
 
 pub off : false ≡ true → ⊥
@@ -13,8 +14,4 @@ pub moved_here : (from to k : ℕ) → k ≡ from → to ≡ moved from to k
 moved_here from to k e = grind (arith, nat_tests)
 
 pub moved_else : (from to k j : ℕ) → j ≢ from → j ≡ k → j ≡ moved from to k
-moved_else from to k j n e = go (k == from) refl
-  where
-    go : (b : Bool) → (k == from) ≡ b → j ≡ (if b then to else k)
-    go true is = absurd (n (grind (arith, nat_tests)))
-    go false is = e
+moved_else from to k j n e = grind (arith, common_steps, nat_tests)

@@ -1,10 +1,11 @@
 -- Who owns the positions of one list.
 use Rattle.std.proofs.Common.{◌≡◌, ◌≢◌, ℕ, zero, suc, ◌+◌, ◌-◌, ◌<◌, ◌≤◌, ◌==◌, Bool, true, false, List, [], ◌∷◌, length, Option, Some, if◌then◌else◌, refl, ap, ◌∙◌, arith, get_or, slice_get, slice_set, subst, ◌⊎◌, inl, inr}
 use Rattle.std.specs.Prelude.{All, Contains, nat_lt}
+use Rattle.std.proofs.lemmas.Grind.{common_steps}
 use Rattle.std.proofs.lemmas.Bool.Decides.{nat_tests}
 use Rattle.std.proofs.lemmas.List.Elements.{All-head, All-tail}
 use Rattle.std.proofs.lemmas.Option.{get_or_from_slice_get, slice_get_within}
-use Rattle.fdb_live.proofs.Prefixes.{prefix_same, prefix_length, prefix_longer, prefix_trans, prefix_whole}
+use Rattle.fdb_live.proofs.Prefixes.{prefix_trans}
 use mathlib.Core.List.{IsPrefix}
 use Rattle.fdb_live.specs.Gathering.{IsOwnKept, IsOwnedOnce, IsSeenBy}
 use Rattle.fdb_live.specs.Seen.{Sight, changed_by, longer, own_positions}
@@ -135,9 +136,7 @@ owned_once reporters first tokens position all count each some within =
 
 -- where one list begins the other, the other is the longer
 pub longer_of_prefix : {A : Type 0} (xs ys : List A) → IsPrefix xs ys → longer xs ys ≡ ys
-longer_of_prefix xs ys begins =
-    let both = prefix_longer xs ys ys begins (prefix_same ys) in
-    prefix_whole (longer xs ys) ys both.all (prefix_length ys (longer xs ys) both.those)
+longer_of_prefix xs ys begins = grind (arith, common_steps, nat_tests)
 
 -- what stands at a place has learnt all that the first token has seen, and owns what it owned
 abbrev pub IsTaught : List Sight → Sight → ℕ → Sight → Type 0

@@ -1,4 +1,6 @@
 -- What the right to draw and a token are after an answer.
+use Rattle.std.proofs.lemmas.Grind.{common_steps}
+use Rattle.std.proofs.lemmas.Bool.Decides.{nat_tests}
 use Rattle.std.proofs.Common.{◌≡◌, ℕ, ◌+◌, ◌<◌, Bool, true, false, true≢false, List, [], ◌∷◌, ◌++◌, cond, Option, None, Some, Result, Ok, Err, refl, sym, ap, ◌∙◌, subst, arith}
 use Rattle.std.specs.Prelude.{IfOk, IsSome, OnErr}
 use mathlib.Core.List.{IsPrefix}
@@ -11,8 +13,8 @@ use Rattle.fdb_live.specs.Holding.{AreDrawn, IsAsked, answers_to}
 use Rattle.fdb_live.specs.Seen.{Sight}
 use Rattle.fdb_live.specs.declared.fetched.Fetched.{Fetched}
 use Rattle.fdb_live.specs.declared.view.View.{View}
-use Rattle.fdb_live.specs.private.Rule.{Draws, Settles, chain_view, lowest_of, served, view, without_lowest}
-use Rattle.fdb_live.specs.private.Token.{DrawsAny, IsServed, and_then}
+use Rattle.fdb_live.specs.private.Rule.{Draws, Settles, lowest_of, served, without_lowest}
+use Rattle.fdb_live.specs.private.Token.{DrawsAny, IsServed}
 
 pub draws_some : {answer : Issued} {v w : View} {x : Fetched} → Draws answer v x x w → DrawsAny (Some answer) v w
 draws_some d = record { is = d.is; chain = d.chain; read = λ _ o e. d.drawn o e }
@@ -21,16 +23,7 @@ pub draws_none : {v w : View} {x : Fetched} → Settles v x x w → DrawsAny Non
 draws_none s = record { is = s.is; chain = s.chain; read = λ e. absurd (true≢false (sym e)) }
 
 served_as : (drawn : Option Issued) (right token w : View) → right.chain.draws ≡ true → token.high ≡ token.low + 1 → DrawsAny drawn (served right token) w → IsServed drawn right token (without_lowest w) (lowest_of w)
-served_as drawn right token w draws high d =
-    let seen : w.chain.seen ≡ and_then right.chain.seen drawn = ap (λ (u : View). u.chain.seen) d.is in
-    record {
-      draws = ap (λ (u : View). u.chain.draws) d.is ∙ draws;
-      seen = seen;
-      is = ap lowest_of d.is ∙ ap (λ (l : List Issued). view token.start token.reporters token.epoch token.low (token.low + 1) false token.seen token.seen [] (chain_view false l l [])) (sym seen);
-      extends = d.chain.theirs;
-      own = sym (d.chain.own token.low (omega arith) (omega arith));
-      read = d.read;
-    }
+served_as drawn right token w draws high d = grind (arith, common_steps, nat_tests)
 
 pub served_so : {drawn : Option Issued} {right token given u w right' token' : View} → given ≡ token → u ≡ served right given → right.chain.draws ≡ true → token.high ≡ token.low + 1 → DrawsAny drawn u w → right' ≡ without_lowest w → token' ≡ lowest_of w → IsServed drawn right token right' token'
 served_so {drawn} {right} {token} {given} {u} {w} {right'} {token'} gives takes draws high d left split =

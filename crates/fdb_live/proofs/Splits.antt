@@ -1,5 +1,6 @@
 -- The moves that no word changes at: the first pass, and what is split off.
-use Rattle.std.proofs.Common.{◌≡◌, ◌≢◌, ℕ, zero, suc, ◌+◌, ◌<◌, ◌==◌, Bool, true, false, None, [], ◌∷◌, length, if◌then◌else◌, refl, sym, ap, ◌∙◌, subst, arith}
+use Rattle.std.proofs.Common.{◌≡◌, ◌≢◌, ℕ, zero, suc, ◌+◌, ◌<◌, ◌==◌, None, [], ◌∷◌, length, if◌then◌else◌, refl, sym, ap, ◌∙◌, subst, arith}
+use Rattle.std.proofs.lemmas.Grind.{common_steps}
 use Rattle.std.proofs.lemmas.Bool.Decides.{nat_tests}
 use Rattle.std.proofs.lemmas.List.Elements.{All-nil}
 use mathlib.Core.Option.{some, some-ne-none, some-injective}
@@ -65,18 +66,10 @@ abbrev given : (ℕ → ℕ) → ℕ → ℕ → ℕ → ℕ
 given holder low new n = if n == low then new else holder n
 
 given_here : (holder : ℕ → ℕ) (low new n : ℕ) → n ≡ low → new ≡ given holder low new n
-given_here holder low new n e = go (n == low) refl
-  where
-    go : (b : Bool) → (n == low) ≡ b → new ≡ (if b then new else holder n)
-    go true is = refl
-    go false is = absurd (grind (arith, nat_tests))
+given_here holder low new n e = grind (arith, common_steps, nat_tests)
 
 given_else : (holder : ℕ → ℕ) (low new n j : ℕ) → n ≢ low → j ≡ holder n → j ≡ given holder low new n
-given_else holder low new n j apart e = go (n == low) refl
-  where
-    go : (b : Bool) → (n == low) ≡ b → j ≡ (if b then new else holder n)
-    go true is = absurd (apart (grind (arith, nat_tests)))
-    go false is = e
+given_else holder low new n j apart e = grind (arith, common_steps, nat_tests)
 
 -- the lowest number
 pub gives_lowest : (pass : ℕ) (v : View) → v.low < v.high → Forks Kept pass v (without_lowest v) (lowest_of v)

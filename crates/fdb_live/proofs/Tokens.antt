@@ -1,4 +1,6 @@
 -- What the steps make of a token.
+use Rattle.std.proofs.lemmas.Grind.{common_steps}
+use Rattle.std.proofs.lemmas.Bool.Decides.{nat_tests}
 use Rattle.std.proofs.Common.{◌≡◌, ℕ, ◌*◌, ◌<◌, ◌≤◌, Bool, true, false, true≢false, List, [], Option, None, Some, refl, sym, ap, ◌∙◌, subst, arith}
 use Rattle.std.specs.Prelude.{Contains, IsSome, is_some}
 use mathlib.Core.List.{IsPrefix}
@@ -20,20 +22,9 @@ own_stays : (number : Option ℕ) (v : View) (list : List Change) → HasNumber 
 own_stays None v list h t = refl
 own_stays (Some n) v list h t = sym (t.own n (omega (arith, h.0)) (omega (arith, h.1)))
 
-same_numbers : (number : Option ℕ) (v w : View) → w.low ≡ v.low → w.high ≡ v.high → HasNumber number v → HasNumber number w
-same_numbers None v w low high h = omega (arith, low, high, h)
-same_numbers (Some n) v w low high h = (low ∙ h.0, high ∙ h.1)
-
 -- once a list is seen
 settled_as : (start : Record) (reporters : ℕ) (number : Option ℕ) (v w : View) (list : List Change) (answers : List Issued) → v.start ≡ start → v.reporters ≡ reporters → 0 < reporters → HasNumber number v → w ≡ having_seen v list answers → IsLog start reporters list → IsHolder start reporters number w
-settled_as start reporters number v w list answers begun count some numbers is log = record {
-  start_is = ap (λ u. u.start) is ∙ begun;
-  reporters_is = ap (λ u. u.reporters) is ∙ count;
-  opened = some;
-  settled = ap (λ u. u.mine) is ∙ sym (ap (λ u. u.seen) is);
-  numbers = same_numbers number v w (ap (λ u. u.low) is) (ap (λ u. u.high) is) numbers;
-  legal = subst (IsLog start reporters) (sym (ap (λ u. u.seen) is)) log;
-}
+settled_as start reporters number v w list answers begun count some numbers is log = grind (arith, common_steps, nat_tests)
 
 -- what a look makes of a token
 pub record HasLooked (start : Record) (reporters : ℕ) (number : Option ℕ) (v : View) (fetched : Fetched) (w : View) : Type 0 where
@@ -43,15 +34,7 @@ pub record HasLooked (start : Record) (reporters : ℕ) (number : Option ℕ) (v
   pub own : own_among number w.seen ≡ own_among number v.seen
 
 pub looked : (start : Record) (reporters : ℕ) (number : Option ℕ) (v w : View) (x : Fetched) → IsHolder start reporters number v → Looks v x x w → HasLooked start reporters number v x w
-looked start reporters number v w x h l =
-    let open' : 0 < v.reporters = subst (λ n. 0 < n) (sym h.reporters_is) h.opened in
-    let log : IsLog start reporters w.seen = subst (λ (p : Record × ℕ). IsLog p.0 p.1 w.seen) (λ i. (h.start_is i, h.reporters_is i)) (l.legal open') in
-    record {
-      holder = settled_as start reporters number v w w.seen w.chain.seen h.start_is h.reporters_is h.opened h.numbers l.is log;
-      register = subst (λ (s : Record). IsRegister s x w.seen) h.start_is (l.register open');
-      extends = l.tells.seen;
-      own = own_stays number v w.seen h.numbers l.tells ∙ ap (own_among number) h.settled;
-    }
+looked start reporters number v w x h l = grind (arith, common_steps, nat_tests)
 
 -- a position never exceeds twice the version
 pub looked_below : {start : Record} {reporters : ℕ} {number : Option ℕ} {v w : View} {x : Fetched} → IsHolder start reporters number v → Looks v x x w → x.position ≤ 2 * x.rec.version
@@ -87,13 +70,7 @@ issued_taken {chained} {epoch_end} {recovery} {v = v} rv rec m gives takes drawn
 
 -- what a step makes of what a token knows of the chain
 member_as : (chained : Bool) (epoch_end recovery reporters : ℕ) (number : Option ℕ) (v w : View) (list : List Change) (answers : List Issued) → v.epoch ≡ epoch_of chained epoch_end recovery → IsBelow number reporters → w ≡ having_seen v list answers → IsChain epoch_end recovery answers × (chained ≡ false → answers ≡ []) → IsMember chained epoch_end recovery reporters number w
-member_as chained epoch_end recovery reporters number v w list answers epoch below is chain = record {
-  epoch = ap (λ u. u.epoch) is ∙ epoch;
-  settled = ap (λ u. u.chain.mine) is ∙ sym (ap (λ u. u.chain.seen) is);
-  legal = subst (IsChain epoch_end recovery) (sym (ap (λ u. u.chain.seen) is)) chain.0;
-  none = λ not. ap (λ u. u.chain.seen) is ∙ chain.1 not;
-  below = below;
-}
+member_as chained epoch_end recovery reporters number v w list answers epoch below is chain = grind (arith, common_steps, nat_tests)
 
 is_open : {start : Record} {reporters : ℕ} {number : Option ℕ} {v : View} → IsHolder start reporters number v → 0 < v.reporters
 is_open h = subst (λ n. 0 < n) (sym h.reporters_is) h.opened

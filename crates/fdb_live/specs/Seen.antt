@@ -20,7 +20,7 @@ pub record Sight : Type 0 where
   pub changes : List Change
   pub answers : List Issued
 
--- The live record after these changes: what each in its turn made of the one before it.
+-- The live record after these changes: what each in its drawer made of the one before it.
 -- (updateLiveCommittedVersion of masterserver, FoundationDB 7.1)
 abbrev pub last_record : Record → List Change → Record
 last_record start [] = start

@@ -14,7 +14,7 @@ pub enum LiveError {
     #[error("the minimum known committed version is above the version")]
     MinAbove,
     /// Memory was refused to an opening, or to the tokens; a report takes none.
-    #[error("want of memory")]
+    #[error("out of memory")]
     Memory,
 }
 

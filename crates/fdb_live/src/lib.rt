@@ -4,6 +4,7 @@
 
 mod ack;
 mod change;
+mod drawer;
 mod epoch;
 mod error;
 mod fetched;
@@ -17,7 +18,6 @@ mod opened;
 mod passes;
 mod right;
 mod seen;
-mod turn;
 mod view;
 
 pub use ack::Ack;

@@ -123,9 +123,9 @@ impl<J: Live> LiveRecord<J> {
         if rec.min_known > rec.version {
             return Err(LiveError::MinAbove);
         }
-        let mut turn = self.reports.lock(rt);
+        let mut drawer = self.reports.lock(rt);
         gate.pass(Place::ReportHeld, who);
-        Ok(turn.report(rt, &self.cell, seen, rec))
+        Ok(drawer.report(rt, &self.cell, seen, rec))
     }
 
     /// A second token that has seen the same, with no number. It waits for nobody.

@@ -14,10 +14,10 @@ ghost use Rattle.fdb_live.specs.Holding.{IsFreshUnlessOut};
 ghost use Rattle.fdb_live.specs.Holding.{chain_of, least_above, own_answers, versions};
 ghost use Rattle.fdb_live.specs.Seen.{Sight, last_record};
 
+use crate::drawer::Drawer;
 use crate::live::Live;
 use crate::live_record::LiveRecord;
 use crate::seen::Seen;
-use crate::turn::Turn;
 use crate::view::Cell;
 use fdb_chain::ChainError;
 use fdb_history::{Ask, Gate, Issued, MAX_VERSION, Place, laws};
@@ -32,7 +32,7 @@ use std::sync::{Mutex, Wait};
 #[derive(Drop)]
 pub struct Master<J: Live> {
     pub(crate) live: LiveRecord<J>,
-    pub(crate) turn: Mutex<Turn<J>>,
+    pub(crate) drawer: Mutex<Drawer<J>>,
     pub(crate) ghost chained: { J.chained ≡ true },
 }
 
@@ -92,9 +92,9 @@ impl<J: Live> Master<J> {
         laws::each_is_next();
         laws::kept_is_first();
         laws::own_answers_decide();
-        let mut turn = self.turn.lock(rt);
+        let mut drawer = self.drawer.lock(rt);
         gate.pass(Place::SequencerHeld, ask.proxy);
-        turn.ask(rt, &self.live.cell, token, ask)
+        drawer.ask(rt, &self.live.cell, token, ask)
     }
 
     /// Gives up the service, once nobody asks any more, with the tokens of all commit proxies, in
@@ -107,23 +107,23 @@ impl<J: Live> Master<J> {
             × IsClosedAfter J.epoch_end J.recovery J.reporters answers tokens.old tokens.new
             × (length answers ≡ result) }
     {
-        let Master { live, turn } = self;
-        let mut turn = turn.into_inner();
-        look_each(rt, &live.cell, &mut turn, tokens);
-        turn.count()
+        let Master { live, drawer } = self;
+        let mut drawer = drawer.into_inner();
+        look_each(rt, &live.cell, &mut drawer, tokens);
+        drawer.count()
     }
 }
 
 /// The holders of all these tokens see all answers so far.
-fn look_each<J: Live, R: Wait>(rt: &R, cell: &Cell, turn: &mut Turn<J>, tokens: &mut [Seen<J>])
+fn look_each<J: Live, R: Wait>(rt: &R, cell: &Cell, drawer: &mut Drawer<J>, tokens: &mut [Seen<J>])
     requires cell { cell.now.table.shared.table_id ≡ J.table }
     requires numbered { AreNumbered tokens.old }
-    ensures chain { turn.new ≡ turn.old }
+    ensures chain { drawer.new ≡ drawer.old }
     ensures count { length tokens.new ≡ length tokens.old }
     ensures each { (k : ℕ) (token : Sight) → slice_get tokens.old k ≡ Some token
-        → IsClosedWith turn.old.answers token k tokens.new }
+        → IsClosedWith drawer.old.answers token k tokens.new }
 {
     for token in tokens.iter_mut() {
-        turn.look(rt, cell, token);
+        drawer.look(rt, cell, token);
     }
 }

@@ -11,6 +11,7 @@ ghost use Rattle.fdb_live.specs.Seen.{IsRecord, MayBegin, epoch_of, origin_of};
 ghost use Rattle.fdb_live.specs.private.Rule.{left_from, opened};
 ghost use Rattle.fdb_live.specs.private.Token.{IsMadeFor, IsRight};
 
+use crate::drawer::Drawer;
 use crate::epoch::Epoch;
 use crate::error::LiveError;
 use crate::fetched::Fetched;
@@ -22,7 +23,6 @@ use crate::passes;
 use crate::passes::Pass;
 use crate::right::Right;
 use crate::seen::Seen;
-use crate::turn::Turn;
 use crate::view::Cell;
 use fdb_chain::RecentChain;
 use fdb_history::{MAX_VERSION, Record};
@@ -166,11 +166,11 @@ impl Opened {
             slice_get parts.2.items k
             ≡ Some (record { reporter = Some k; changes = []; answers = [] })) }
     {
-        let (live, turn, first, tokens) = self.share::<J>()?;
-        let Some(turn) = turn else { unreachable!() };
+        let (live, drawer, first, tokens) = self.share::<J>()?;
+        let Some(drawer) = drawer else { unreachable!() };
         let master = Master {
             live,
-            turn: Mutex::new(turn),
+            drawer: Mutex::new(drawer),
         };
         Ok((master, first, tokens))
     }
@@ -178,7 +178,7 @@ impl Opened {
     /// The live record, the right to draw if there is a chain, and the tokens.
     fn share<J: Live>(self) -> Result<Shared<J>, AllocError>
         requires { self ≡ origin_of J.table J.start J.reporters J.chained J.epoch_end J.recovery }
-        ensures turn { IfOk result (λ parts. J.chained ≡ true → IsSome parts.1) }
+        ensures drawer { IfOk result (λ parts. J.chained ≡ true → IsSome parts.1) }
         ensures first { IfOk result (λ parts.
             parts.2 ≡ record { reporter = None; changes = []; answers = [] }) }
         ensures count { IfOk result (λ parts. vec_len parts.3 ≡ J.reporters) }
@@ -200,7 +200,7 @@ impl Opened {
             pass: passes::copy(&cell, &mut pass),
             of: PhantomData,
         };
-        let turn = drawing::<J>(&cell, &mut pass, core);
+        let drawer = drawing::<J>(&cell, &mut pass, core);
         let right = Right {
             pass,
             of: PhantomData,
@@ -209,15 +209,15 @@ impl Opened {
             cell,
             reports: Mutex::new(right),
         };
-        Ok((record, turn, first, tokens))
+        Ok((record, drawer, first, tokens))
     }
 }
 
 /// What is shared out of a service that was opened.
-type Shared<J> = (LiveRecord<J>, Option<Turn<J>>, Seen<J>, Vec<Seen<J>>);
+type Shared<J> = (LiveRecord<J>, Option<Drawer<J>>, Seen<J>, Vec<Seen<J>>);
 
 /// The right to draw, split off the first pass for the chain, if there is one.
-fn drawing<J: Live>(cell: &Cell, pass: &mut Pass, core: Option<RecentChain>) -> Option<Turn<J>>
+fn drawing<J: Live>(cell: &Cell, pass: &mut Pass, core: Option<RecentChain>) -> Option<Drawer<J>>
     requires cell { cell.now.table.shared.table_id ≡ J.table }
     requires pass { pass.old.table_id ≡ J.table }
     requires left { cell_view pass.old
@@ -225,7 +225,7 @@ fn drawing<J: Live>(cell: &Cell, pass: &mut Pass, core: Option<RecentChain>) -> 
     requires core { IsMadeFor J.start J.reporters (epoch_of J.chained J.epoch_end J.recovery) core }
     ensures cell { pass.new.table_id ≡ J.table }
     ensures right { IsRight J.start J.reporters (cell_view pass.new) }
-    ensures turn { J.chained ≡ true → IsSome result }
+    ensures drawer { J.chained ≡ true → IsSome result }
 {
     match core {
         None => None,
@@ -234,7 +234,7 @@ fn drawing<J: Live>(cell: &Cell, pass: &mut Pass, core: Option<RecentChain>) -> 
 }
 
 /// The right to draw for this chain.
-fn drawing_for<J: Live>(cell: &Cell, pass: &mut Pass, core: RecentChain) -> Turn<J>
+fn drawing_for<J: Live>(cell: &Cell, pass: &mut Pass, core: RecentChain) -> Drawer<J>
     requires cell { cell.now.table.shared.table_id ≡ J.table }
     requires pass { pass.old.table_id ≡ J.table }
     requires left { cell_view pass.old
@@ -245,7 +245,7 @@ fn drawing_for<J: Live>(cell: &Cell, pass: &mut Pass, core: RecentChain) -> Turn
     ensures cell { pass.new.table_id ≡ J.table }
     ensures right { IsRight J.start J.reporters (cell_view pass.new) }
 {
-    Turn {
+    Drawer {
         core,
         pass: passes::give_drawing(cell, pass),
         of: PhantomData,

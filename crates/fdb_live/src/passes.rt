@@ -23,7 +23,7 @@ use crate::fetched::Fetched;
 use crate::held::Held;
 use crate::live::Live;
 use crate::view;
-use crate::view::{Answer, Cell, Kind, Reported, View};
+use crate::view::{AnswerKind, Cell, Kind, Reported, View};
 use crossbeam_utils::atomic::seq_cell;
 use fdb_history::{Issued, Record, Service};
 use std::marker::Brand;
@@ -279,7 +279,7 @@ fn serve(cell: &Cell, pass: &mut Pass, other: Pass)
 
 /// Draws an answer by the pass with the right to draw, under its lowest number.
 #[inline(always)]
-fn draw<P: Answer, J: Live, R: Wait>(
+fn draw<P: AnswerKind, J: Live, R: Wait>(
     rt: &R,
     cell: &Cell,
     pass: &mut Pass,

@@ -135,7 +135,7 @@ impl<P: Reported> Outcome<Held, View> for Adds<P> {
 }
 
 /// Stands for an answer that is drawn.
-pub(crate) trait Answer {
+pub(crate) trait AnswerKind {
     ghost use Rattle.fdb_history.specs.declared.chain.Issued.{Issued};
 
     // The answer.
@@ -143,18 +143,18 @@ pub(crate) trait Answer {
 }
 
 /// The draw that a call may pick the answer of.
-impl Answer for Brand {
+impl AnswerKind for Brand {
     ghost use Rattle.fdb_live.specs.private.Rule.{no_answer};
 
     ghost answer = { no_answer };
 }
 
 /// A load at which an answer is drawn, under the lowest number of its pass.
-pub(crate) struct Draws<P: Answer> {
+pub(crate) struct Draws<P: AnswerKind> {
     answer: PhantomData<P>,
 }
 
-impl<P: Answer> Outcome<Held, View> for Draws<P> {
+impl<P: AnswerKind> Outcome<Held, View> for Draws<P> {
     ghost use Rattle.fdb_live.specs.private.Rule.{Draws as HasDrawn, InWords};
 
     ghost then = { InWords (HasDrawn P.answer) };

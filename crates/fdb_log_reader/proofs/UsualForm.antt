@@ -19,7 +19,7 @@ use Rattle.serde_json.proofs.Numbers.{number_of-decimal}
 use Rattle.serde_json.proofs.Views.{get_member-put, get_member-put_other}
 use Rattle.fdb_log_reader.specs.declared.error.Why.TheVariants.{BadMember, Memory, TooLong, TooMany}
 use Rattle.fdb_log_reader.specs.declared.error.Why.{Why}
-use Rattle.fdb_lines.specs.declared.line.Call.{Call}
+use Rattle.fdb_lines.specs.declared.line.Operation.{Operation}
 use Rattle.fdb_lines.specs.Lines.{is_learn, kind_of}
 use Rattle.fdb_log_reader.specs.declared.member.Member.{Member}
 use Rattle.fdb_log_reader.specs.declared.member.Member.TheVariants.{Client, Read, Commit, Ask, Report, Learn, Began, Ended}
@@ -248,7 +248,7 @@ ended bytes rest after name further told line next reads is small says comes =
 -- ---- the whole line
 
 -- of what members say beside those with a name of their own, just that is read which has the key
-key_same : (member : Option (List ℕ)) (call : Call) (beside said : List ℕ → Option Data) → IfSome member (λ name. beside name ≡ said name)
+key_same : (member : Option (List ℕ)) (call : Operation) (beside said : List ℕ → Option Data) → IfSome member (λ name. beside name ≡ said name)
     → key_said member call beside ≡ key_said member call said
 key_same None call beside said same = refl
 key_same (Some member) call beside said same =
@@ -257,7 +257,7 @@ key_same (Some member) call beside said same =
 pub parts_same : (names : List (List ℕ)) (member : Option (List ℕ)) (says : Member → Option Data) (beside said : List ℕ → Option Data) → IfSome member (λ name. beside name ≡ said name)
     → parts_said names member says beside ≡ parts_said names member says said
 parts_same names member says beside said same =
-    ap (λ (key_with : Call → Result (Option (List ℕ)) Why).
+    ap (λ (key_with : Operation → Result (Option (List ℕ)) Why).
     and_then (client_of says) (λ client.
     and_then (call_of names says) (λ call.
     and_then (times_of says) (λ times.

@@ -6,8 +6,8 @@ use Rattle.std.specs.Str.Parse.{digits_value}
 use Rattle.std.proofs.Common.{leb-true}
 use Rattle.serde_json.specs.Data.{Data}
 use Rattle.serde_json.specs.Find.{get, as_number, as_u64, as_null, as_str}
-use Rattle.fdb_lines.specs.declared.line.Call.{Call}
-use Rattle.fdb_lines.specs.declared.line.Call.TheVariants as call
+use Rattle.fdb_lines.specs.declared.line.Operation.{Operation}
+use Rattle.fdb_lines.specs.declared.line.Operation.TheVariants as call
 use Rattle.fdb_lines.specs.declared.line.Times.{Times}
 use Rattle.fdb_log_reader.specs.declared.error.Why.{Why}
 use Rattle.fdb_log_reader.specs.declared.error.Why.TheVariants.{NoCall, TwoCalls, BadMember}
@@ -88,7 +88,7 @@ abbrev pub teller_of : List (List ℕ) → (Member → Option Data) → Result �
 teller_of names says =
     or_bad Learn (option_and_then (number_in names) (option_and_then as_name (says Learn)))
 
-abbrev pub call_named : List (List ℕ) → (Member → Option Data) → Result Call Why
+abbrev pub call_named : List (List ℕ) → (Member → Option Data) → Result Operation Why
 call_named names says =
     if has says Read then and_then (number_of says Read) (λ version. Ok (call.Read version))
     else (if has says Commit then and_then (number_of says Commit) (λ version. Ok (call.Commit version))
@@ -96,7 +96,7 @@ call_named names says =
     else (if has says Report then and_then (number_of says Report) (λ version. Ok (call.Report version))
     else and_then (teller_of names says) (λ teller. Ok (call.Learn teller)))))
 
-abbrev pub call_of : List (List ℕ) → (Member → Option Data) → Result Call Why
+abbrev pub call_of : List (List ℕ) → (Member → Option Data) → Result Operation Why
 call_of names says =
     if call_count says == 0 then Err NoCall
     else (if nat_lt 1 (call_count says) then Err TwoCalls

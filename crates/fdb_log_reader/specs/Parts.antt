@@ -1,7 +1,7 @@
 -- What a line says, before anything of it is kept. (this product's own)
 use Rattle.std.specs.Prelude.{ℕ, List, Option, None, Some, option_map, Result, Ok, Err, if◌then◌else◌}
 use Rattle.serde_json.specs.Data.{Data}
-use Rattle.fdb_lines.specs.declared.line.Call.{Call}
+use Rattle.fdb_lines.specs.declared.line.Operation.{Operation}
 use Rattle.fdb_lines.specs.declared.line.Times.{Times}
 use Rattle.fdb_lines.specs.Lines.{is_learn, kind_of}
 use Rattle.fdb_log_reader.specs.declared.error.Why.{Why}
@@ -15,12 +15,12 @@ use Rattle.fdb_log_reader.specs.Members.{and_then, call_of, client_of, times_of}
 -- whose call it was, what was done, when, and its key
 pub record SaidParts : Type 0 where
   pub client : Option (List ℕ)
-  pub call : Call
+  pub call : Operation
   pub times : Option Times
   pub key : Option (List ℕ)
 
 -- The key that a line names by the member of this name, if keys are kept. Beside keys no line has learnt.
-abbrev pub key_said : Option (List ℕ) → Call → (List ℕ → Option Data) → Result (Option (List ℕ)) Why
+abbrev pub key_said : Option (List ℕ) → Operation → (List ℕ → Option Data) → Result (Option (List ℕ)) Why
 key_said None call beside = Ok None
 key_said (Some member) call beside = if is_learn (kind_of call) then Err (BadMember Learn) else key_in (beside member)
 

@@ -15,7 +15,7 @@ why_text TwoCalls line = codes "TwoCalls " ++ decimal line
 why_text SomeTimes line = codes "SomeTimes " ++ decimal line
 why_text (BadMember member) line = codes "BadMember " ++ decimal line ++ codes " " ++ name_of member
 why_text BadKey line = codes "BadMember " ++ decimal line ++ codes " key"
-why_text Memory line = codes "want of memory"
+why_text Memory line = codes "out of memory"
 
 abbrev pub error_text : ReadError → List ℕ
 error_text error = why_text error.why error.line

@@ -87,7 +87,7 @@ impl fmt::Display for ReadError {
             Why::SomeTimes => write!(f, "SomeTimes {line}"),
             Why::BadMember(member) => write!(f, "BadMember {line} {member}"),
             Why::BadKey => write!(f, "BadMember {line} key"),
-            Why::Memory => write!(f, "want of memory"),
+            Why::Memory => write!(f, "out of memory"),
         }
     }
 }

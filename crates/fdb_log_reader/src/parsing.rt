@@ -17,7 +17,7 @@ use crate::error::Why;
 use crate::member::Member;
 use crate::names::Names;
 use crate::said::Said;
-use fdb_lines::{Call, MAX_LINES, Times};
+use fdb_lines::{MAX_LINES, Operation, Times};
 use itoa::Buffer;
 use serde_json::Value;
 use std::alloc::Global;
@@ -142,7 +142,7 @@ pub(crate) fn client_of<'a, S: Said>(
 }
 
 /// The call of a line, which has to name just one.
-pub(crate) fn call_of<S: Said>(line: &S, names: &Names) -> Result<Call, Why>
+pub(crate) fn call_of<S: Said>(line: &S, names: &Names) -> Result<Operation, Why>
     requires { length (names_of names.now) ≤ MAX_LINES }
     ensures { result ≡ call_of (names_of names.now) (S.says line.now) }
 {
@@ -160,20 +160,20 @@ fn call_count<S: Said>(line: &S) -> usize
 }
 
 /// What was done, by the first member that names a call.
-fn call_named<S: Said>(line: &S, names: &Names) -> Result<Call, Why>
+fn call_named<S: Said>(line: &S, names: &Names) -> Result<Operation, Why>
     requires { length (names_of names.now) ≤ MAX_LINES }
     ensures { result ≡ call_named (names_of names.now) (S.says line.now) }
 {
     if line.has(Member::Read) {
-        Ok(Call::Read(number_of(line, Member::Read)?))
+        Ok(Operation::Read(number_of(line, Member::Read)?))
     } else if line.has(Member::Commit) {
-        Ok(Call::Commit(number_of(line, Member::Commit)?))
+        Ok(Operation::Commit(number_of(line, Member::Commit)?))
     } else if line.has(Member::Ask) {
-        Ok(Call::Ask(number_of(line, Member::Ask)?))
+        Ok(Operation::Ask(number_of(line, Member::Ask)?))
     } else if line.has(Member::Report) {
-        Ok(Call::Report(number_of(line, Member::Report)?))
+        Ok(Operation::Report(number_of(line, Member::Report)?))
     } else {
-        Ok(Call::Learn(teller_of(line, names)?))
+        Ok(Operation::Learn(teller_of(line, names)?))
     }
 }
 

@@ -9,14 +9,14 @@ use crate::member::Member;
 use crate::names::Names;
 use crate::parsing::{call_of, client_of, key_in, times_of};
 use crate::said::Said;
-use fdb_lines::{Call, MAX_LINES, Times};
+use fdb_lines::{MAX_LINES, Operation, Times};
 use itoa::Buffer;
 
 /// What a line says.
 #[derive(Clone, Copy, Debug)]
 pub(crate) struct Parts<'a> {
     pub(crate) client: Option<&'a str>,
-    pub(crate) call: Call,
+    pub(crate) call: Operation,
     pub(crate) times: Option<Times>,
     /// What the member says that has the keys, where keys are kept.
     pub(crate) key: Option<&'a str>,
@@ -54,7 +54,7 @@ pub(crate) fn parts_of<'a, S: Said>(
 fn key_of<'a, S: Said>(
     line: &'a S,
     member: Option<&str>,
-    call: &Call,
+    call: &Operation,
     digits: &'a mut Buffer,
 ) -> Result<Option<&'a str>, Why>
     ensures { MatchResult result
@@ -66,7 +66,7 @@ fn key_of<'a, S: Said>(
     let Some(member) = member else {
         return Ok(None);
     };
-    if matches!(call, Call::Learn(_)) {
+    if matches!(call, Operation::Learn(_)) {
         return Err(Why::BadMember(Member::Learn));
     }
     key_in(line, member, digits)

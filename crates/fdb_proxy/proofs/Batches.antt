@@ -1,5 +1,5 @@
 -- What a batch's loops keep.
-use Rattle.std.proofs.Common.{◌≡◌, ℕ, All, List, [], ◌∷◌, ◌++◌, length, take, drop, refl, sym, ap, ◌∙◌, arith, append_assoc}
+use Rattle.std.proofs.Common.{◌≡◌, ℕ, All, List, ◌∷◌, ◌++◌, length, take, drop, ◌∙◌, arith, sym, ap, append_assoc}
 use Rattle.std.proofs.lemmas.List.{take_all, take-append-le}
 use mathlib.Core.List.{IsPrefix}
 use Rattle.fdb_history.specs.declared.service.Service.{Ghosts as ServiceGhosts}
@@ -18,10 +18,6 @@ module _ {A : Type 0} where
 
   pub same_head : {x y : A} {xs ys : List A} → x ∷ xs ≡ y ∷ ys → x ≡ y
   same_head h = cc (h)
-
-  pub none_left : (xs : List A) → length xs ≡ 0 → xs ≡ []
-  none_left [] none = refl
-  none_left (x ∷ xs) none = absurd (omega arith)
 
 module _ {J : Type 0} {live : LiveGhosts J} {service : ServiceGhosts J} where
   -- what each of some askers had seen begins what was seen

@@ -1,7 +1,7 @@
 -- Requests: a token that is as it was, and options of their own.
-use Rattle.std.proofs.Common.{ℕ, ◌==◌, true, arith, ◌≡◌, None, length, refl, sym, subst}
+use Rattle.std.proofs.Common.{true, ◌≡◌, None, length, refl, sym, subst}
 use Rattle.std.proofs.Props.{props}
-use Rattle.std.proofs.lemmas.Bool.Decides.{nat_tests}
+use Rattle.std.proofs.lemmas.Bool.{eq-eqb}
 use Rattle.fdb_history.specs.declared.grv.Priority.{Priority}
 use Rattle.fdb_history.specs.declared.grv.Priority.TheVariants.{System, Default, Batch}
 use Rattle.fdb_queue.specs.declared.request.Req.{Req}
@@ -16,9 +16,6 @@ is_own : (priority : Priority) → is_priority priority priority ≡ true
 is_own System = refl
 is_own Default = refl
 is_own Batch = refl
-
-same_count : (one other : ℕ) → one ≡ other → (one == other) ≡ true
-same_count one other same = grind (arith, nat_tests)
 
 module _ {J : Type 0} {live : LiveGhosts J} {service : ServiceGhosts J} where
   pub same_request : (request : Request J live service) (seen : Sight) (unnumbered : seen.reporter ≡ None) (position : request.asked ≡ length seen.changes) → seen ≡ request.seen
@@ -35,5 +32,5 @@ module _ {J : Type 0} {live : LiveGhosts J} {service : ServiceGhosts J} where
   pub own_options : (request : Req (Request J live service)) → request.priority ≡ request.payload.opts.priority → request.count ≡ request.payload.opts.count → has_own_options request ≡ true
   own_options request priority count =
       let one : is_priority request.priority request.payload.opts.priority ≡ true = rw priority (is_own request.payload.opts.priority) in
-      let other = same_count request.count request.payload.opts.count count in
+      let other = eq-eqb request.count request.payload.opts.count count in
       rw (one, other) refl

@@ -6,8 +6,7 @@ use Rattle.fdb_history.specs.declared.service.Service.{Ghosts as ServiceGhosts}
 use Rattle.fdb_live.specs.declared.live.Live.{Ghosts as LiveGhosts}
 use Rattle.fdb_live.specs.declared.change.Change.{Change}
 use Rattle.fdb_live.specs.Seen.{last_record}
-use Rattle.fdb_proxy.specs.declared.answer.Answer.{Answer}
-use Rattle.fdb_proxy.specs.declared.answer.Answer.TheVariants as answer
+use Rattle.fdb_proxy.specs.declared.answer.Addressed.{Addressed}
 use Rattle.fdb_proxy.specs.declared.answer.Reply.{Reply}
 use Rattle.fdb_proxy.specs.declared.request.Request.{Request}
 use Rattle.fdb_queue.specs.declared.request.Req.{Req}
@@ -37,8 +36,7 @@ module _ {J : Type 0} {live : LiveGhosts J} {service : ServiceGhosts J} where
     pub seen : reply.seen.changes ≡ changes
     pub extends : IsPrefix request.payload.seen.changes changes
 
-  -- An answer is a reply to this request, and no refusal of it.
+  -- What is sent on the channel of a request is a reply to it.
   abbrev pub Replies : List Throttle → List Change
-      → Req (Request J live service) → Answer J live service → Type 0
-  Replies throttles changes request (answer.Reply reply) = IsReplyTo throttles changes request reply
-  Replies throttles changes request (answer.Refused refused) = ⊥
+      → Req (Request J live service) → Addressed J live service → Type 0
+  Replies throttles changes request addressed = IsReplyTo throttles changes request addressed.reply

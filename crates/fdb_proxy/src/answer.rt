@@ -5,6 +5,7 @@ ghost use Rattle.fdb_live.specs.Seen.{last_record};
 ghost use Rattle.fdb_proxy.specs.Cause.{may_be_refused_for};
 
 use crate::cause::Cause;
+use crossbeam_channel::Sender;
 use fdb_history::{Record, Sequence, TagLimit};
 use fdb_live::{Live, Seen};
 
@@ -39,6 +40,13 @@ pub struct Reply<J: Live> {
     pub ghost last: { rec ≡ last_record J.start seen.changes },
     pub ghost at: { position ≡ length seen.changes },
     pub ghost not_below: { asked ≤ position },
+}
+
+/// A reply, and the channel of the request that it answers.
+#[derive(Drop)]
+pub struct Addressed<J: Live> {
+    pub to: Sender<Answer<J>>,
+    pub reply: Reply<J>,
 }
 
 /// A request that does not start, and why. Its token comes back as it was.

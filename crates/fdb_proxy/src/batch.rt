@@ -1,15 +1,15 @@
 //! The requests that start together, and the one read that serves them.
 
-ghost use Rattle.std.specs.Prelude.{◌≡◌, ◌+◌, ◌<◌, ◌≤◌, [], ◌∷◌, ◌++◌, All, List, IfOk, IfErr};
+ghost use Rattle.std.specs.Prelude.{◌≡◌, ◌≤◌, [], All, List, IfOk, IfErr};
 ghost use Rattle.std.specs.Prelude.{OnErr};
 ghost use Rattle.std.specs.Prelude.{length, map, vec_len, vec_capacity};
 ghost use Rattle.std.specs.List.{AllZip};
 ghost use mathlib.Core.List.{IsPrefix};
 ghost use Rattle.fdb_live.specs.Seen.{last_record, own_positions};
-ghost use Rattle.fdb_proxy.specs.Batch.{IsReplyTo, Replies, own_limits};
+ghost use Rattle.fdb_proxy.specs.Batch.{Replies, own_limits};
 ghost use Rattle.fdb_queue.specs.declared.throttles.Throttle.{Throttle};
 
-use crate::answer::{Answer, Reply};
+use crate::answer::{Addressed, Reply};
 use crate::error::ProxyError;
 use crate::request::Request;
 use fdb_history::{Sequence, TagLimit};
@@ -20,9 +20,10 @@ use std::collections::VecDeque;
 use std::sync::Wait;
 
 /// Serves the requests of one window: learns what each asker had seen, makes one read of the live
-/// record, and answers all with it, in order, each with a token of its own (`transactionStarter`,
-/// `getLiveCommittedVersion` and `sendGrvReplies` of GrvProxyServer, FoundationDB 7.1). The
-/// throttles are those of the queue. An empty batch makes no read.
+/// record, and answers all with it, in order, each with a token of its own and beside the channel
+/// of its request (`transactionStarter`, `getLiveCommittedVersion` and `sendGrvReplies` of
+/// GrvProxyServer, FoundationDB 7.1). The throttles are those of the queue. An empty batch makes no
+/// read.
 ///
 /// It is refused as `Memory` alone, before anything has happened; the requests are then handed
 /// back. It waits as a read does, and takes constant time for each request, the limits of its tags
@@ -34,9 +35,9 @@ pub fn serve_batch<J: Live, R: Wait>(
     seen: &mut Seen<J>,
     queue: &GrvQueue<Request<J>>,
     mut requests: Vec<Req<Request<J>>>,
-) -> Result<Vec<Answer<J>>, (ProxyError, Vec<Req<Request<J>>>)>
-    ensures replies { IfOk result (λ answers.
-        AllZip (Replies queue.now.throttles seen.new.changes) requests.items answers.items) }
+) -> Result<Vec<Addressed<J>>, (ProxyError, Vec<Req<Request<J>>>)>
+    ensures replies { IfOk result (λ replies.
+        AllZip (Replies queue.now.throttles seen.new.changes) requests.items replies.items) }
     ensures reporter { seen.new.reporter ≡ seen.old.reporter }
     ensures extends { IsPrefix seen.old.changes seen.new.changes }
     ensures own { own_positions seen.new ≡ own_positions seen.old }
@@ -49,7 +50,7 @@ pub fn serve_batch<J: Live, R: Wait>(
         return Err((ProxyError::Memory, requests));
     };
     if requests.is_empty() {
-        return Ok(room.answers);
+        return Ok(room.replies);
     }
     learn_all(rt, live, seen, requests.as_mut_slice());
     let fetched = live.read(rt, seen);
@@ -61,8 +62,8 @@ pub fn serve_batch<J: Live, R: Wait>(
 struct Room<J: Live> {
     /// The limits of each request's tags, in the order of the requests.
     limits: Vec<Sequence<TagLimit>>,
-    /// No answer yet, with room for all.
-    answers: Vec<Answer<J>>,
+    /// No reply yet, with room for all.
+    replies: Vec<Addressed<J>>,
 }
 
 /// Takes all memory for a batch before anything of it happens, so that the rest cannot fail.
@@ -73,10 +74,10 @@ fn room_for<J: Live>(
 ) -> Result<Room<J>, QueueError>
     ensures limits { IfOk result (λ room.
         room.limits.items ≡ map (own_limits queue.now.throttles) requests.now) }
-    ensures answers { IfOk result (λ room. room.answers.items ≡ []) }
-    ensures none { IfOk result (λ room. vec_len room.answers ≡ 0) }
+    ensures replies { IfOk result (λ room. room.replies.items ≡ []) }
+    ensures none { IfOk result (λ room. vec_len room.replies ≡ 0) }
     ensures len { IfOk result (λ room. vec_len room.limits ≡ length requests.now) }
-    ensures capacity { IfOk result (λ room. length requests.now ≤ vec_capacity room.answers) }
+    ensures capacity { IfOk result (λ room. length requests.now ≤ vec_capacity room.replies) }
 {
     let mut limits = Vec::with_capacity(alloc, requests.len())?;
     for request in requests {
@@ -84,8 +85,8 @@ fn room_for<J: Live>(
         let own = queue.throttles(opts.priority, opts.tags.as_slice(), opts.at)?;
         limits.push_reserved(Sequence::from(own));
     }
-    let answers = Vec::with_capacity(alloc, requests.len())?;
-    Ok(Room { limits, answers })
+    let replies = Vec::with_capacity(alloc, requests.len())?;
+    Ok(Room { limits, replies })
 }
 
 /// Learns what each asker has seen. The requests stay as they are.
@@ -131,15 +132,15 @@ fn reply_all<J: Live>(
     fetched: Fetched,
     requests: Vec<Req<Request<J>>>,
     room: Room<J>,
-) -> Vec<Answer<J>>
+) -> Vec<Addressed<J>>
     requires rec { fetched.rec ≡ last_record J.start seen.old.changes }
     requires position { fetched.position ≡ length seen.old.changes }
     requires told { All
         (λ request. IsPrefix request.payload.seen.changes seen.old.changes) requests.items }
     requires limits { vec_len room.limits ≡ vec_len requests }
-    requires answers { room.answers.items ≡ [] }
-    requires len { vec_len room.answers ≡ 0 }
-    requires capacity { vec_len requests ≤ vec_capacity room.answers }
+    requires replies { room.replies.items ≡ [] }
+    requires len { vec_len room.replies ≡ 0 }
+    requires capacity { vec_len requests ≤ vec_capacity room.replies }
     ensures replies { (throttles : List Throttle)
         → room.limits.items ≡ map (own_limits throttles) requests.items
         → AllZip (Replies throttles seen.new.changes) requests.items result.items }
@@ -147,7 +148,7 @@ fn reply_all<J: Live>(
 {
     let Room {
         limits,
-        mut answers,
+        mut replies,
     } = room;
     let mut limits = VecDeque::from(limits);
     let mut requests = VecDeque::from(requests);
@@ -155,20 +156,9 @@ fn reply_all<J: Live>(
         let Some(own) = limits.pop_front() else {
             unreachable!()
         };
-        let reply = reply_of(live, seen, fetched, request.payload, own);
-        add(&mut answers, reply);
+        replies.push_reserved(reply_of(live, seen, fetched, request.payload, own));
     }
-    answers
-}
-
-/// Adds a reply behind the others, in the room that was taken for it.
-fn add<J: Live>(answers: &mut Vec<Answer<J>>, reply: Reply<J>)
-    requires { vec_len answers.old < vec_capacity answers.old }
-    ensures last { answers.new.items ≡ answers.old.items ++ Answer.Reply reply ∷ [] }
-    ensures len { vec_len answers.new ≡ vec_len answers.old + 1 }
-    ensures capacity { vec_capacity answers.new ≡ vec_capacity answers.old }
-{
-    answers.push_reserved(Answer::Reply(reply));
+    replies
 }
 
 /// Answers a request with what a read saw.
@@ -178,18 +168,18 @@ fn reply_of<J: Live>(
     fetched: Fetched,
     request: Request<J>,
     limits: Sequence<TagLimit>,
-) -> Reply<J>
+) -> Addressed<J>
     requires rec { fetched.rec ≡ last_record J.start seen.old.changes }
     requires position { fetched.position ≡ length seen.old.changes }
     requires told { IsPrefix request.seen.changes seen.old.changes }
     ensures same { seen.new ≡ seen.old }
-    ensures client { result.client ≡ request.client }
-    ensures serial { result.serial ≡ request.serial }
-    ensures asked { result.asked ≡ request.asked }
-    ensures limits { result.limits ≡ limits }
-    ensures rec { result.rec ≡ fetched.rec }
-    ensures position { result.position ≡ fetched.position }
-    ensures seen { result.seen.changes ≡ seen.old.changes }
+    ensures client { result.reply.client ≡ request.client }
+    ensures serial { result.reply.serial ≡ request.serial }
+    ensures asked { result.reply.asked ≡ request.asked }
+    ensures limits { result.reply.limits ≡ limits }
+    ensures rec { result.reply.rec ≡ fetched.rec }
+    ensures position { result.reply.position ≡ fetched.position }
+    ensures seen { result.reply.seen.changes ≡ seen.old.changes }
 {
     let Request {
         client,
@@ -197,9 +187,9 @@ fn reply_of<J: Live>(
         asked,
         seen: _,
         opts: _,
-        reply: _,
+        reply: to,
     } = request;
-    Reply {
+    let reply = Reply {
         client,
         serial,
         asked,
@@ -207,5 +197,6 @@ fn reply_of<J: Live>(
         rec: fetched.rec,
         position: fetched.position,
         limits,
-    }
+    };
+    Addressed { to, reply }
 }

@@ -20,7 +20,7 @@ use std::sync::{Condvar, Mutex, Wait};
 /// Each request on it has in the queue the priority and the count of its own options.
 #[derive(Drop)]
 pub struct Desk<J: Live> {
-    tray: Mutex<Tray<J>>,
+    inbox: Mutex<Inbox<J>>,
     came: Condvar,
 }
 
@@ -41,7 +41,7 @@ impl<J: Live> Desk<J> {
     /// An open desk with no request on it. Takes no memory.
     pub fn new(alloc: Global) -> Self {
         Desk {
-            tray: Mutex::new(Tray::new(alloc)),
+            inbox: Mutex::new(Inbox::new(alloc)),
             came: Condvar::new(),
         }
     }
@@ -60,7 +60,7 @@ impl<J: Live> Desk<J> {
         requires count { request.count ≡ request.payload.opts.count }
         ensures handed_back { IfErr result (λ refused. refused.1 ≡ request) }
     {
-        self.tray.lock(rt).add(request)?;
+        self.inbox.lock(rt).add(request)?;
         self.came.notify_one();
         Ok(())
     }
@@ -70,23 +70,23 @@ impl<J: Live> Desk<J> {
     pub fn take<R: Wait>(&self, rt: &R, wait: bool) -> Taken<J>
         ensures { wait ≡ true → result.closed ≡ false → 0 < vec_len result.requests }
     {
-        let mut tray = self
+        let mut inbox = self
             .came
-            .wait_while(rt, self.tray.lock(rt), |tray| wait && tray.is_bare());
-        tray.take()
+            .wait_while(rt, self.inbox.lock(rt), |inbox| wait && inbox.is_bare());
+        inbox.take()
     }
 
     /// Leaves new rates on the desk, in the place of any that were left there and not taken: they
     /// hold from the proxy's next turn on, before what it offers there. A proxy that waits at the
     /// desk waits on. Takes no memory.
     pub fn set_rates<R: Wait>(&self, rt: &R, rates: Rates) {
-        self.tray.lock(rt).set_rates(rates);
+        self.inbox.lock(rt).set_rates(rates);
     }
 
     /// Closes the desk: from then on it refuses every request. Those that wait there stay. Takes no
     /// memory.
     pub fn close<R: Wait>(&self, rt: &R) {
-        self.tray.lock(rt).close();
+        self.inbox.lock(rt).close();
         self.came.notify_all();
     }
 
@@ -95,7 +95,7 @@ impl<J: Live> Desk<J> {
     pub(crate) fn close_and_take<R: Wait>(&self, rt: &R) -> Taken<J>
         ensures { result.closed ≡ true }
     {
-        let taken = self.tray.lock(rt).close_and_take();
+        let taken = self.inbox.lock(rt).close_and_take();
         self.came.notify_all();
         taken
     }
@@ -103,7 +103,7 @@ impl<J: Live> Desk<J> {
 
 /// What the lock of a desk holds: the requests that wait there, whether it is closed, and new rates.
 #[derive(Drop)]
-struct Tray<J: Live> {
+struct Inbox<J: Live> {
     alloc: Global,
     waiting: Vec<Req<Request<J>>>,
     closed: bool,
@@ -111,14 +111,14 @@ struct Tray<J: Live> {
     ghost own_options: { list_all has_own_options waiting.items ≡ true },
 }
 
-impl<J: Live> Tray<J> {
+impl<J: Live> Inbox<J> {
     /// An open one with nothing on it.
     fn new(alloc: Global) -> Self
         ensures waiting { result.waiting.items ≡ [] }
         ensures open { result.closed ≡ false }
         ensures rates { result.rates ≡ None }
     {
-        Tray {
+        Inbox {
             alloc,
             waiting: Vec::new(alloc),
             closed: false,

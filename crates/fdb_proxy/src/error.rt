@@ -7,7 +7,7 @@ use thiserror::Error;
 #[derive(Clone, Copy, Debug, PartialEq, Eq, Error)]
 pub enum ProxyError {
     /// Memory was refused, to a request at a desk, a batch or a running proxy.
-    #[error("want of memory")]
+    #[error("out of memory")]
     Memory,
     /// The desk is closed, and takes no request any more.
     #[error("the proxy's desk is closed")]

@@ -19,7 +19,7 @@ mod rates;
 mod request;
 mod turn;
 
-pub use answer::{Answer, Refused, Reply};
+pub use answer::{Addressed, Answer, Refused, Reply};
 pub use batch::serve_batch;
 pub use cause::Cause;
 pub use desk::{Desk, Taken};

@@ -1,16 +1,15 @@
 //! A GRV proxy, which serves its desk in turns until that is closed.
 
-ghost use Rattle.std.specs.Prelude.{◌≡◌, [], All, IfOk, IfErr, OnOk, length, true, vec_len};
-ghost use Rattle.std.specs.List.{FoldsTo};
+ghost use Rattle.std.specs.Prelude.{◌≡◌, [], All, IfOk, IfErr, OnOk, true};
 ghost use mathlib.Core.List.{IsPrefix};
 ghost use Rattle.fdb_proxy.specs.Cause.{is_of_an_offer, may_be_refused_for};
-ghost use Rattle.fdb_proxy.specs.private.Sent.{AreClosed, AreTurnedAway, IsRefused, IsServed};
-ghost use Rattle.fdb_proxy.specs.private.Sent.{IsRerated, IsTakenServed};
+ghost use Rattle.fdb_proxy.specs.private.Sent.{AreClosed, AreReplied, AreTurnedAway, IsRefused};
+ghost use Rattle.fdb_proxy.specs.private.Sent.{IsRerated, IsServed, IsTakenServed};
 ghost use Rattle.fdb_proxy.specs.private.Turn.{emptied};
 ghost use Rattle.fdb_queue.specs.Config.{IsElapsed};
 ghost use Rattle.fdb_queue.specs.Waiting.{row};
 
-use crate::answer::{Answer, Refused};
+use crate::answer::{Addressed, Answer};
 use crate::batch;
 use crate::cause::Cause;
 use crate::desk::{Desk, Taken};
@@ -18,11 +17,10 @@ use crate::error::ProxyError;
 use crate::outbox::{Channels, Outbox};
 use crate::rates::Rates;
 use crate::request::Request;
-use crate::turn::{Line, Turn};
-use crossbeam_channel::Sender;
+use crate::turn::{TimedQueue, Turn};
 use fdb_live::{Live, LiveRecord, Seen};
 use fdb_queue::{GrvQueue, Req, TurnedAway};
-use std::alloc::{AllocError, Global};
+use std::alloc::Global;
 use std::collections::VecDeque;
 use std::marker::Model;
 use std::sync::Wait;
@@ -75,7 +73,7 @@ impl<'a, J: Live> GrvProxy<'a, J> {
         let server = Server {
             alloc,
             live,
-            line: Line { queue, elapsed },
+            line: TimedQueue { queue, elapsed },
             seen,
         };
         GrvProxy { desk, server }
@@ -126,7 +124,7 @@ fn drop_last<J: Live>(taken: Taken<J>)
 struct Server<'a, J: Live> {
     alloc: Global,
     live: &'a LiveRecord<J>,
-    line: Line<Request<J>>,
+    line: TimedQueue<Request<J>>,
     seen: Seen<J>,
 }
 
@@ -227,10 +225,9 @@ impl<J: Live> Server<'_, J> {
             turned_away,
         } = self.line.turn(requests, room)?;
         turn_away(rt, out, turned_away)?;
-        let senders = senders_of(self.alloc, started.as_slice())?;
         let (line, seen) = (&self.line, &mut self.seen);
         match batch::serve_batch(rt, self.alloc, self.live, seen, &line.queue, started) {
-            Ok(answers) => send_all(rt, out, senders, answers),
+            Ok(replies) => send_replies(rt, out, replies),
             Err((cause, _)) => Err(cause),
         }
     }
@@ -258,7 +255,7 @@ fn turn_away<J: Live, R: Wait, O: Outbox<Answer<J>>>(
 fn close<J: Live, R: Wait, O: Outbox<Answer<J>>>(
     rt: &R,
     out: &mut O,
-    line: &mut Line<Request<J>>,
+    line: &mut TimedQueue<Request<J>>,
 ) -> Result<(), ProxyError>
     ensures sent { OnOk result (AreClosed O.sends out.old (row line.old.queue.waiting) out.new) }
     ensures left { OnOk result (line.new.queue ≡ emptied line.old.queue) }
@@ -286,38 +283,18 @@ fn refuse<J: Live, R: Wait, O: Outbox<Answer<J>>>(
     out.send(rt, &reply, Answer::Refused(refused))
 }
 
-/// Where the answers to some requests go, in order.
-fn senders_of<J: Live>(
-    alloc: Global,
-    requests: &[Req<Request<J>>],
-) -> Result<Vec<Sender<Answer<J>>>, AllocError>
-    ensures { IfOk result (λ senders. vec_len senders ≡ length requests.now) }
-{
-    let mut senders = Vec::with_capacity(alloc, requests.len())?;
-    for request in requests {
-        senders.push_reserved(request.payload.reply.clone()?);
-    }
-    Ok(senders)
-}
-
-/// Sends each answer to where it goes, in order.
-fn send_all<J: Live, R: Wait, O: Outbox<Answer<J>>>(
+/// Sends each reply to where it goes, in order.
+fn send_replies<J: Live, R: Wait, O: Outbox<Answer<J>>>(
     rt: &R,
     out: &mut O,
-    senders: Vec<Sender<Answer<J>>>,
-    answers: Vec<Answer<J>>,
+    replies: Vec<Addressed<J>>,
 ) -> Result<(), ProxyError>
-    requires { vec_len senders ≡ vec_len answers }
-    ensures sent { OnOk result (FoldsTo O.sends out.old answers.items out.new) }
+    ensures sent { OnOk result (AreReplied O.sends out.old replies.items out.new) }
     ensures memory { IfErr result (λ cause. cause ≡ ProxyError.Memory) }
 {
-    let mut senders = VecDeque::from(senders);
-    let mut answers = VecDeque::from(answers);
-    while let Some(answer) = answers.pop_front() {
-        let Some(reply) = senders.pop_front() else {
-            unreachable!()
-        };
-        out.send(rt, &reply, answer)?;
+    let mut replies = VecDeque::from(replies);
+    while let Some(Addressed { to, reply }) = replies.pop_front() {
+        out.send(rt, &to, Answer::Reply(reply))?;
     }
     Ok(())
 }

@@ -27,13 +27,13 @@ pub(crate) struct Turn<T> {
 
 /// The queue of a proxy, and the time between two of its windows in microseconds.
 #[derive(Drop)]
-pub(crate) struct Line<T> {
+pub(crate) struct TimedQueue<T> {
     pub(crate) queue: GrvQueue<T>,
     pub(crate) elapsed: u64,
     pub(crate) ghost in_range: { IsElapsed elapsed },
 }
 
-impl<T: Drop> Line<T> {
+impl<T: Drop> TimedQueue<T> {
     /// Sets the rates of the queue, and gives out whom they turn away, in the order of the row.
     ///
     /// It is refused for memory alone: where some are turned away and there is none for their list.

@@ -1,6 +1,7 @@
 -- A queue stays one when a request is let in.
 use Rattle.std.proofs.Common.{◌≡◌, ℕ, suc, ◌+◌, ◌<◌, ◌==◌, ◌&&◌, Bool, true, false, List, [], ◌∷◌, ◌++◌, length, drop, None, Some, refl, arith, length-append}
 use Rattle.std.specs.Prelude.{All, if◌then◌else◌, not}
+use Rattle.std.proofs.lemmas.Grind.{common_steps}
 use Rattle.std.proofs.lemmas.List.Elements.{All-push, All-drop}
 use Rattle.std.proofs.lemmas.Bool.Decides.{nat_tests}
 use Rattle.fdb_history.specs.declared.grv.Priority.{Priority}
@@ -27,9 +28,7 @@ let_in_by one two three true true full none h = cc
 let_in_by one two three false throttled full none h = cc
 
 pub let_in : {T : Type 0} (queue : Queue T) (request : Req T) → refusal_of queue request ≡ None → IsLetIn queue request
-let_in queue request h =
-    let all = let_in_by _ _ _ (is_count queue.config request.priority request.count) (is_throttled queue.config request.priority) (is_full queue) (length (below request.priority queue.waiting) == 0) h in
-    record { count = all.0; unthrottled = all.1; room = all.2 }
+let_in queue request h = grind (arith, common_steps, nat_tests)
 
 is_admitted : {T : Type 0} (queue : Queue T) (request : Req T) → IsLetIn queue request → IsAdmitted queue.config request.priority request
 is_admitted queue request let_in = record { own = refl; count = let_in.count; unthrottled = let_in.unthrottled }
@@ -66,13 +65,9 @@ AreAdmitted-without_oldest config waiting h = elim (length waiting.batch == 0) a
   | false ↦ record { system = h.system; default_ = h.default_; batch = All-drop (IsAdmitted config Batch) 1 waiting.batch h.batch }
 ]
 
-length_row : {T : Type 0} (waiting : Requests T) → length (row waiting) ≡ length waiting.system + length waiting.default_ + length waiting.batch
-length_row waiting = simp length-append
-
 length_row-with_last : {T : Type 0} (waiting : Requests T) (request : Req T) (priority : Priority) → length (row (with_last waiting request priority)) ≡ length (row waiting) + 1
 length_row-with_last waiting request System = simp length-append (omega arith)
-length_row-with_last waiting request Default = simp length-append (omega arith)
-length_row-with_last waiting request Batch = simp length-append (omega arith)
+length_row-with_last waiting request _ = simp length-append (omega arith)
 
 -- a list that has an item is not empty
 pub not_empty : (n : ℕ) → (suc n == 0) ≡ false

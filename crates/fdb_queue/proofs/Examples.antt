@@ -30,17 +30,12 @@ abbrev three : Queue ℕ
 three = admitted (admitted (admitted (admitted (new_queue (record { normal = 3; batch = 2; room = 100 })) (asks System 4 0)) (asks Default 1 1)) (asks Default 2 2)) (asks Batch 1 3)
 
 -- The first window starts the system request alone, the second the two default ones, the third the batch one.
-three-first : names (window three) ≡ 0 ∷ []
-three-first = refl
-
-three-second : names (window (after_windows 1000000 1 three)) ≡ 1 ∷ 2 ∷ []
-three-second = refl
-
-three-third : names (window (after_windows 1000000 2 three)) ≡ 3 ∷ []
-three-third = refl
-
-three-budgets : (after_windows 1000000 3 three).budgets ≡ record { normal = 3000000; batch = 1000000 }
-three-budgets = refl
+three-first :
+    (names (window three) ≡ 0 ∷ [])
+    × (names (window (after_windows 1000000 1 three)) ≡ 1 ∷ 2 ∷ [])
+    × (names (window (after_windows 1000000 2 three)) ≡ 3 ∷ [])
+    × ((after_windows 1000000 3 three).budgets ≡ record { normal = 3000000; batch = 1000000 })
+three-first = (refl, refl, refl, refl)
 
 -- After a long time in which nothing waits both budgets are cut to those of 10 transactions.
 three-idle : (after_window 10000000 (after_windows 1000000 3 three)).budgets ≡ record { normal = 20000000; batch = 20000000 }
@@ -50,11 +45,10 @@ three-idle = refl
 abbrev blocked : Queue ℕ
 blocked = admitted (admitted (new_queue (record { normal = 1; batch = 1; room = 100 })) (asks Default 3 0)) (asks Default 1 1)
 
-blocked-fourth : names (window (after_windows 1000000 3 blocked)) ≡ []
-blocked-fourth = refl
-
-blocked-fifth : names (window (after_windows 1000000 4 blocked)) ≡ 0 ∷ []
-blocked-fifth = refl
+blocked-fourth :
+    (names (window (after_windows 1000000 3 blocked)) ≡ [])
+    × (names (window (after_windows 1000000 4 blocked)) ≡ 0 ∷ [])
+blocked-fourth = (refl, refl)
 
 blocked-idle : (before : ℕ) → before < 4 → window (after_windows 1000000 before blocked) ≡ []
 blocked-idle zero less = refl
@@ -67,26 +61,20 @@ blocked-idle (suc (suc (suc (suc before)))) less = absurd (omega arith)
 abbrev burst : Queue ℕ
 burst = admitted (admitted (new_queue (record { normal = 100000; batch = 100000; room = 3 })) (asks System 60000 0)) (asks Default 50000 1)
 
-burst-first : names (window burst) ≡ 0 ∷ []
-burst-first = refl
-
-burst-budgets : (after_window 10000000 burst).budgets ≡ record { normal = 200000000000; batch = 200000000000 }
-burst-budgets = refl
+burst-first :
+    (names (window burst) ≡ 0 ∷ [])
+    × ((after_window 10000000 burst).budgets ≡ record { normal = 200000000000; batch = 200000000000 })
+burst-first = (refl, refl)
 
 abbrev burst_again : Queue ℕ
 burst_again = admitted (after_window 10000000 burst) (asks System 60000 2)
 
-burst-again : names (window burst_again) ≡ 2 ∷ []
-burst-again = refl
-
-burst-again-budgets : (after_window 10000000 burst_again).budgets ≡ record { normal = 200000000000; batch = 200000000000 }
-burst-again-budgets = refl
-
-burst-last : names (window (after_window 10000000 burst_again)) ≡ 1 ∷ []
-burst-last = refl
-
-burst-idle : (after_windows 10000000 2 burst_again).budgets ≡ record { normal = 20000000; batch = 20000000 }
-burst-idle = refl
+burst-again :
+    (names (window burst_again) ≡ 2 ∷ [])
+    × ((after_window 10000000 burst_again).budgets ≡ record { normal = 200000000000; batch = 200000000000 })
+    × (names (window (after_window 10000000 burst_again)) ≡ 1 ∷ [])
+    × ((after_windows 10000000 2 burst_again).budgets ≡ record { normal = 20000000; batch = 20000000 })
+burst-again = (refl, refl, refl, refl)
 
 -- 10,000 requests fit into one window, and no more: here system requests, which may always start.
 abbrev systems : ℕ → List (Req ℕ)
@@ -104,47 +92,35 @@ systems-fit count =
 abbrev full : Queue ℕ
 full = admitted (admitted (new_queue (record { normal = 1; batch = 1; room = 2 })) (asks Batch 1 0)) (asks Batch 1 1)
 
-full-default : pushed_out full (asks Default 1 2) ≡ Some (asks Batch 1 0)
-full-default = refl
-
-full-row : names (row (admitted full (asks Default 1 2)).waiting) ≡ 2 ∷ 1 ∷ []
-full-row = refl
-
-full-batch : refusal_of full (asks Batch 1 2) ≡ Some Full
-full-batch = refl
+full-default :
+    (pushed_out full (asks Default 1 2) ≡ Some (asks Batch 1 0))
+    × (names (row (admitted full (asks Default 1 2)).waiting) ≡ 2 ∷ 1 ∷ [])
+    × (refusal_of full (asks Batch 1 2) ≡ Some Full)
+full-default = (refl, refl, refl)
 
 -- The count is looked at first, and it may be 11 for a batch request at a limit of 1.
-full-count : refusal_of full (asks Batch 12 2) ≡ Some BadCount
-full-count = refl
-
-full-count-at : refusal_of full (asks Batch 11 2) ≡ Some Full
-full-count-at = refl
+full-count :
+    (refusal_of full (asks Batch 12 2) ≡ Some BadCount)
+    × (refusal_of full (asks Batch 11 2) ≡ Some Full)
+full-count = (refl, refl)
 
 -- A system request pushes out a default one where no batch request waits, and never another system request.
 abbrev full_later : Queue ℕ
 full_later = admitted (admitted full (asks System 1 2)) (asks Default 1 3)
 
-full-system : pushed_out full_later (asks System 1 4) ≡ Some (asks Default 1 3)
-full-system = refl
-
-full-systems : refusal_of (admitted full_later (asks System 1 4)) (asks System 1 5) ≡ Some Full
-full-systems = refl
+full-system :
+    (pushed_out full_later (asks System 1 4) ≡ Some (asks Default 1 3))
+    × (refusal_of (admitted full_later (asks System 1 4)) (asks System 1 5) ≡ Some Full)
+full-system = (refl, refl)
 
 -- A count is from 1 to 100,000.
-count-none : refusal_of three (asks System 0 4) ≡ Some BadCount
-count-none = refl
-
-count-greatest : refusal_of three (asks System 100000 4) ≡ None
-count-greatest = refl
-
-count-above : refusal_of three (asks System 100001 4) ≡ Some BadCount
-count-above = refl
-
-count-default : refusal_of three (asks Default 100000 4) ≡ None
-count-default = refl
-
-count-default-above : refusal_of three (asks Default 100001 4) ≡ Some BadCount
-count-default-above = refl
+count-none :
+    (refusal_of three (asks System 0 4) ≡ Some BadCount)
+    × (refusal_of three (asks System 100000 4) ≡ None)
+    × (refusal_of three (asks System 100001 4) ≡ Some BadCount)
+    × (refusal_of three (asks Default 100000 4) ≡ None)
+    × (refusal_of three (asks Default 100001 4) ≡ Some BadCount)
+count-none = (refl, refl, refl, refl, refl)
 
 -- With a batch limit of 0 no batch request is let in.
 throttled-batch : refusal_of (new_queue {T = ℕ} (record { normal = 3; batch = 0; room = 100 })) (asks Batch 1 0) ≡ Some BatchThrottled
@@ -217,11 +193,8 @@ sets rate expires = record { priority = Default; tag = 116 ∷ []; rate = rate; 
 abbrev set_twice : List Throttle
 set_twice = sets 5 5000 ∷ sets 4 9000 ∷ []
 
-tags-before : limits_of set_twice Default 4999 ((116 ∷ []) ∷ (117 ∷ []) ∷ (116 ∷ []) ∷ []) ≡ limit 5 5000 ∷ limit 5 5000 ∷ []
-tags-before = refl
-
-tags-at : limits_of set_twice Default 5000 ((116 ∷ []) ∷ []) ≡ []
-tags-at = refl
-
-tags-batch : limits_of set_twice Batch 4999 ((116 ∷ []) ∷ []) ≡ []
-tags-batch = refl
+tags-before :
+    (limits_of set_twice Default 4999 ((116 ∷ []) ∷ (117 ∷ []) ∷ (116 ∷ []) ∷ []) ≡ limit 5 5000 ∷ limit 5 5000 ∷ [])
+    × (limits_of set_twice Default 5000 ((116 ∷ []) ∷ []) ≡ [])
+    × (limits_of set_twice Batch 4999 ((116 ∷ []) ∷ []) ≡ [])
+tags-before = (refl, refl, refl)

@@ -109,15 +109,6 @@ fits-append queue done more request =
     ap {A = Bool} {B = Bool} (λ v. nat_le (length (done ++ request ∷ more)) MAX_STARTED && v) split in
     rw none at whole
 
--- what comes first of what fits fits
-pub fits-prefix : {T : Type 0} (queue : Queue T) (done more : List (Req T)) → fits queue (done ++ more) ≡ true → fits queue done ≡ true
-fits-prefix queue done more h =
-    let both = and_parts (nat_le (length (done ++ more)) MAX_STARTED) (each_may_start queue.config queue.budgets (done ++ more)) h in
-    let each = sym (each_may_start-after queue.config queue.budgets (done ++ more) ∙ each_after-append queue.config queue.budgets 0 done more) ∙ both.1 in
-    let first = (and_parts (each_after queue.config queue.budgets 0 done) (each_after queue.config queue.budgets (0 + total done) more) each).0 in
-    let room : nat_le (length done) MAX_STARTED ≡ true = grind (arith, nat_tests, length-append done more, both.0) in
-    rw (room, each_may_start-after queue.config queue.budgets done, first) refl
-
 -- one more request, and whatever comes after it
 pub fits-more : {T : Type 0} (queue : Queue T) (done more : List (Req T)) (request : Req T)
     → (nat_lt (length done) MAX_STARTED && may_start queue.config queue.budgets request.priority (total done + request.count)) ≡ false

@@ -85,20 +85,3 @@ unexpired_in_all at system default_ batch one two three =
     let P = (λ (throttle : Throttle). at < throttle.expires) in
     All-append P (kept_for System system ++ kept_for Default default_) (kept_for Batch batch)
     (All-append P (kept_for System system) (kept_for Default default_) (unexpired_for at System system one) (unexpired_for at Default default_ two)) (unexpired_for at Batch batch three)
-
--- ---- from the moment on every answer is as before
-over_later : (at moment expires : ℕ) → at ≤ moment → nat_lt at expires ≡ false → nat_lt moment expires ≡ false
-over_later at moment expires later over = grind (arith, nat_tests)
-
-unexpired_still : (at moment : ℕ) (limit : Option TagLimit) → at ≤ moment → unexpired moment (still_set at limit) ≡ unexpired moment limit
-unexpired_still at moment None later = refl
-unexpired_still at moment (Some limit) later =
-    elim (cases_Bool (nat_lt at limit.expires)) [
-      | inl holds ↦ rw holds refl
-      | inr over ↦ rw (over, over_later at moment limit.expires later over) refl
-    ]
-
-pub same_from : (at : ℕ) (left throttles : List Throttle) → IsLeftAt at left throttles → SameFrom at left throttles
-same_from at left throttles is priority moment [] later = refl
-same_from at left throttles is priority moment (tag ∷ tags) later =
-    rw (is priority tag, unexpired_still at moment (last_set throttles priority tag) later, same_from at left throttles is priority moment tags later) refl

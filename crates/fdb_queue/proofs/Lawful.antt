@@ -75,8 +75,7 @@ total_within (x ∷ xs) all =
 
 count_within : {T : Type 0} (config : QueueConfig) (priority : Priority) (request : Req T) → is_count config priority request.count ≡ true → request.count ≤ MAX_COUNT
 count_within config System request h = grind (arith, nat_tests)
-count_within config Default request h = grind (arith, nat_tests)
-count_within config Batch request h = grind (arith, nat_tests)
+count_within config _ request h = grind (arith, nat_tests)
 
 counts_of : {T : Type 0} (config : QueueConfig) (priority : Priority) (requests : List (Req T)) → All (IsAdmitted config priority) requests → All (λ request. request.count ≤ MAX_COUNT) requests
 counts_of {T = T} config priority requests all = All-weaker (IsAdmitted {T = T} config priority) (λ request. request.count ≤ MAX_COUNT) (λ request admitted. count_within config priority request admitted.count) requests all

@@ -1,6 +1,8 @@
 -- What a window leaves.
 use Rattle.std.proofs.Common.{◌≡◌, ℕ, ◌+◌, ◌==◌, ◌<◌, ◌≤◌, Bool, true, false, List, [], ◌∷◌, ◌++◌, length, take, drop, refl, ◌⊎◌, inl, inr, ap, ◌∙◌, arith, length-append, length-drop}
 use Rattle.std.specs.Prelude.{All}
+use Rattle.std.proofs.lemmas.Grind.{common_steps}
+use Rattle.std.proofs.lemmas.Bool.Decides.{nat_tests}
 use Rattle.std.proofs.lemmas.List.{append-nil, length-take-le}
 use Rattle.std.proofs.lemmas.List.Elements.{All-head, All-tail, All-take, All-drop, filter-append}
 use Rattle.std.proofs.lemmas.List.Sums.{sum_by-append}
@@ -20,8 +22,7 @@ use Rattle.fdb_queue.specs.Window.{window, without, budgets_after, after_window}
 -- all of a list has its own priority
 pub is_own : (priority : Priority) → is_priority priority priority ≡ true
 is_own System = refl
-is_own Default = refl
-is_own Batch = refl
+is_own _ = refl
 
 pub of_priority-own : {T : Type 0} (config : QueueConfig) (priority : Priority) (requests : List (Req T)) → All (IsAdmitted config priority) requests → of_priority priority requests ≡ requests
 of_priority-own config priority [] all = refl
@@ -43,9 +44,7 @@ pub record AreStarted {T : Type 0} (queue : Queue T) (reach : Reach) : Type 0 wh
   pub batch : of_priority Batch (window queue) ≡ take reach.counts.batch queue.waiting.batch
 
 of_three : {T : Type 0} (priority : Priority) (xs ys zs : List (Req T)) → of_priority priority (xs ++ ys ++ zs) ≡ of_priority priority xs ++ of_priority priority ys ++ of_priority priority zs
-of_three priority xs ys zs =
-    filter-append (λ request. is_priority priority request.priority) (xs ++ ys) zs
-    ∙ ap (λ some. some ++ of_priority priority zs) (filter-append (λ request. is_priority priority request.priority) xs ys)
+of_three priority xs ys zs = grind (arith, common_steps, nat_tests)
 
 pub are_started : {T : Type 0} (queue : Queue T) (reach : Reach) → IsQueue queue → IsReach queue reach → AreStarted queue reach
 are_started queue reach h is =
@@ -104,32 +103,11 @@ zero_or_more n = grind arith
 
 -- how far a window comes has nothing to do with throttles
 pub IsReach-throttled : {T : Type 0} (queue : Queue T) (reach : Reach) → IsReach (record queue { throttles = [] }) reach → IsReach queue reach
-IsReach-throttled queue reach is = record {
-  system = is.system;
-  default_ = is.default_;
-  batch = is.batch;
-  requests = is.requests;
-  started = is.started;
-  unbatched = is.unbatched;
-  all = is.all;
-  unbatched_in_range = is.unbatched_in_range;
-  all_in_range = is.all_in_range;
-}
+IsReach-throttled queue reach is = grind (arith, common_steps, nat_tests)
 
 -- a window that takes somebody out starts something
 pub some_started : {T : Type 0} (queue : Queue T) (reach : Reach) → IsReach queue reach → (reach.counts.system + reach.counts.default_ + reach.counts.batch ≡ 0 → ⊥) → 0 < length (window queue)
-some_started queue reach is some =
-    let xs = take reach.counts.system queue.waiting.system in
-    let ys = take reach.counts.default_ queue.waiting.default_ in
-    let zs = take reach.counts.batch queue.waiting.batch in
-    let whole : length (window queue) ≡ length xs + length ys + length zs = ap (λ it. length it) is.started ∙ simp length-append in
-    let one = length-take-le reach.counts.system queue.waiting.system is.system in
-    let two = length-take-le reach.counts.default_ queue.waiting.default_ is.default_ in
-    let three = length-take-le reach.counts.batch queue.waiting.batch is.batch in
-    elim (zero_or_more (length (window queue))) [
-      | inl none ↦ absurd (some (omega arith))
-      | inr more ↦ more
-    ]
+some_started queue reach is some = grind (arith, common_steps, nat_tests)
 
 pub IsQueue-left : {T : Type 0} (queue : Queue T) (reach : Reach) (budgets : Budgets) → IsQueue queue → AreBudgets budgets
     → IsQueue (record queue { waiting = left_by reach queue.waiting; budgets = budgets })
@@ -161,10 +139,3 @@ IsQueue-after_window queue elapsed h =
         batch = cut_in_range (length (row (without started queue.waiting)) == 0) _;
       };
     }
-
--- no more requests wait than a queue may have room for
-pub few_wait : {T : Type 0} (queue : Queue T) → IsQueue queue → length queue.waiting.system + length queue.waiting.default_ + length queue.waiting.batch ≤ 100000
-few_wait queue is =
-    let most : queue.config.room ≤ 100000 = is.config.room_in_range in
-    let all : length (queue.waiting.system ++ queue.waiting.default_ ++ queue.waiting.batch) ≤ queue.config.room = is.room in
-    omega (arith, most, all, length-append (queue.waiting.system ++ queue.waiting.default_) queue.waiting.batch, length-append queue.waiting.system queue.waiting.default_)

@@ -9,7 +9,6 @@ pub mod Turning
 pub mod Keeping
 mod Examples
 pub mod Popping
-pub mod Setting
 pub mod Skipping
 pub mod Forgetting
 pub mod Rerating

@@ -2,16 +2,15 @@
 use Rattle.std.proofs.Common.{◌≡◌, Bool, true, false, List, [], ◌∷◌, ◌++◌, map, None, Some, refl}
 use Rattle.std.specs.Prelude.{find, if◌then◌else◌}
 use Rattle.std.specs.Option.{option_map}
+use Rattle.std.proofs.lemmas.Grind.{common_steps}
+use Rattle.std.proofs.lemmas.Bool.Decides.{nat_tests}
+use Rattle.std.proofs.Common.{arith}
 use Rattle.std.proofs.lemmas.List.Folds.{find-append}
 use Rattle.fdb_queue.specs.Window.{prefixes}
 
 find-map : {X Y : Type 0} (test : Y → Bool) (f : X → Y) (xs : List X) → find test (map f xs) ≡ option_map f (find (λ x. test (f x)) xs)
 find-map test f [] = refl
-find-map test f (x ∷ xs) =
-    elim (test (f x)) as (λ v. (if v then Some (f x) else find test (map f xs)) ≡ option_map f (if v then Some x else find (λ x. test (f x)) xs)) [
-      | true ↦ refl
-      | false ↦ find-map test f xs
-    ]
+find-map test f (x ∷ xs) = grind (arith, common_steps, nat_tests, find-map test f xs)
 
 find-none : {X : Type 0} (test : X → Bool) (xs : List X) → ((x : X) → test x ≡ false) → find test xs ≡ None
 find-none test [] fails = refl

@@ -3,6 +3,7 @@ use Rattle.std.proofs.Common.{◌≡◌, ℕ, ◌+◌, ◌<◌, ◌≤◌, ◌==
 use Rattle.std.specs.Prelude.{if◌then◌else◌, not, option_map, All, IsPermutation}
 use Rattle.std.specs.List.{cons_option, slice_index_or}
 use Rattle.std.specs.Option.{is_none}
+use Rattle.std.proofs.lemmas.Grind.{common_steps}
 use Rattle.std.proofs.lemmas.Bool.Decides.{nat_tests}
 use Rattle.std.proofs.lemmas.List.{take_more, drop_more, append-nil}
 use Rattle.std.proofs.lemmas.List.Elements.{All-cons, All-filter, All-head, All-nil, All-tail, filter-append, filter_map-append, filter_passes}
@@ -134,10 +135,7 @@ none_from (Some x) h = cc
 
 -- what waits on is admitted under the other rates
 admitted_under : {T : Type 0} (config other : QueueConfig) (priority : Priority) (request : Req T) → 1 ≤ other.room → IsAdmitted config priority request → may_wait other request ≡ true → IsAdmitted other priority request
-admitted_under config other priority request some before may =
-    let none = sym (refusal_by_rates other request some) ∙ none_from (refusal_under other request) may in
-    let both = rw before.own at (none_by BadCount BatchThrottled (is_count other request.priority request.count) (is_throttled other request.priority) none) in
-    record { own = before.own; count = both.0; unthrottled = both.1 }
+admitted_under config other priority request some before may = grind (arith, common_steps, nat_tests)
 
 all_under : {T : Type 0} (config other : QueueConfig) (priority : Priority) (requests : List (Req T)) → 1 ≤ other.room → All (IsAdmitted config priority) requests → All (IsAdmitted other priority) (staying other requests)
 all_under config other priority requests some all =

@@ -3,6 +3,7 @@ use Rattle.std.proofs.Common.{◌≡◌, ℕ, zero, suc, ◌+◌, ◌-◌, ◌*�
 use native.Mathlib.Nat.{suc-mul, mul-pos}
 use Rattle.std.specs.Int.{div_ceil}
 use Rattle.std.specs.Prelude.{All, Some, IfSome, max, nat_le}
+use Rattle.std.proofs.lemmas.Grind.{common_steps}
 use Rattle.std.proofs.lemmas.Bool.{and_parts}
 use Rattle.std.proofs.lemmas.Bool.Decides.{nat_tests}
 use Rattle.std.proofs.lemmas.Grind.{div_ceil_times}
@@ -21,7 +22,7 @@ use Rattle.fdb_queue.specs.Waiting.{row, first}
 use Rattle.fdb_queue.specs.Waits.{after_windows, StartsAfter}
 use Rattle.fdb_queue.specs.private.Rates.{idle_budget, lacking}
 use Rattle.fdb_queue.specs.Window.{may_start, window, after_window}
-use Rattle.fdb_queue.proofs.Turning.{waited, after_idle, held, started, may_by_limit, not_none, cut_missing, each_before, exact, count_of, first_split}
+use Rattle.fdb_queue.proofs.Turning.{waited, after_idle, held, started, may_by_limit, cut_missing, counted, first_split}
 
 -- ---- the budgets
 
@@ -42,11 +43,7 @@ skipped elapsed windows queue =
     }
 
 once_more : {T : Type 0} (elapsed windows : ℕ) (queue : Queue T) → skipped elapsed windows (waited elapsed queue) ≡ skipped elapsed (suc windows) queue
-once_more elapsed windows queue =
-    rw (
-      twice windows elapsed queue.config.normal queue.budgets.normal (length queue.waiting.system + length queue.waiting.default_ == 0),
-      twice windows elapsed queue.config.batch queue.budgets.batch (length (row queue.waiting) == 0),
-    ) refl
+once_more elapsed windows queue = grind (arith, common_steps, nat_tests)
 
 pub all_skipped : {T : Type 0} (elapsed windows : ℕ) (queue : Queue T) → ((before : ℕ) → before < windows → window (after_windows elapsed before queue) ≡ [])
     → after_windows elapsed windows queue ≡ skipped elapsed windows queue
@@ -81,17 +78,6 @@ may_batch : {T : Type 0} (queue : Queue T) (request : Req T) (left : List (Req T
 may_batch queue request left h =
     rw (h.own, may_by_limit queue.config.batch queue.budgets.batch request.count h.small, may_by_limit queue.config.normal queue.budgets.normal request.count h.small) refl
 
-and_false : (b : Bool) → (b && false) ≡ false
-and_false true = refl
-and_false false = refl
-
-held_by : (normal batch : ℕ) → (0 < normal) ⊎ (0 < batch) → (nat_le batch 0 && nat_le normal 0) ≡ false
-held_by normal batch (inl some) = rw (not_none normal some) (and_false (nat_le batch 0))
-held_by normal batch (inr some) = rw (not_none batch some) refl
-
-goes_by : (normal batch : ℕ) → normal ≡ 0 → batch ≡ 0 → (nat_le batch 0 && nat_le normal 0) ≡ true
-goes_by normal batch no_normal no_batch = rw (no_normal, no_batch) refl
-
 -- The normal rate, for which nothing waits then, keeps no more than 10 transactions: enough for a count that is admitted.
 cut_lacking : (elapsed limit budget count : ℕ) → count ≤ limit + IDLE_BURST
     → lacking limit (cut true (budget_after elapsed limit 0 budget)) count ≡ lacking limit budget count - elapsed * limit
@@ -108,52 +94,10 @@ next_batch elapsed queue request left h = rw h.waiting (cut_missing elapsed queu
 still_batch : {T : Type 0} (elapsed : ℕ) (queue : Queue T) (request : Req T) (left : List (Req T)) → IsBatchHead queue request left → IsBatchHead (waited elapsed queue) request left
 still_batch elapsed queue request left h = record { row_is = h.row_is; own = h.own; alone = h.alone; waiting = h.waiting; count = h.count; small = h.small; grants = h.grants }
 
-fewer : (n count step : ℕ) → n ≤ suc count * step → n - step ≤ count * step
-fewer n count step enough = let more : suc count * step ≡ count * step + step = suc-mul count step in omega (arith, enough)
-
-some_lacks : (n count step : ℕ) → suc count * step < n + step → 0 < n
-some_lacks n count step needed = let more : suc count * step ≡ count * step + step = suc-mul count step in omega (arith, needed)
-
-still_needed : (n count step : ℕ) → suc count * step < n + step → count * step < n - step + step
-still_needed n count step needed = let more : suc count * step ≡ count * step + step = suc-mul count step in omega (arith, needed)
-
--- So many windows as it takes for what both limits grant to make up for what the request lacks by each.
-both_counted : {T : Type 0} (elapsed : ℕ) (queue : Queue T) (request : Req T) (left : List (Req T)) (count normal batch : ℕ) → IsBatchHead queue request left
-    → normal ≡ elapsed * queue.config.normal → batch ≡ elapsed * queue.config.batch → lacks_normal queue request ≤ count * normal → lacks_batch queue request ≤ count * batch
-    → (0 < count → (count * normal < lacks_normal queue request + normal) ⊎ (count * batch < lacks_batch queue request + batch)) → StartsAfter elapsed queue count
-both_counted elapsed queue request left zero normal batch h normal_is batch_is by_normal by_batch needed = record {
-  idle = λ before less. absurd (omega arith);
-  starts = started queue request left h.row_is (may_batch queue request left h ∙ goes_by (lacks_normal queue request) (lacks_batch queue request) (omega (arith, by_normal)) (omega (arith, by_batch)));
-}
-both_counted {T = T} elapsed queue request left (suc count) normal batch h normal_is batch_is by_normal by_batch needed =
-    let one = needed (omega arith) in
-    let some : (0 < lacks_normal queue request) ⊎ (0 < lacks_batch queue request) = elim one [
-      | inl more ↦ inl (some_lacks (lacks_normal queue request) count normal more)
-      | inr more ↦ inr (some_lacks (lacks_batch queue request) count batch more)
-    ] in
-    let idle = held queue request left h.row_is (may_batch queue request left h ∙ held_by (lacks_normal queue request) (lacks_batch queue request) some) in
-    let after = after_idle elapsed queue idle in
-    let next_n = next_normal elapsed queue request left h ∙ ap (λ it. lacks_normal queue request - it) (sym normal_is) in
-    let next_b = next_batch elapsed queue request left h ∙ ap (λ it. lacks_batch queue request - it) (sym batch_is) in
-    let rest : StartsAfter elapsed (waited elapsed queue) count = both_counted elapsed (waited elapsed queue) request left count normal batch (still_batch elapsed queue request left h) normal_is batch_is
-    (rw next_n (fewer (lacks_normal queue request) count normal by_normal)) (rw next_b (fewer (lacks_batch queue request) count batch by_batch))
-    (λ _. elim one [
-      | inl more ↦ inl (rw next_n (still_needed (lacks_normal queue request) count normal more))
-      | inr more ↦ inr (rw next_b (still_needed (lacks_batch queue request) count batch more))
-    ]) in
-    let then : StartsAfter elapsed (after_window elapsed queue) count = rw after rest in
-    record {
-      idle = each_before elapsed queue count idle then;
-      starts = then.starts;
-    }
-
 -- ---- what is known of a batch request that waits
 
 batch_count : (config : QueueConfig) (count : ℕ) → is_count config Batch count ≡ true → (count ≤ config.normal + IDLE_BURST) × (count ≤ MAX_BURST)
-batch_count config count is =
-    let parts = and_parts (nat_le 1 count && nat_le count MAX_COUNT) (nat_le count (config.normal + IDLE_BURST)) is in
-    let in_range = and_parts (nat_le 1 count) (nat_le count MAX_COUNT) parts.0 in
-    (grind (arith, nat_tests, parts.1), grind (arith, nat_tests, in_range.1))
+batch_count config count is = grind (arith, common_steps, nat_tests)
 
 batch_head : {T : Type 0} (config : QueueConfig) (budgets : Budgets) (throttles : List Throttle) (system default_ batch : List (Req T)) (request : Req T) (left : List (Req T))
     → All (IsAdmitted config System) system → All (IsAdmitted config Default) default_ → All (IsAdmitted config Batch) batch
@@ -201,11 +145,6 @@ system_goes queue request elapsed is own =
       starts = started queue request split.0 split.1 (rw own refl);
     }
 
-pub default_held : {T : Type 0} (queue : Queue T) (request : Req T) (elapsed count : ℕ) → IsQueue queue → 1 ≤ elapsed → first (row queue.waiting) ≡ Some request → request.priority ≡ Default
-    → count ≡ div_ceil (lacking queue.config.normal queue.budgets.normal request.count) (elapsed * queue.config.normal) → StartsAfter elapsed queue count
-default_held queue request elapsed count h time is own count_is =
-    exact queue request elapsed queue.config.normal queue.budgets.normal count h time is (rw own (count_of queue request h is)) (rw own refl) (rw own refl) count_is
-
 most_suffice : (n step some most : ℕ) → n ≤ some * step → some ≤ most → n ≤ most * step
 most_suffice n step some most enough within = grind arith
 
@@ -213,19 +152,21 @@ pub batch_held : {T : Type 0} (queue : Queue T) (request : Req T) (elapsed norma
     → normal ≡ div_ceil (lacking queue.config.normal queue.budgets.normal request.count) (elapsed * queue.config.normal)
     → batch ≡ div_ceil (lacking queue.config.batch queue.budgets.batch request.count) (elapsed * queue.config.batch)
     → count ≡ max normal batch → StartsAfter elapsed queue count
-batch_held queue request elapsed normal batch count h time is own normal_is batch_is count_is =
+batch_held {T = T} queue request elapsed normal batch count h time is own normal_is batch_is count_is =
     let split = first_split (row queue.waiting) request is in
     let here = batch_head_of queue request split.0 h split.1 own in
     let by_normal = rw (← normal_is) at (div_ceil_times (lacks_normal queue request) (elapsed * queue.config.normal) (mul-pos time h.config.normal_some)) in
     let by_batch = rw (← batch_is) at (div_ceil_times (lacks_batch queue request) (elapsed * queue.config.batch) (mul-pos time here.grants)) in
     let either : (count ≡ normal) ⊎ (count ≡ batch) = grind arith in
-    both_counted elapsed queue request split.0 count (elapsed * queue.config.normal) (elapsed * queue.config.batch) here refl refl
+    let Head : Queue T → Type 0 = λ it. IsBatchHead it request split.0 × (elapsed * queue.config.normal ≡ elapsed * it.config.normal) × (elapsed * queue.config.batch ≡ elapsed * it.config.batch) in
+    counted elapsed request split.0 Head (λ it. lacks_normal it request) (λ it. lacks_batch it request) (elapsed * queue.config.normal) (elapsed * queue.config.batch)
+    (λ it head. head.0.row_is) (λ it head. may_batch it request split.0 head.0) (λ it head. (still_batch elapsed it request split.0 head.0, head.1, head.2))
+    (λ it head. next_normal elapsed it request split.0 head.0 ∙ ap (λ n. lacks_normal it request - n) (sym head.1))
+    (λ it head. next_batch elapsed it request split.0 head.0 ∙ ap (λ n. lacks_batch it request - n) (sym head.2))
+    queue count (here, refl, refl)
     (most_suffice (lacks_normal queue request) (elapsed * queue.config.normal) normal count by_normal.0 (omega (arith, count_is)))
     (most_suffice (lacks_batch queue request) (elapsed * queue.config.batch) batch count by_batch.0 (omega (arith, count_is)))
-    (λ _. elim either [
-      | inl same ↦ inl (rw same by_normal.1)
-      | inr same ↦ inr (rw same by_batch.1)
-    ])
+    (λ _. elim either [ inl same ↦ inl (rw same by_normal.1) | inr same ↦ inr (rw same by_batch.1) ])
 
 none_before : {T : Type 0} (requests : List (Req T)) (queue : Queue T) (elapsed windows : ℕ) → IfSome (first requests) (λ _. StartsAfter elapsed queue windows) → (requests ≡ [] → windows ≡ 0)
     → (before : ℕ) → before < windows → window (after_windows elapsed before queue) ≡ []

@@ -1,8 +1,9 @@
 -- Windows that start nothing.
-use Rattle.std.proofs.Common.{◌≡◌, ℕ, zero, suc, ◌+◌, ◌-◌, ◌*◌, ◌≤◌, ◌<◌, ◌==◌, inl, inr, true, false, List, [], ◌∷◌, ◌++◌, length, take, refl, sym, ap, ◌∙◌, arith, zero-add, length-append}
+use Rattle.std.proofs.Common.{◌≡◌, ℕ, zero, suc, ◌+◌, ◌-◌, ◌*◌, ◌≤◌, ◌<◌, ◌==◌, ◌&&◌, ◌⊎◌, inl, inr, Bool, true, false, List, [], ◌∷◌, ◌++◌, length, take, refl, sym, ap, ◌∙◌, arith, zero-add, length-append}
 use native.Mathlib.Nat.{suc-mul, zero-mul, mul-pos}
 use Rattle.std.specs.Int.{div_ceil}
 use Rattle.std.specs.Prelude.{nat_le, All, Some}
+use Rattle.std.proofs.lemmas.Grind.{common_steps}
 use Rattle.std.proofs.lemmas.Bool.{cases_Bool, cases_lt}
 use Rattle.std.proofs.lemmas.Bool.Decides.{nat_tests}
 use Rattle.std.proofs.lemmas.List.{nil_from_length}
@@ -21,7 +22,7 @@ use Rattle.fdb_queue.specs.Laws.{list_of}
 use Rattle.fdb_queue.specs.Queue.{Queue}
 use Rattle.fdb_queue.specs.Waiting.{Requests, row, total, first}
 use Rattle.fdb_queue.specs.Waits.{after_windows, StartsAfter, IsSure, limit_of}
-use Rattle.fdb_queue.specs.private.Rates.{budget_of}
+use Rattle.fdb_queue.specs.private.Rates.{budget_of, lacking}
 use Rattle.fdb_queue.specs.Window.{may_start, fits, window, budgets_after, after_window}
 use Rattle.fdb_queue.proofs.Fitting.{and-true, fits-more}
 use Rattle.fdb_queue.proofs.LongestPrefix.{find_longest}
@@ -115,9 +116,6 @@ next_missing elapsed queue request left h = falls elapsed queue request request.
 pub not_none : (n : ℕ) → 0 < n → nat_le n 0 ≡ false
 not_none n some = grind (arith, nat_tests)
 
-idle_where : {T : Type 0} (queue : Queue T) (request : Req T) (left : List (Req T)) → IsHead queue request left → 0 < missing queue request → window queue ≡ []
-idle_where queue request left h some = held queue request left h.row_is (may_by queue.config queue.budgets request.priority request.count h.config h.sure ∙ not_none (missing queue request) some)
-
 starts_where : {T : Type 0} (queue : Queue T) (request : Req T) (left : List (Req T)) → IsHead queue request left → missing queue request ≡ 0 → 0 < length (window queue)
 starts_where queue request left h none = started queue request left h.row_is (may_by queue.config queue.budgets request.priority request.count h.config h.sure ∙ ap (λ it. nat_le it 0) none)
 
@@ -131,39 +129,58 @@ pub each_before : {T : Type 0} (elapsed : ℕ) (queue : Queue T) (count : ℕ) �
 each_before elapsed queue count idle rest zero less = idle
 each_before elapsed queue count idle rest (suc before) less = rest.idle before (omega arith)
 
-one_less : (n count step : ℕ) → n ≤ suc count * step → suc count * step < n + step → (0 < n) × (n - step ≤ count * step) × (0 < count → count * step < n - step + step)
-one_less n count step enough needed =
-    let more : suc count * step ≡ count * step + step = suc-mul count step in
-    (omega arith, omega arith, λ some. omega arith)
+fewer : (n count step : ℕ) → n ≤ suc count * step → n - step ≤ count * step
+fewer n count step enough = let more : suc count * step ≡ count * step + step = suc-mul count step in omega (arith, enough)
 
--- So many as it takes for what the limit grants to make up for what is missing.
-pub counted : {T : Type 0} (elapsed : ℕ) (queue : Queue T) (request : Req T) (left : List (Req T)) (count step : ℕ) → IsHead queue request left
-    → step ≡ elapsed * limit_of queue.config request.priority → missing queue request ≤ count * step → (0 < count → count * step < missing queue request + step) → StartsAfter elapsed queue count
-counted elapsed queue request left zero step h is enough needed = record {
-  idle = λ before less. absurd (omega arith);
-  starts = starts_where queue request left h (omega arith);
-}
-counted {T = T} elapsed queue request left (suc count) step h is enough needed =
-    let numbers = one_less (missing queue request) count step enough (needed (omega arith)) in
-    let some = numbers.0 in
-    let next = next_missing elapsed queue request left h ∙ ap (λ it. missing queue request - it) (sym is) in
-    let idle = idle_where queue request left h some in
-    let after = after_idle elapsed queue idle in
-    let rest : StartsAfter elapsed (waited elapsed queue) count = counted elapsed (waited elapsed queue) request left count step (still_head elapsed queue request left h) is (rw next numbers.1) (λ more. rw next (numbers.2 more)) in
-    let then : StartsAfter elapsed (after_window elapsed queue) count = rw after rest in
-    record {
-      idle = each_before elapsed queue count idle then;
-      starts = then.starts;
-    }
+some_lacks : (n count step : ℕ) → suc count * step < n + step → 0 < n
+some_lacks n count step needed = let more : suc count * step ≡ count * step + step = suc-mul count step in omega (arith, needed)
+
+still_needed : (n count step : ℕ) → suc count * step < n + step → count * step < n - step + step
+still_needed n count step needed = let more : suc count * step ≡ count * step + step = suc-mul count step in omega (arith, needed)
+
+and_false : (b : Bool) → (b && false) ≡ false
+and_false true = refl
+and_false false = refl
+
+held_by : (one other : ℕ) → (0 < one) ⊎ (0 < other) → (nat_le other 0 && nat_le one 0) ≡ false
+held_by one other (inl some) = rw (not_none one some) (and_false (nat_le other 0))
+held_by one other (inr some) = rw (not_none other some) refl
+
+goes_by : (one other : ℕ) → one ≡ 0 → other ≡ 0 → (nat_le other 0 && nat_le one 0) ≡ true
+goes_by one other no_one no_other = rw (no_one, no_other) refl
+
+-- A head that lacks something of each of two rates, of which a window makes up for a step each.
+module _ {T : Type 0} (elapsed : ℕ) (request : Req T) (left : List (Req T)) (Head : Queue T → Type 0) (one other : Queue T → ℕ) (a b : ℕ)
+    (row_is : (queue : Queue T) → Head queue → row queue.waiting ≡ request ∷ left)
+    (may : (queue : Queue T) → Head queue → may_start queue.config queue.budgets request.priority request.count ≡ (nat_le (other queue) 0 && nat_le (one queue) 0))
+    (still : (queue : Queue T) → Head queue → Head (waited elapsed queue))
+    (next_one : (queue : Queue T) → Head queue → one (waited elapsed queue) ≡ one queue - a)
+    (next_other : (queue : Queue T) → Head queue → other (waited elapsed queue) ≡ other queue - b) where
+  -- So many windows as it takes for the steps to make up for what it lacks.
+  pub counted : (queue : Queue T) (count : ℕ) → Head queue → one queue ≤ count * a → other queue ≤ count * b
+      → (0 < count → (count * a < one queue + a) ⊎ (count * b < other queue + b)) → StartsAfter elapsed queue count
+  counted queue zero h by_one by_other needed = record {
+    idle = λ before less. absurd (omega arith);
+    starts = started queue request left (row_is queue h) (may queue h ∙ goes_by (one queue) (other queue) (omega (arith, by_one)) (omega (arith, by_other)));
+  }
+  counted queue (suc count) h by_one by_other needed =
+      let due = needed (omega arith) in
+      let some : (0 < one queue) ⊎ (0 < other queue) = elim due [ inl more ↦ inl (some_lacks (one queue) count a more) | inr more ↦ inr (some_lacks (other queue) count b more) ] in
+      let idle = held queue request left (row_is queue h) (may queue h ∙ held_by (one queue) (other queue) some) in
+      let rest : StartsAfter elapsed (waited elapsed queue) count =
+      counted (waited elapsed queue) count (still queue h) (rw (next_one queue h) (fewer (one queue) count a by_one)) (rw (next_other queue h) (fewer (other queue) count b by_other))
+      (λ _. elim due [ inl more ↦ inl (rw (next_one queue h) (still_needed (one queue) count a more)) | inr more ↦ inr (rw (next_other queue h) (still_needed (other queue) count b more)) ]) in
+      let then : StartsAfter elapsed (after_window elapsed queue) count = rw (after_idle elapsed queue idle) rest in
+      record {
+        idle = each_before elapsed queue count idle then;
+        starts = then.starts;
+      }
 
 -- ---- no more than that
 
 one_more : (n count step : ℕ) → 0 < n → count * step < n - step + step → suc count * step < n + step
 one_more n zero step some less = let one : suc zero * step ≡ zero * step + step = suc-mul zero step in let none : zero * step ≡ 0 = zero-mul step in omega arith
-one_more n (suc count) step some less =
-    let two : suc (suc count) * step ≡ suc count * step + step = suc-mul (suc count) step in
-    let one : suc count * step ≡ count * step + step = suc-mul count step in
-    omega arith
+one_more n (suc count) step some less = grind (arith, common_steps, nat_tests)
 
 pub idle_within : {T : Type 0} (elapsed : ℕ) (queue : Queue T) (request : Req T) (left : List (Req T)) (count step : ℕ) → IsHead queue request left
     → step ≡ elapsed * limit_of queue.config request.priority → 0 < step → ((before : ℕ) → before < count → window (after_windows elapsed before queue) ≡ []) → count * step < missing queue request + step
@@ -195,14 +212,8 @@ waiting_by : {T : Type 0} (config : QueueConfig) (system default_ batch : List (
     → All (IsAdmitted config System) system → All (IsAdmitted config Default) default_ → All (IsAdmitted config Batch) batch
     → system ++ default_ ++ batch ≡ request ∷ left → IsSure config request.priority request.count
     → IsWaiting request.priority (record { system = system; default_ = default_; batch = batch })
-waiting_by {T = T} config (x ∷ system) default_ batch request left ss ds bs is sure =
-    let same : x ≡ request = cc in
-    let own : request.priority ≡ System = sym (ap (λ (it : Req T). it.priority) same) ∙ (All-head (IsAdmitted config System) x system ss).own in
-    absurd (rw own at sure)
-waiting_by {T = T} config [] (x ∷ default_) batch request left ss ds bs is sure =
-    let same : x ≡ request = cc in
-    let own : request.priority ≡ Default = sym (ap (λ (it : Req T). it.priority) same) ∙ (All-head (IsAdmitted config Default) x default_ ds).own in
-    rw own (grind (arith, nat_tests))
+waiting_by {T = T} config (x ∷ system) default_ batch request left ss ds bs is sure = grind (arith, common_steps, nat_tests)
+waiting_by {T = T} config [] (x ∷ default_) batch request left ss ds bs is sure = grind (arith, common_steps, nat_tests)
 waiting_by {T = T} config [] [] (x ∷ batch) request left ss ds bs is sure =
     let same : x ≡ request = cc in
     let own : request.priority ≡ Batch = sym (ap (λ (it : Req T). it.priority) same) ∙ (All-head (IsAdmitted config Batch) x batch bs).own in
@@ -224,23 +235,30 @@ waiting_in config Default count system (x ∷ default_) batch request is sure = 
 waiting_in config Batch count system default_ [] request is sure = cc
 waiting_in config Batch count system default_ (x ∷ batch) request is sure = grind (arith, nat_tests, length-append)
 
+-- the first of the row waits no longer than its own rate takes to grant all of its count
+bounded_by : {T : Type 0} (queue : Queue T) (request : Req T) (left : List (Req T)) (elapsed idle : ℕ) → IsHead queue request left → 1 ≤ elapsed
+    → ((before : ℕ) → before < idle → window (after_windows elapsed before queue) ≡ []) → idle ≤ div_ceil (request.count * RATE_WINDOW) (elapsed * limit_of queue.config request.priority)
+bounded_by queue request left elapsed idle here time all =
+    let step = elapsed * limit_of queue.config request.priority in
+    let grants : 0 < step = granted elapsed queue.config request.priority request.count time here.config here.sure in
+    let within = idle_within elapsed queue request left idle step here refl grants all in
+    let ceil = (div_ceil_times (request.count * RATE_WINDOW) step grants).0 in
+    below_factor idle (div_ceil (request.count * RATE_WINDOW) step) step (omega arith)
+
 pub bounded : {T : Type 0} (queue : Queue T) (budgets : Budgets) (request : Req T) (left : List (Req T)) (elapsed idle : ℕ)
     → IsConfig queue.config → 1 ≤ elapsed → row queue.waiting ≡ request ∷ left → take 1 (list_of request.priority queue.waiting) ≡ request ∷ []
     → IsSure queue.config request.priority request.count
     → ((before : ℕ) → before < idle → window (after_windows elapsed before (record queue { budgets = budgets })) ≡ [])
     → idle ≤ div_ceil (request.count * RATE_WINDOW) (elapsed * limit_of queue.config request.priority)
 bounded queue budgets request left elapsed idle config time is own sure all =
-    let here : IsHead (record queue { budgets = budgets }) request left = record {
+    bounded_by (record queue { budgets = budgets }) request left elapsed idle
+    (record {
       row_is = is;
       config = config;
       sure = sure;
       waiting = waiting_in queue.config request.priority request.count queue.waiting.system queue.waiting.default_ queue.waiting.batch request own sure;
-    } in
-    let step = elapsed * limit_of queue.config request.priority in
-    let grants : 0 < step = granted elapsed queue.config request.priority request.count time config sure in
-    let within = idle_within elapsed (record queue { budgets = budgets }) request left idle step here refl grants all in
-    let ceil = (div_ceil_times (request.count * RATE_WINDOW) step grants).0 in
-    below_factor idle (div_ceil (request.count * RATE_WINDOW) step) step (omega arith)
+    })
+    time all
 
 -- ---- the number that is computed
 
@@ -248,35 +266,36 @@ pub first_split : {X : Type 0} (xs : List X) (x : X) → first xs ≡ Some x →
 first_split [] x h = cc
 first_split (y ∷ ys) x h = (ys, (let same : y ≡ x = cc in rw same refl))
 
-pub exact : {T : Type 0} (queue : Queue T) (request : Req T) (elapsed limit budget count : ℕ) → IsQueue queue → 1 ≤ elapsed → first (row queue.waiting) ≡ Some request
-    → IsSure queue.config request.priority request.count → limit ≡ limit_of queue.config request.priority → budget ≡ budget_of queue.budgets request.priority
-    → count ≡ div_ceil (request.count * RATE_WINDOW - (limit * RATE_WINDOW + budget)) (elapsed * limit) → StartsAfter elapsed queue count
-exact queue request elapsed limit budget count h time is sure limit_is budget_is count_is =
-    let split = first_split (row queue.waiting) request is in
-    let own = head_by queue request split.0 h split.1 sure in
-    let grants = granted elapsed queue.config request.priority request.count time h.config sure in
-    let step : elapsed * limit ≡ elapsed * limit_of queue.config request.priority = ap (λ it. elapsed * it) limit_is in
-    let number : count ≡ div_ceil (missing queue request) (elapsed * limit_of queue.config request.priority) = rw (limit_is, budget_is) at count_is in
-    let ceil = div_ceil_times (missing queue request) (elapsed * limit_of queue.config request.priority) grants in
-    rw number (counted elapsed queue request split.0 (div_ceil (missing queue request) (elapsed * limit_of queue.config request.priority)) (elapsed * limit_of queue.config request.priority) own refl ceil.0 (λ some. ceil.1))
-
--- What is missing is no more than what is needed.
-div_ceil-below : (needed budget step : ℕ) → 0 < step → div_ceil (needed - budget) step ≤ div_ceil needed step
-div_ceil-below needed budget step grants =
-    below_factor (div_ceil (needed - budget) step) (div_ceil needed step) step (omega (arith, (div_ceil_times (needed - budget) step grants).1, (div_ceil_times needed step grants).0))
-
-pub within : {T : Type 0} (queue : Queue T) (request : Req T) (elapsed limit budget count : ℕ) → IsQueue queue → 1 ≤ elapsed
-    → IsSure queue.config request.priority request.count → limit ≡ limit_of queue.config request.priority
-    → count ≡ div_ceil (request.count * RATE_WINDOW - (limit * RATE_WINDOW + budget)) (elapsed * limit) → count ≤ div_ceil (request.count * RATE_WINDOW) (elapsed * limit_of queue.config request.priority)
-within queue request elapsed limit budget count h time sure limit_is count_is =
-    let grants = granted elapsed queue.config request.priority request.count time h.config sure in
-    let below = div_ceil-below (request.count * RATE_WINDOW) (limit * RATE_WINDOW + budget) (elapsed * limit_of queue.config request.priority) grants in
-    let number = rw limit_is at count_is in
-    rw number (rw limit_is at below)
-
 pub count_of : {T : Type 0} (queue : Queue T) (request : Req T) → IsQueue queue → first (row queue.waiting) ≡ Some request → request.count ≤ MAX_COUNT
 count_of {T = T} queue request h is =
     let split = first_split (row queue.waiting) request is in
     let Small : Req T → Type 0 = λ it. it.count ≤ MAX_COUNT in
     let all : All Small (row queue.waiting) = counts_in_row queue h in
     All-head Small request split.0 (rw split.1 at all)
+
+pub within : {T : Type 0} (queue : Queue T) (request : Req T) (elapsed count : ℕ) → IsQueue queue → 1 ≤ elapsed → first (row queue.waiting) ≡ Some request
+    → IsSure queue.config request.priority request.count → StartsAfter elapsed queue count → count ≤ div_ceil (request.count * RATE_WINDOW) (elapsed * limit_of queue.config request.priority)
+within queue request elapsed count h time is sure exact =
+    let split = first_split (row queue.waiting) request is in
+    bounded_by queue request split.0 elapsed count (head_by queue request split.0 h split.1 sure) time exact.idle
+
+-- a default request waits until nothing is missing by the normal rate
+pub default_held : {T : Type 0} (queue : Queue T) (request : Req T) (elapsed count : ℕ) → IsQueue queue → 1 ≤ elapsed → first (row queue.waiting) ≡ Some request → request.priority ≡ Default
+    → count ≡ div_ceil (lacking queue.config.normal queue.budgets.normal request.count) (elapsed * queue.config.normal) → StartsAfter elapsed queue count
+default_held {T = T} queue request elapsed count h time is own count_is =
+    let split = first_split (row queue.waiting) request is in
+    let sure : IsSure queue.config request.priority request.count = rw own (count_of queue request h is) in
+    let step = elapsed * limit_of queue.config request.priority in
+    let Head : Queue T → Type 0 = λ it. IsHead it request split.0 × (step ≡ elapsed * limit_of it.config request.priority) in
+    let next : (it : Queue T) → Head it → missing (waited elapsed it) request ≡ missing it request - step = λ it here. next_missing elapsed it request split.0 here.0 ∙ ap (λ n. missing it request - n) (sym here.1) in
+    let ceil = div_ceil_times (missing queue request) step (granted elapsed queue.config request.priority request.count time h.config sure) in
+    let number : count ≡ div_ceil (missing queue request) step = rw own count_is in
+    rw number
+    (counted elapsed request split.0 Head (λ it. missing it request) (λ it. missing it request) step step (λ it here. here.0.row_is)
+    (λ it here. may_by it.config it.budgets request.priority request.count here.0.config here.0.sure ∙ both_same (nat_le (missing it request) 0))
+    (λ it here. (still_head elapsed it request split.0 here.0, here.1)) next next
+    queue (div_ceil (missing queue request) step) (head_by queue request split.0 h split.1 sure, refl) ceil.0 ceil.0 (λ _. inl ceil.1))
+  where
+    both_same : (b : Bool) → b ≡ (b && b)
+    both_same true = refl
+    both_same false = refl

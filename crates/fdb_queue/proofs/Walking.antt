@@ -1,6 +1,8 @@
 -- A walk that goes along the row starts the window.
 use Rattle.std.proofs.Common.{◌≡◌, ℕ, suc, ◌+◌, ◌-◌, ◌≤◌, ◌<◌, ◌&&◌, ◌⊎◌, inl, inr, Bool, true, false, List, [], ◌∷◌, ◌++◌, length, take, Some, fold, refl, sym, ap, ◌∙◌, arith, add-zero, length-append, append_assoc}
 use Rattle.std.specs.Prelude.{nat_lt, find, unwrap_or}
+use Rattle.std.proofs.lemmas.Grind.{common_steps}
+use Rattle.std.proofs.lemmas.Bool.Decides.{nat_tests}
 use Rattle.std.proofs.lemmas.Bool.{cases_Bool}
 use Rattle.std.proofs.lemmas.List.{append-nil, take-append-le, take_all, take_at}
 use Rattle.std.proofs.Math.Seq.{take-append-add}
@@ -10,7 +12,7 @@ use Rattle.fdb_queue.specs.declared.budgets.Budgets.{Budgets}
 use Rattle.fdb_queue.specs.declared.config.QueueConfig.{QueueConfig}
 use Rattle.fdb_queue.specs.declared.config.TheConstants.{MAX_STARTED}
 use Rattle.fdb_queue.specs.declared.request.Req.{Req}
-use Rattle.fdb_queue.specs.declared.walk.Walk.{Walk}
+use Rattle.fdb_queue.specs.declared.window.Walk.{Walk}
 use Rattle.fdb_queue.specs.Queue.{Queue}
 use Rattle.fdb_queue.specs.private.Reach.{IsReach}
 use Rattle.fdb_queue.specs.private.Walk.{walk_after, IsWithinLimits}
@@ -60,15 +62,7 @@ pub record IsPart {T : Type 0} (walk after : Walk) (requests : List (Req T)) : T
 -- it starts nothing of it
 nothing_started : {T : Type 0} (walk after : Walk) (requests : List (Req T)) → after.requests ≡ walk.requests → after.transactions ≡ walk.transactions
     → (after.ended ≡ false → 0 ≡ length requests) → (walk.ended ≡ true → after ≡ walk) → IsPart walk after requests
-nothing_started walk after requests same_requests same_transactions whole stays =
-    let none : after.requests - walk.requests ≡ 0 = omega arith in
-    record {
-      grows = omega arith;
-      within = omega arith;
-      whole = λ runs. (let all = whole runs in omega arith);
-      stays = stays;
-      counts = rw none (omega arith);
-    }
+nothing_started walk after requests same_requests same_transactions whole stays = grind (arith, common_steps, nat_tests)
 
 -- it starts the first of it
 first_started : {T : Type 0} (walk after : Walk) (x : Req T) (xs : List (Req T)) → walk.ended ≡ false → IsPart (grown walk x) after xs → IsPart walk after (x ∷ xs)
@@ -116,12 +110,7 @@ pub record IsWalked {T : Type 0} (queue : Queue T) (requests : List (Req T)) (wa
 
 walked_at : {T : Type 0} (queue : Queue T) (done rest : List (Req T)) (walk : Walk) → walk.requests ≡ length done → walk.transactions ≡ total done
     → find (λ some. fits queue some) (prefixes (done ++ rest)) ≡ Some done → IsWalked queue (done ++ rest) walk
-walked_at queue done rest walk requests transactions found =
-    let these : take walk.requests (done ++ rest) ≡ done = rw requests (take_at done rest (length done) refl) in
-    record {
-      started = rw (found, these) refl;
-      transactions = rw (these, transactions) refl;
-    }
+walked_at queue done rest walk requests transactions found = grind (arith, common_steps, nat_tests)
 
 walk_on : {T : Type 0} (queue : Queue T) (done rest : List (Req T)) → fits queue done ≡ true
     → IsWalked queue (done ++ rest) (fold (walk_after queue.config queue.budgets) (walk_of done) rest)
@@ -151,11 +140,7 @@ pub record IsCut {T : Type 0} (queue : Queue T) (requests left : List (Req T)) :
 
 cut_here : {T : Type 0} (queue : Queue T) (done rest : List (Req T)) → longest queue (done ++ rest) ≡ done → fits queue done ≡ true → Blocked queue done rest
     → IsCut queue (done ++ rest) rest
-cut_here queue done rest is fit blocked = record {
-  both = ap (λ some. some ++ rest) (sym is);
-  fit = rw is fit;
-  blocked = rw is blocked;
-}
+cut_here queue done rest is fit blocked = grind (arith, common_steps, nat_tests)
 
 pub cut_at : {T : Type 0} (queue : Queue T) (done rest : List (Req T)) → fits queue done ≡ true → (left : List (Req T)) × IsCut queue (done ++ rest) left
 cut_at queue done [] fit = ([], cut_here queue done [] (rw (find_longest (λ some. fits queue some) done [] fit tt) refl) fit tt)
@@ -199,22 +184,11 @@ walk_row queue = walk_on queue [] (row queue.waiting) refl
 -- where a walk has stopped in a list, it starts nothing of the lists after it
 stopped_second : {T : Type 0} (system default_ batch : Walk) (ds bs : List (Req T)) → IsPart system default_ ds → IsPart default_ batch bs
     → default_.requests - system.requests < length ds → batch.requests - default_.requests ≡ 0
-stopped_second system default_ batch ds bs second third less = elim (cases_Bool default_.ended) [
-  | inl ended ↦ (let same : batch.requests ≡ default_.requests = ap (λ walk. walk.requests) (third.stays ended) in omega arith)
-  | inr runs ↦ (let all = second.whole runs in absurd (omega arith))
-]
+stopped_second system default_ batch ds bs second third less = grind (arith, common_steps, nat_tests)
 
 stopped_first : {T : Type 0} (system default_ batch : Walk) (ss ds bs : List (Req T)) → IsPart new_walk system ss → IsPart system default_ ds → IsPart default_ batch bs
     → system.requests < length ss → default_.requests - system.requests + (batch.requests - default_.requests) ≡ 0
-stopped_first system default_ batch ss ds bs first second third less = elim (cases_Bool system.ended) [
-  | inl ended ↦
-      (let same : default_ ≡ system = second.stays ended in
-      let still : default_.ended ≡ true = ap (λ walk. walk.ended) same ∙ ended in
-      let one : default_.requests ≡ system.requests = ap (λ walk. walk.requests) same in
-      let two : batch.requests ≡ default_.requests = ap (λ walk. walk.requests) (third.stays still) in
-      omega arith)
-  | inr runs ↦ (let all = first.whole runs in absurd (omega arith))
-]
+stopped_first system default_ batch ss ds bs first second third less = grind (arith, common_steps, nat_tests)
 
 pub reach_is : {T : Type 0} (queue : Queue T) (system default_ batch : Walk)
     → system ≡ fold (walk_after queue.config queue.budgets) (record { requests = 0; transactions = 0; ended = false }) queue.waiting.system

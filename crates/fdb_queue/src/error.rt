@@ -30,7 +30,7 @@ impl fmt::Display for QueueError {
             QueueError::BatchThrottled => "batch requests are not let in",
             QueueError::Full => "the queue is full",
             QueueError::TagTooLong => "the tag is too long",
-            QueueError::Memory => "want of memory",
+            QueueError::Memory => "out of memory",
         })
     }
 }

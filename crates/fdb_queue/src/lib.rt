@@ -15,7 +15,7 @@ mod queue;
 mod request;
 mod throttles;
 mod waiting;
-mod walk;
+mod window;
 
 pub use budgets::Budgets;
 pub use config::{

@@ -15,7 +15,6 @@ ghost use Rattle.fdb_queue.specs.Throttles.{is_throttle, limits_of, IsLeftAt, Sa
 ghost use Rattle.fdb_queue.specs.Throttles.{SameThrottles};
 ghost use Rattle.fdb_queue.specs.Waiting.{first, row, total, without_first};
 ghost use Rattle.fdb_queue.specs.Waits.{IsSure, limit_of, StartsAfter, after_windows};
-ghost use Rattle.fdb_queue.specs.private.Rates.{budget_of};
 ghost use Rattle.fdb_queue.specs.declared.config.TheConstants.{MAX_COUNT, MAX_ELAPSED};
 ghost use Rattle.fdb_queue.specs.Window.{window, after_window};
 
@@ -270,10 +269,10 @@ impl<T> GrvQueue<T> {
             return None;
         }
         let head = self.waiting.head()?;
-        let (limit, budget) = self.rate_of(head.priority, head.count)?;
-        let needed = head.count * RATE_WINDOW;
-        let missing = needed.saturating_sub(limit * RATE_WINDOW + budget);
-        Some(missing.div_ceil(elapsed * limit))
+        if !self.is_sure(head.priority, head.count) {
+            return None;
+        }
+        Some(self.idle_windows(elapsed))
     }
 
     /// Holds at once the windows of `elapsed` microseconds that start nothing before the head of
@@ -344,21 +343,15 @@ impl<T> GrvQueue<T> {
         }
     }
 
-    /// The limit and the budget of the rate that alone holds a request at the head of the row, if
-    /// one does.
-    fn rate_of(&self, priority: Priority, count: u64) -> Option<(u64, u64)>
+    /// Whether one rate alone holds a request at the head of the row.
+    fn is_sure(&self, priority: Priority, count: u64) -> bool
         requires { count ≤ MAX_COUNT }
-        ensures sure { IsSome result ↔ IsSure self.now.config priority count }
-        ensures rate { IfSome result
-            (λ rate. (rate.0 ≡ limit_of self.now.config priority)
-            × (rate.1 ≡ budget_of self.now.budgets priority)) }
+        ensures { IsTrue result ↔ IsSure self.now.config priority count }
     {
         match priority {
-            Priority::Default => Some((self.config.normal, self.budgets.normal)),
-            Priority::Batch if count <= self.config.normal && self.config.batch > 0 => {
-                Some((self.config.batch, self.budgets.batch))
-            }
-            _ => None,
+            Priority::System => false,
+            Priority::Default => true,
+            Priority::Batch => count <= self.config.normal && self.config.batch > 0,
         }
     }
 

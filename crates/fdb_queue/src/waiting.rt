@@ -14,7 +14,7 @@ ghost use Rattle.fdb_queue.specs.Waiting.{nothing, row, first, with_last, withou
 use crate::budgets::Budgets;
 use crate::config::QueueConfig;
 use crate::request::{Req, TurnedAway};
-use crate::walk::Walk;
+use crate::window::Walk;
 use fdb_history::Priority;
 use std::alloc::{AllocError, AllocFailed, Global};
 use std::collections::VecDeque;

@@ -1,7 +1,8 @@
 -- Which clients act in a round.
 use Rattle.std.proofs.Common.{◌≡◌, ◌≢◌, ℕ, ◌+◌, ◌<◌, ◌≤◌, Bool, true, false, List, ◌∷◌, length, drop, get_or, set, slice_index_or, refl, ap, sym, ◌∙◌, subst, arith}
 use Rattle.std.proofs.lemmas.Bool.{ne_eqb}
-use Rattle.std.proofs.lemmas.List.{drop_more, get_or-set_other, get_or-set_same, get_or_past}
+use Rattle.std.proofs.lemmas.List.{get_or-set_other, get_or-set_same, get_or_past}
+use Rattle.fdb_replay.proofs.Runs.{left_is}
 use Rattle.fdb_script.specs.Answering.{commands_of}
 use Rattle.fdb_script.specs.declared.script.Command.{Command}
 
@@ -11,9 +12,6 @@ SoFar acts commands place = (client : ℕ) → slice_index_or acts client true �
 
 not_its : (client : ℕ) (command : Command) (commands : List Command) → command.client ≢ client → commands_of client (command ∷ commands) ≡ commands_of client commands
 not_its client command commands other = rw (ne_eqb command.client client other) refl
-
-left_is : (commands : List Command) (place : ℕ) (command : Command) → place < length commands → command ≡ get_or commands place command → drop place commands ≡ command ∷ drop (place + 1) commands
-left_is commands place command within is = drop_more commands place command within ∙ ap (λ first. first ∷ drop (place + 1) commands) (sym is)
 
 pub one_set : (acts : List Bool) (commands : List Command) (place : ℕ) (command : Command) → place < length commands → command ≡ get_or commands place command → command.client < length acts
     → SoFar acts commands place → SoFar (set acts command.client true) commands (place + 1)

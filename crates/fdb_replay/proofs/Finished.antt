@@ -1,5 +1,5 @@
 -- What the clients of a run are at its start, and what they leave.
-use Rattle.std.proofs.Common.{◌≡◌, ℕ, zero, suc, ◌+◌, ◌<◌, List, [], ◌∷◌, Some, length, map, replicate, refl, ap, sym, ◌∙◌, subst, arith}
+use Rattle.std.proofs.Common.{◌≡◌, ℕ, suc, ◌+◌, ◌<◌, List, [], ◌∷◌, Some, length, replicate, refl, ap, sym, ◌∙◌, subst, arith, zero, map}
 use Rattle.std.specs.List.{AllByRecursion, slice_get}
 use Rattle.std.specs.Option.{option_map}
 use Rattle.std.proofs.lemmas.Option.{slice_get-map, slice_get_within}
@@ -72,5 +72,3 @@ numbers_kept before after same have k client is =
     let there : slice_get (numbers_of before) k ≡ Some client.number = ap (λ numbers. slice_get numbers k) (sym same) ∙ slice_get-map number after k ∙ ap (option_map number) is in
     let was = at_map number before k client.number there in
     sym was.2 ∙ have k was.0 was.1
-
--- ---- what they leave

@@ -2,10 +2,11 @@
 use Rattle.std.proofs.Common.{◌≡◌, ◌≢◌, ℕ, ◌+◌, ◌<◌, List, [], ◌∷◌, ◌++◌, length, drop, get_or, refl, ap, sym, ◌∙◌, append_assoc}
 use Rattle.std.specs.List.{FoldsTo}
 use Rattle.std.proofs.lemmas.Bool.{eq-eqb, ne_eqb}
-use Rattle.std.proofs.lemmas.List.{append-nil, drop_at, drop_more}
+use Rattle.std.proofs.lemmas.List.{append-nil, drop_at}
 use Rattle.fdb_history.specs.Added.{AddsCall}
 use Rattle.fdb_history.specs.declared.log.Call.{Call}
 use Rattle.fdb_history.specs.declared.log.Input.{Input}
+use Rattle.fdb_replay.proofs.Runs.{left_is}
 use Rattle.fdb_replay.specs.private.Rounds.{Tell, tells_by, tells_in}
 use Rattle.fdb_script.specs.Answering.{AnswersCommand, commands_of}
 use Rattle.fdb_script.specs.declared.script.Command.{Command}
@@ -46,13 +47,11 @@ pub one_command_more : (client place : ℕ) (commands : List Command) (command :
     → command.client ≡ client → AnswersCommand before command after → FoldsTo AnswersCommand after (commands_of client (drop (place + 1) commands)) last
     → FoldsTo AnswersCommand before (commands_of client (drop place commands)) last
 one_command_more client place commands command before after last within is own answered rest =
-    let left : drop place commands ≡ command ∷ drop (place + 1) commands = drop_more commands place command within ∙ ap (λ first. first ∷ drop (place + 1) commands) (sym is) in
-    rw (left, eq-eqb command.client client own) (after, answered, rest)
+    rw (left_is commands place command within is, eq-eqb command.client client own) (after, answered, rest)
 
 -- a command of another is passed over
 pub other_command : (client place : ℕ) (commands : List Command) (command : Command) (before last : List Call) → place < length commands → command ≡ get_or commands place command
     → command.client ≢ client → FoldsTo AnswersCommand before (commands_of client (drop (place + 1) commands)) last
     → FoldsTo AnswersCommand before (commands_of client (drop place commands)) last
 other_command client place commands command before last within is other rest =
-    let left : drop place commands ≡ command ∷ drop (place + 1) commands = drop_more commands place command within ∙ ap (λ first. first ∷ drop (place + 1) commands) (sym is) in
-    rw (left, ne_eqb command.client client other) rest
+    rw (left_is commands place command within is, ne_eqb command.client client other) rest

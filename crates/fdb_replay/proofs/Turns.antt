@@ -1,8 +1,9 @@
 -- A client's reads go to the desks in turn.
-use Rattle.std.proofs.Common.{◌≡◌, ℕ, ◌+◌, ◌<◌, ◌≤◌, ◌%◌, Bool, true, false, List, [], ◌∷◌, ◌++◌, Result, length, filter, refl, ap, sym, ◌∙◌, arith}
+use Rattle.std.proofs.Common.{◌≡◌, ℕ, ◌+◌, ◌<◌, ◌≤◌, ◌%◌, List, [], ◌∷◌, ◌++◌, Result, length, filter, refl, ap, sym, ◌∙◌, subst, arith}
 use Rattle.std.proofs.Math.Nat.{add-mod-mod, mod-add-mod}
 use Rattle.std.proofs.lemmas.List.{length-append}
 use Rattle.std.proofs.lemmas.List.Elements.{filter-append}
+use Rattle.std.proofs.lemmas.List.Sums.{count_by-le-length, length-filter}
 use Rattle.fdb_client.specs.Account.{Account}
 use Rattle.fdb_client.specs.Calls.{Reads}
 use Rattle.fdb_client.specs.declared.error.ClientError.{ClientError}
@@ -25,13 +26,8 @@ reads_of_added : (calls : List Call) (call : Call) → reads_of (calls ++ call �
 reads_of_added calls call =
     ap length (filter-append (λ one. is_read one.input) calls (call ∷ [])) ∙ length-append (filter (λ one. is_read one.input) calls) (filter (λ one. is_read one.input) (call ∷ []))
 
-one_within : (read : Bool) (call : Call) (calls : List Call) → is_read call.input ≡ read → reads_of calls ≤ length calls → reads_of (call ∷ calls) ≤ length (call ∷ calls)
-one_within true call calls is within = rw is (omega (arith, within))
-one_within false call calls is within = rw is (omega (arith, within))
-
 reads_within : (calls : List Call) → reads_of calls ≤ length calls
-reads_within [] = omega arith
-reads_within (call ∷ calls) = one_within (is_read call.input) call calls refl (reads_within calls)
+reads_within calls = subst (λ n. n ≤ length calls) (sym (length-filter (λ (one : Call). is_read one.input) calls)) (count_by-le-length (λ one. is_read one.input) calls)
 
 -- a read that was logged is one read more
 pub one_read_more : (start : Record) (opts : GrvOpts) (before after : Account) (result : Result ReadVersion ClientError) → Reads start opts before after result

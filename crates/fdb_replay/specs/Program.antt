@@ -1,16 +1,15 @@
 -- What the program promises of itself. (this product's own)
-use Rattle.std.specs.Prelude.{◌≡◌, ◌≢◌, ◌≤◌, ℕ, List, [], ◌∷◌, Vec, None, Err, codes, false, pos, true}
+use Rattle.std.specs.Prelude.{◌≡◌, ◌≢◌, ℕ, List, [], ◌∷◌, Vec, None, Err, codes, false, pos, true}
 use Rattle.std.specs.Option.{option_map_or}
 use Rattle.std.specs.Str.Parse.{digits_value, without_leading_plus}
 use Rattle.std.specs.declared.alloc.Global.{Global}
 use Rattle.std.specs.declared.convert.Infallible.{Infallible}
 use Rattle.clap.specs.Words.{App, Text, matches_of, one_of}
-use Rattle.fdb_client.specs.declared.cluster.TheConstants.{MAX_GRV_PROXIES}
 use Rattle.fdb_command.specs.Arguments.{command_of, file_rule, flag_rule, is_set, number_rule}
 use Rattle.fdb_command.specs.Driving.{Promise}
 use Rattle.fdb_replay.specs.Replay.{Replays}
 use Rattle.fdb_replay.specs.declared.opts.ReplayOpts.{ReplayOpts}
-use Rattle.fdb_replay.specs.declared.program.ScriptRefused.{ScriptRefused}
+use Rattle.fdb_replay.specs.declared.replay_program.ScriptRefused.{ScriptRefused}
 use Rattle.fdb_script.specs.Reading.{ReadsAs}
 use Rattle.fdb_script.specs.declared.error.ScriptError.TheVariants.{Memory}
 use Rattle.fdb_script.specs.declared.script.TheConstants.{MAX_SCRIPT_BYTES}
@@ -27,12 +26,9 @@ proxies_named arguments =
     option_map_or (λ digits. digits_value 10 (without_leading_plus digits))
     (one_of (codes "proxies") (matches_of command arguments)) 1
 
--- what the flags say: so many proxies, of which there may be 1 to 16, and whether the history is
--- written too
+-- what the flags say: so many proxies, and whether the history is written too
 pub record IsAsked (arguments : List Text) (opts : ReplayOpts) : Type 0 where
   pub proxies : opts.proxies ≡ proxies_named arguments
-  pub some_proxy : 1 ≤ opts.proxies
-  pub few_proxies : opts.proxies ≤ MAX_GRV_PROXIES
   pub history : opts.with_history ≡ is_set (codes "history") command arguments
 
 -- Whatever its command takes suits it. It takes all bytes as they come, and tells nothing while it reads, nor of progress. It prints the
@@ -47,6 +43,7 @@ replay = record {
   asks = IsAsked;
   tells = λ arguments. false;
   warns = λ arguments. false;
+  keeps = λ arguments. false;
   taken = λ opts script bytes told. (script.items ≡ bytes) × (told ≡ []);
   prints = λ arguments bytes text found refused. (found ≡ None) × (refused ≡ None)
       × Replays bytes (is_set (codes "history") command arguments) text;

@@ -10,7 +10,7 @@ ghost use Rattle.fdb_script.specs.declared.script.TheConstants.{MAX_CLIENTS};
 
 use crate::player::Player;
 use crate::rounds::play_rounds;
-use crate::world::World;
+use crate::routing::Routing;
 use fdb_client::{Client, Cluster, FinishError, Finished};
 use fdb_history::{Gate, Sequence};
 use fdb_live::Live;
@@ -59,7 +59,7 @@ impl<'a, J: Live + Send + Sync> Clients<'a, J> {
         &mut self,
         rt: &R,
         alloc: Global,
-        world: &World<'_, J, G>,
+        routing: &Routing<'_, J, G>,
         rounds: &[Sequence<Command>],
     ) -> Result<(), AllocError>
         requires { length self.old ≤ MAX_CLIENTS }
@@ -68,7 +68,7 @@ impl<'a, J: Live + Send + Sync> Clients<'a, J> {
         ensures count { OnOk result (length self.new ≡ length self.old) }
     {
         let players = mem::replace(&mut self.players, Vec::new(alloc));
-        let Ok(players) = play_rounds(rt, alloc, world, players, rounds) else {
+        let Ok(players) = play_rounds(rt, alloc, routing, players, rounds) else {
             return Err(AllocError);
         };
         self.players = players;

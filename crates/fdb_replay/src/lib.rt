@@ -5,17 +5,17 @@
 mod clients;
 mod opts;
 mod player;
-mod program;
+mod replay_program;
 mod replaying;
 mod rounds;
+mod routing;
 mod running;
 mod serving;
 mod tell;
-mod world;
 
-pub use fdb_command::{Fault, command_line};
+pub use fdb_command::{Failure, command_line};
 pub use fdb_script::MAX_SCRIPT_BYTES;
 pub use opts::ReplayOpts;
-pub use program::{Replay, ScriptRefused, drive};
+pub use replay_program::{Replay, ScriptRefused, drive};
 pub use replaying::{ReplayFault, replay};
 pub use running::run;

@@ -6,8 +6,8 @@ ghost use Rattle.fdb_history.specs.declared.log.Input.TheVariants as input;
 ghost use Rattle.fdb_replay.specs.private.Rounds.{CallsOnce, tells_since};
 ghost use Rattle.fdb_script.specs.Answering.{input_of, learns};
 
+use crate::routing::Routing;
 use crate::tell::Tell;
-use crate::world::World;
 use fdb_client::{Client, ClientError};
 use fdb_history::{Gate, GrvOpts};
 use fdb_live::Live;
@@ -61,7 +61,7 @@ impl<'a, J: Live> Player<'a, J> {
     pub(crate) fn perform<R: Wait, G: Gate>(
         &mut self,
         rt: &R,
-        world: &World<'_, J, G>,
+        routing: &Routing<'_, J, G>,
         number: u32,
         act: &Act,
         tells: &mut Vec<Tell<J>>,
@@ -71,15 +71,15 @@ impl<'a, J: Live> Player<'a, J> {
             (tells.new.items ≡ tells.old.items ++ tells_since number self.old self.new) }
     {
         match act {
-            Act::Grv(opts) => self.read(rt, world, number, opts),
-            Act::Ask { processed, at } => self.ask(rt, world, *processed, *at),
-            Act::Reask { num, processed, at } => self.reask(rt, world, *num, *processed, *at),
+            Act::Grv(opts) => self.read(rt, routing, opts),
+            Act::Ask { processed, at } => self.ask(rt, routing, *processed, *at),
+            Act::Reask { num, processed, at } => self.reask(rt, routing, *num, *processed, *at),
             Act::Report {
                 num,
                 locked,
                 metadata,
                 min_known,
-            } => self.report(rt, world, *num, *locked, *metadata, *min_known),
+            } => self.report(rt, routing, *num, *locked, *metadata, *min_known),
             Act::Tell { to } => self.tell(number, *to, tells),
         }
     }
@@ -88,15 +88,14 @@ impl<'a, J: Live> Player<'a, J> {
     fn read<R: Wait, G: Gate>(
         &mut self,
         rt: &R,
-        world: &World<'_, J, G>,
-        number: u32,
+        routing: &Routing<'_, J, G>,
         opts: &GrvOpts,
     ) -> Result<(), AllocError>
         ensures { OnOk result (CallsOnce self.old (input.Grv opts.now) self.new) }
     {
         let opts = opts.clone()?;
-        let desk = world.cluster.desk(world.route(number, self.reads));
-        let answer = self.client.read_version(rt, world.gate, desk, opts);
+        let desk = routing.desk(&self.client, self.reads);
+        let answer = self.client.read_version(rt, routing.gate, desk, opts);
         if !is_logged(&answer) {
             return Err(AllocError);
         }
@@ -110,33 +109,33 @@ impl<'a, J: Live> Player<'a, J> {
     fn ask<R: Wait, G: Gate>(
         &mut self,
         rt: &R,
-        world: &World<'_, J, G>,
+        routing: &Routing<'_, J, G>,
         processed: u64,
         at: u64,
     ) -> Result<(), AllocError>
         ensures { OnOk result (CallsOnce self.old
             (input.Ask (length (fresh_answers self.old.calls) + 1) processed at) self.new) }
     {
-        unless_out_of_memory(self.client.ask(rt, world.gate, processed, at))
+        unless_out_of_memory(self.client.ask(rt, routing.gate, processed, at))
     }
 
     fn reask<R: Wait, G: Gate>(
         &mut self,
         rt: &R,
-        world: &World<'_, J, G>,
+        routing: &Routing<'_, J, G>,
         num: u64,
         processed: u64,
         at: u64,
     ) -> Result<(), AllocError>
         ensures { OnOk result (CallsOnce self.old (input.Ask num processed at) self.new) }
     {
-        unless_out_of_memory(self.client.reask(rt, world.gate, num, processed, at))
+        unless_out_of_memory(self.client.reask(rt, routing.gate, num, processed, at))
     }
 
     fn report<R: Wait, G: Gate>(
         &mut self,
         rt: &R,
-        world: &World<'_, J, G>,
+        routing: &Routing<'_, J, G>,
         num: u64,
         locked: bool,
         metadata: Option<[u8; 10]>,
@@ -147,7 +146,7 @@ impl<'a, J: Live> Player<'a, J> {
     {
         unless_out_of_memory(
             self.client
-                .report(rt, world.gate, num, locked, metadata, min_known),
+                .report(rt, routing.gate, num, locked, metadata, min_known),
         )
     }
 

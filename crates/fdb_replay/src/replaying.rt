@@ -1,14 +1,13 @@
 //! From the bytes of a script to the printed lines.
 
-ghost use Rattle.std.specs.Prelude.{◌≡◌, ◌≢◌, ℕ, ◌<◌, ◌≤◌, List, OnOk, IfOk, IfErr, Ok};
+ghost use Rattle.std.specs.Prelude.{◌≡◌, ◌≢◌, ℕ, List, OnOk, IfOk, IfErr, Ok};
 ghost use Rattle.std.specs.Io.KnownBytes.{Appends};
-ghost use Rattle.fdb_client.specs.declared.cluster.TheConstants.{MAX_GRV_PROXIES};
 ghost use Rattle.fdb_replay.specs.Replay.{IsCut, Replays, Refuses};
 ghost use Rattle.fdb_script.specs.Reading.{ReadsAs};
 
 use crate::opts::ReplayOpts;
 use crate::running::run;
-use fdb_command::{OutputFault, write_whole};
+use fdb_command::write_whole;
 use fdb_history::Gate;
 use fdb_script::{Script, ScriptError, read_script, text};
 use std::alloc::Global;
@@ -24,7 +23,7 @@ pub enum ReplayFault {
     #[error("script refused: {0}")]
     Script(ScriptError),
     /// Memory was refused to the run, or a thread could not be had. A run fails for nothing else.
-    #[error("want of memory")]
+    #[error("out of memory")]
     Memory,
     /// The writer failed, and took a part of the text before it did, from its start on.
     #[error("writing failed")]
@@ -45,8 +44,6 @@ pub fn replay<R: Threads + Wait + Sync, G: Gate, W: Write>(
     gate: &G,
     writer: &mut W,
 ) -> Result<(), ReplayFault>
-    requires some_proxy { 0 < opts.proxies }
-    requires few_proxies { opts.proxies ≤ MAX_GRV_PROXIES }
     ensures ok { OnOk result ((written : List ℕ) × Replays bytes.now opts.with_history written
         × Appends (W.contents writer.old) (W.contents writer.new) written) }
     ensures err { IfErr result (Refuses bytes.now) }
@@ -58,7 +55,7 @@ pub fn replay<R: Threads + Wait + Sync, G: Gate, W: Write>(
     let lines = replayed_text(rt, alloc, bytes, opts, gate)?;
     match write_whole(writer, &lines) {
         Ok(()) => Ok(()),
-        Err(OutputFault::Writing) => Err(ReplayFault::Write),
+        Err(_) => Err(ReplayFault::Write),
     }
 }
 
@@ -70,8 +67,6 @@ pub(crate) fn replayed_text<R: Threads + Wait + Sync, G: Gate>(
     opts: ReplayOpts,
     gate: &G,
 ) -> Result<Vec<u8>, ReplayFault>
-    requires some_proxy { 0 < opts.proxies }
-    requires few_proxies { opts.proxies ≤ MAX_GRV_PROXIES }
     ensures ok { IfOk result (λ lines. Replays bytes.now opts.with_history lines.items) }
     ensures err { IfErr result (Refuses bytes.now) }
     ensures unwritten { IfErr result (λ fault. fault ≢ ReplayFault.Write) }
@@ -90,8 +85,6 @@ fn run_text<R: Threads + Wait + Sync, G: Gate>(
     opts: ReplayOpts,
     gate: &G,
 ) -> Result<Vec<u8>, ReplayFault>
-    requires some_proxy { 0 < opts.proxies }
-    requires few_proxies { opts.proxies ≤ MAX_GRV_PROXIES }
     ensures ok { (bytes : List ℕ) → ReadsAs bytes (Ok script.now)
         → IfOk result (λ lines. Replays bytes opts.with_history lines.items) }
     ensures err { (bytes : List ℕ) → ReadsAs bytes (Ok script.now) → IfErr result (Refuses bytes) }

@@ -11,8 +11,8 @@ ghost use Rattle.fdb_script.specs.Answering.{AnswersCommand, AnswersRound, comma
 ghost use Rattle.fdb_script.specs.declared.script.TheConstants.{MAX_CLIENTS};
 
 use crate::player::Player;
+use crate::routing::Routing;
 use crate::tell::Tell;
-use crate::world::World;
 use fdb_history::{Gate, Sequence};
 use fdb_live::Live;
 use fdb_script::{Command, MAX_CLIENTS};
@@ -84,7 +84,7 @@ fn acts_in(commands: &[Command]) -> [bool; CLIENTS]
 struct Playing<'r, R, J: Live, G: Gate> {
     rt: &'r R,
     alloc: Global,
-    world: &'r World<'r, J, G>,
+    routing: &'r Routing<'r, J, G>,
     round: Round<'r>,
 }
 
@@ -92,7 +92,7 @@ struct Playing<'r, R, J: Live, G: Gate> {
 pub(crate) fn play_rounds<'a, J: Live + Send + Sync, R: Threads + Wait + Sync, G: Gate>(
     rt: &R,
     alloc: Global,
-    world: &World<'_, J, G>,
+    routing: &Routing<'_, J, G>,
     mut clients: Vec<Player<'a, J>>,
     rounds: &[Sequence<Command>],
 ) -> Result<Vec<Player<'a, J>>, AllocError>
@@ -103,7 +103,7 @@ pub(crate) fn play_rounds<'a, J: Live + Send + Sync, R: Threads + Wait + Sync, G
         (λ after. numbers_of after.items ≡ numbers_of clients.entry.items) }
 {
     for commands in rounds {
-        clients = play_round(rt, alloc, world, clients, commands.as_slice())?;
+        clients = play_round(rt, alloc, routing, clients, commands.as_slice())?;
     }
     Ok(clients)
 }
@@ -112,7 +112,7 @@ pub(crate) fn play_rounds<'a, J: Live + Send + Sync, R: Threads + Wait + Sync, G
 fn play_round<'a, J: Live + Send + Sync, R: Threads + Wait + Sync, G: Gate>(
     rt: &R,
     alloc: Global,
-    world: &World<'_, J, G>,
+    routing: &Routing<'_, J, G>,
     clients: Vec<Player<'a, J>>,
     commands: &[Command],
 ) -> Result<Vec<Player<'a, J>>, AllocError>
@@ -126,7 +126,7 @@ fn play_round<'a, J: Live + Send + Sync, R: Threads + Wait + Sync, G: Gate>(
     let playing = Playing {
         rt,
         alloc,
-        world,
+        routing,
         round,
     };
     let part = play_all(&playing, clients)?;
@@ -309,7 +309,13 @@ fn play_client<J: Live, R: Wait, G: Gate>(
     let mut tells = Vec::new(playing.alloc);
     for command in commands {
         if command.client == number {
-            client.perform(playing.rt, playing.world, number, &command.act, &mut tells)?;
+            client.perform(
+                playing.rt,
+                playing.routing,
+                number,
+                &command.act,
+                &mut tells,
+            )?;
         }
     }
     Ok(tells)

@@ -1,20 +1,18 @@
 //! A run of a script, from its plan to its outcome.
 
-ghost use Rattle.std.specs.Prelude.{◌≡◌, ◌<◌, ◌≤◌, ℕ, [], IfOk, Some, slice_get, true, vec_len};
+ghost use Rattle.std.specs.Prelude.{◌≡◌, ◌<◌, ◌≤◌, IfOk, true};
 ghost use Rattle.fdb_client.specs.Cluster.{IsClusterConfig};
 ghost use Rattle.fdb_client.specs.declared.cluster.TheConstants.{MAX_GRV_PROXIES};
 ghost use Rattle.fdb_live.specs.Seen.{origin_of};
 ghost use Rattle.fdb_replay.specs.Outcome.{IsRunOf, opening};
 ghost use Rattle.fdb_replay.specs.private.Configured.{IsConfigFor};
-ghost use Rattle.fdb_script.specs.Answering.{Answers};
 ghost use Rattle.fdb_script.specs.Plan.{IsPlan, Plan};
 
-use crate::clients::Clients;
+use crate::routing::Routing;
 use crate::serving::served;
-use crate::world::World;
-use fdb_client::{Cluster, ClusterConfig, ClusterParts, Finished, OpenedCluster, clients_of};
+use fdb_client::{ClusterConfig, ClusterParts, OpenedCluster};
 use fdb_history::{Gate, Record, laws};
-use fdb_live::{Live, Seen};
+use fdb_live::Live;
 use fdb_script::{Outcome, Script};
 use std::alloc::{AllocError, Global};
 use std::marker::Brand;
@@ -89,7 +87,11 @@ fn run_named<J: Live + Send + Sync, R: Threads + Wait + Sync, G: Gate>(
         mut first,
         tokens,
     } = opened.parts::<J>(alloc)?;
-    let finished = finished_at(rt, alloc, &cluster, gate, script, &mut first, tokens)?;
+    let routing = Routing {
+        cluster: &cluster,
+        gate,
+    };
+    let finished = served(rt, alloc, &routing, &mut first, tokens, script)?;
     let run = cluster.settle(rt, first, finished);
     laws::minima_stay_within();
     let history = run.history(alloc)?;
@@ -99,29 +101,6 @@ fn run_named<J: Live + Send + Sync, R: Threads + Wait + Sync, G: Gate>(
         logs: run.logs,
         history,
     })
-}
-
-/// What a script's clients leave, once all its rounds are played at a cluster that nobody has
-/// called yet. It fails only where memory runs out.
-fn finished_at<J: Live + Send + Sync, R: Threads + Wait + Sync, G: Gate>(
-    rt: &R,
-    alloc: Global,
-    cluster: &Cluster<'_, J>,
-    gate: &G,
-    script: &Script,
-    first: &mut Seen<J>,
-    tokens: Vec<Seen<J>>,
-) -> Result<Finished<J>, AllocError>
-    requires plan { IsPlan script.now }
-    requires clients { script.now.setup.clients ≡ J.reporters }
-    requires count { vec_len tokens ≡ J.reporters }
-    requires numbered { (k : ℕ) → k < J.reporters
-        → slice_get tokens.items k ≡ Some (record { reporter = Some k; changes = []; answers = [] }) }
-    ensures answers { IfOk result (Answers script.now) }
-{
-    let clients = Clients::new(alloc, clients_of(alloc, cluster.master(), tokens)?)?;
-    let world = World { cluster, gate };
-    served(rt, alloc, &world, first, clients, script.rounds())
 }
 
 /// The record before any report: the recovery version, unlocked and without metadata.

@@ -33,7 +33,7 @@ impl fmt::Display for ScriptError {
                 return write!(f, "BadField {round} {command}");
             }
             ScriptError::BadLimit => "BadLimit",
-            ScriptError::Memory => "want of memory",
+            ScriptError::Memory => "out of memory",
         })
     }
 }

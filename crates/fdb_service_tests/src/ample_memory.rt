@@ -57,7 +57,8 @@ const CLUSTERS: &str = "
 run_workload, OpenedCluster::parts, clients_of, Cluster::finish, SettledRun::chain \
 | visits @0 2 2 100 1 1 1 => explained | 1 2 5 6 63 64
 run_workload, Cluster::new, serve_while, SettledRun::history \
-| visits 2 @0 2 100 1 1 1 => explained | 1 2 5 6 8 9 15 16
+| visits 2 @0 2 100 1 1 1 => explained;visits 1 @0 3 100 70 2 1 => explained \
+| 1 2 3 4 5 6 7 8 9 10 11 12 13 14 15 16
 run_workload, serve_while | visits 1 1 @0 100 1 1 1 => explained | few 999 1000 1001 many
 run_workload, ClusterConfig::open | visits 1 1 2 @0 1 1 1 => explained \
 | few many 9223372036854775807

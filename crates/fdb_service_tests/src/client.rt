@@ -16,7 +16,7 @@ ask 0 0 3000 => 2100 after 100 fresh; report 0 2 100 => raised changed at 1
 read 1 asked => the answer is another call's; log 1 => 1 calls at 0
 read 1 dropped => the GRV proxy is closed; read 1 closed => the GRV proxy is closed
 read 1 full => the queue is full; read 1 stray => the answer is another call's
-read 1 memory => want of memory; log 1 => 5 calls at 0
+read 1 memory => out of memory; log 1 => 5 calls at 0
 ";
 
 const MORE_READS: &str = "

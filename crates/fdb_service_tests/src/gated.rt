@@ -1,12 +1,10 @@
 //! Replays whose threads are held at gates: that they run side by side, that a lock is held where
 //! its gate is passed, and that a read waits for none of them. No clause says these.
 
-mod alone;
 pub mod counting;
 mod crossing;
 mod side_by_side;
 
-use crate::gated::alone::Alone;
 use crate::gated::counting::Counting;
 use crate::gated::crossing::Crossing;
 use crate::gated::side_by_side::SideBySide;
@@ -98,29 +96,6 @@ fn crosses<R: Threads + Wait + Sync>(
     Ok(())
 }
 
-/// One round, in which two clients ask and report in turn, and then ask and report again, having
-/// processed something and with a minimum known committed version.
-const BOTH_REPORT: &str = r#"{"epoch_end":0,"recovery":100,"clients":2,"rounds":[[
-{"do":"grv","client":0},~,{"do":"ask","client":0,"at":#},{"do":"report","client":0,"num":#}~,
-~,{"do":"ask","client":1,"at":#},{"do":"report","client":1,"num":#}~,
-~,{"do":"ask","client":0,"at":#,"processed":#},{"do":"report","client":0,"num":#,"min_known":#}~,
-~,{"do":"ask","client":1,"at":#,"processed":#},{"do":"report","client":1,"num":#,"min_known":#}~
-]]}"#;
-
-/// Nobody is in a lock where another is.
-#[test]
-fn nobody_meets_another_in_a_lock(rt: HostRuntime) -> Result<(), Fail> {
-    let gate = Alone::new();
-    replayed(
-        &rt,
-        rt.alloc(),
-        &filled(rt.alloc(), BOTH_REPORT, 50)?,
-        2,
-        &gate,
-    )?;
-    holds(gate.is_kept(), &"two were in one lock")
-}
-
 /// More than 1,000 commands of each of two clients, and as many in a round as there may be.
 #[test]
 fn rounds_of_many_commands_run_side_by_side(rt: HostRuntime) -> Result<(), Fail> {
@@ -138,10 +113,10 @@ fn rounds_of_many_commands_run_side_by_side(rt: HostRuntime) -> Result<(), Fail>
     Ok(())
 }
 
-/// The calls of a client of 64: requests for commit versions that are fresh, repeated, forgotten and
-/// early, with something processed or not; reports that are refused, that raise the record or its
-/// minimum alone, or neither; and reads with each option, of which a lock turns one away and the
-/// queue another.
+/// The calls of a client of 64: requests for commit versions that are fresh, repeated, forgotten, of
+/// number 0 and early, with something processed or not; reports that are refused, that raise the
+/// record or its minimum alone, or neither; and reads with each option, of which a lock turns one
+/// away and the queue another.
 const CALLS: &str = r#"{"epoch_end":0,"recovery":100,"clients":64,"rounds":[[
 {"client":@,"do":"ask","at":1000},{"client":@,"do":"ask","at":3000},
 {"client":@,"do":"ask","at":4000,"processed":1},{"client":@,"do":"reask","num":2,"at":4000},
@@ -158,7 +133,7 @@ const CALLS: &str = r#"{"epoch_end":0,"recovery":100,"clients":64,"rounds":[[
 {"client":@,"do":"grv","lock_aware":true,"use_min":true},
 {"client":@,"do":"grv","lock_aware":true,"priority":"system","tags":["t"],"count":9},
 {"client":@,"do":"grv","lock_aware":true,"priority":"batch","at":9},
-{"client":@,"do":"grv","count":0},{"client":@,"do":"tell","to":1}]]}"#;
+{"client":@,"do":"grv","count":0},{"client":@,"do":"reask","num":0,"at":4000}]]}"#;
 
 /// What each is answered, as tests/model.py says too.
 const REPLIES: &str = "\
@@ -183,7 +158,7 @@ const REPLIES: &str = "\
 0 @ 18 grv 3100 locked 0102030405060708090a min 60 pos 3
 0 @ 19 grv 3100 locked 0102030405060708090a min 60 pos 3
 0 @ 20 grv refused BadCount
-0 @ 21 tell 1 pos 3
+0 @ 21 reask refused Forgotten
 audit ok events 10 raised 2 versions 3
 ";
 
@@ -211,10 +186,10 @@ audit ok events 3 raised 0 versions 1
 /// takes and each read: once, and under the client's own number.
 #[test]
 fn each_call_passes_its_gate(rt: HostRuntime) -> Result<(), Fail> {
-    for client in [0, 8, 31, 63] {
+    for client in 0..64 {
         let gate = Counting::new(client);
         replies_are(&rt, rt.alloc(), &gate, client, CALLS, REPLIES)?;
-        holds(gate.was_passed(7, 5, 6), &client)?;
+        holds(gate.was_passed(8, 5, 6), &client)?;
         let gate = Counting::new(client);
         replies_are(&rt, rt.alloc(), &gate, client, LAST, LAST_REPLIES)?;
         holds(gate.was_passed(4, 2, 1), &client)?;

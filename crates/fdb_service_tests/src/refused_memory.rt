@@ -86,8 +86,8 @@ fn a_proxy_bears_it(rt: HostRuntime) -> Result<(), Fail> {
     Ok(())
 }
 
-/// A workload of two clients at two GRV proxies.
-const VISITS: &str = "visits 2 2 2 100 1 1 1 => explained";
+/// A workload of two clients at nine GRV proxies, of which one that is refused memory ends early.
+const VISITS: &str = "visits 2 9 2 100 1 1 1 => explained";
 
 #[test]
 fn a_workload_bears_it(rt: HostRuntime) -> Result<(), Fail> {

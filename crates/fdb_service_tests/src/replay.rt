@@ -62,7 +62,7 @@ fn the_first_script_as_text(rt: HostRuntime) -> Result<(), Fail> {
 }
 
 /// Why the program ends with another status than 0.
-type Fault = fdb_replay::Fault<ScriptRefused, Infallible>;
+type Failure = fdb_replay::Failure<ScriptRefused, Infallible>;
 
 #[test]
 fn faults_and_statuses(rt: HostRuntime) -> Result<(), Fail> {
@@ -73,17 +73,17 @@ fn faults_and_statuses(rt: HostRuntime) -> Result<(), Fail> {
     };
     let refused = "script refused: BadField 10000 9999";
     for (fault, text, status) in [
-        (Fault::Refused(ScriptRefused { error }), refused, 1),
-        (Fault::Arguments, "words refused", 2),
-        (Fault::Memory, "want of memory", 3),
-        (Fault::Reading, "reading failed", 5),
-        (Fault::Writing, "writing failed", 5),
+        (Failure::Refused(ScriptRefused { error }), refused, 1),
+        (Failure::Arguments, "words refused", 2),
+        (Failure::Memory, "want of memory", 3),
+        (Failure::Reading, "reading failed", 5),
+        (Failure::Writing, "writing failed", 5),
     ] {
         says(alloc, &fault, text)?;
         same(&fault.status(), &status, &text)?;
     }
     says(alloc, &ReplayFault::Script(error), refused)?;
-    says(alloc, &ReplayFault::Memory, "want of memory")?;
+    says(alloc, &ReplayFault::Memory, "out of memory")?;
     says(alloc, &ReplayFault::Write, "writing failed")
 }
 
@@ -178,6 +178,49 @@ fn writers_that_fail_in_any_way(rt: HostRuntime) -> Result<(), Fail> {
         }
     }
     Ok(())
+}
+
+/// Drives the program over a script of more than 3,000 reads, whose text is written a hundred bytes at
+/// a call, with one call that fails or none.
+fn long_text<R: Threads + Wait + Sync + Files + Clock>(
+    rt: &R,
+    alloc: Global,
+    fails_at: usize,
+    (status, said): (u8, &str),
+) -> Result<(usize, usize), Fail> {
+    let read = r#"{"do":"grv","client":0},"#;
+    let mut script = String::from_str(alloc, "{\"epoch_end\":0,\"recovery\":100,")?;
+    script.push_str("\"clients\":1,\"rounds\":[[")?;
+    for _ in 0..3_000 {
+        script.push_str(read)?;
+    }
+    script.push_str(r#"{"do":"grv","client":0}]]}"#)?;
+    let (mut out, mut err) = (Stream::new(alloc, ""), Stream::new(alloc, ""));
+    (out.fails_at, out.fails) = (fails_at, Some(ErrorKind::StorageFull));
+    let mut input = Stream::new(alloc, &script);
+    let found = drives(
+        rt,
+        alloc,
+        Ok(Vec::new(alloc)),
+        &mut input,
+        &mut out,
+        &mut err,
+    );
+    same_text(from_utf8(&err.taken)?, said, "standard error")?;
+    same(&found, &status, &fails_at)?;
+    Ok((out.taken.len(), out.calls))
+}
+
+/// Behind more than a thousand writes the flush fails, which is the last call; or one in between.
+#[test]
+fn a_flush_that_fails_behind_a_long_text(rt: HostRuntime) -> Result<(), Fail> {
+    let (alloc, failed) = (rt.alloc(), (5, "fdb_replay: writing failed\n"));
+    let (length, calls) = long_text(&rt, alloc, 0, (0, ""))?;
+    holds(length > 65_536 && calls > 1_001, &length)?;
+    let (taken, _) = long_text(&rt, alloc, calls, failed)?;
+    same(&taken, &length, &"the flush")?;
+    let (taken, _) = long_text(&rt, alloc, 1_001, failed)?;
+    same(&taken, &100_000, &"a write")
 }
 
 /// A replay over a writer that fails, of which there is no flush.

@@ -5,7 +5,7 @@ ghost use Rattle.fdb_client.specs.Cluster.{IsClusterConfig};
 ghost use Rattle.std.specs.List.{list_all};
 ghost use Rattle.fdb_queue.specs.Throttles.{is_throttle};
 
-use fdb_checks::{CaseError, Line, lines_of, tag};
+use fdb_checks::{CaseError, TableLine, lines_of, tag};
 use fdb_client::{
     Client, ClientError, Cluster, ClusterConfig, FinishError, SettledRun, Workload, run_workload,
 };
@@ -301,7 +301,7 @@ fn are_own(chain: &[Issued], asks: u64) -> bool {
 }
 
 /// Says what comes of a workload.
-fn say_ran<R: Threads + Wait + Sync>(rt: &R, line: &mut Line<'_>, size: Size, visits: Visits) {
+fn say_ran<R: Threads + Wait + Sync>(rt: &R, line: &mut TableLine<'_>, size: Size, visits: Visits) {
     match ran(rt, line.alloc, size, visits) {
         Ok(true) => line.say("explained"),
         Ok(false) => line.say("wrong"),
@@ -310,7 +310,7 @@ fn say_ran<R: Threads + Wait + Sync>(rt: &R, line: &mut Line<'_>, size: Size, vi
     }
 }
 
-fn visit<R: Threads + Wait + Sync>(rt: &R, line: &mut Line<'_>) {
+fn visit<R: Threads + Wait + Sync>(rt: &R, line: &mut TableLine<'_>) {
     let size = Size {
         clients: line.number(),
         grv_proxies: line.number(),
@@ -330,7 +330,7 @@ fn visit<R: Threads + Wait + Sync>(rt: &R, line: &mut Line<'_>) {
 }
 
 /// Closes each desk of so many in turn, before a client visits all.
-fn close_each<R: Threads + Wait + Sync>(rt: &R, line: &mut Line<'_>) {
+fn close_each<R: Threads + Wait + Sync>(rt: &R, line: &mut TableLine<'_>) {
     let grv_proxies = line.who();
     for closed in 0..grv_proxies {
         let size = Size {

@@ -9,6 +9,7 @@ use crate::audits::Audits;
 use crate::chain::Chain;
 use crate::lists::Lists;
 use crate::live::Opener;
+use crate::logs::lines::Lines;
 use crate::queue::Queue;
 use fdb_checks::plays_cases;
 use std::test::Fail;
@@ -139,6 +140,24 @@ Master::ask | master 100 1 @0 => fresh | 0 few many
 Master::ask | master 100 64 @0 => fresh | 0 few
 ";
 
+/// `fdb_lines`: what no program calls. Behind a commit that ended at 1 all reads of 4 that began at 3
+/// are stale, and of lines that none had ended before all stand for themselves.
+const LINES: &str = "
+Log::push, faults | clear;commit 0 5 0 1;*read 1 4 3 4;faults => @0 | 0 few 65537 100000
+first_fault, first_finding | clear;commit 0 5 0 1;*read 1 5 3 4;read 1 4 3 4;first => @1 \
+| 0 few 65537 100000
+first_fault | clear;commit 0 @1 0 1;read 1 @0 3 4;first => 1 | 0 few many 18446744073709551614
+first_fault | clear;commit 0 5 0 @0;read 1 4 @1 @1;first => 1 | 0 few many 18446744073709551614
+order | clear;*commit 0 @1 @0 @0;order => @0 | 0 few 65537 100000
+order | clear;commit 0 @1 0 1;order => 1 | 0 few many 18446744073709551614
+standing | clear;*commit 0 @1 @0 @0;standing 0 => @0 | 0 few 65537 100000
+standing | clear;commit 0 5 0 0;ask 0 6 0 0;standing @1 => 2 | 0 few many 18446744073709551614
+Watch::push, Watch::finish | clear;commit 0 5 0 1;*read 1 4 3 4;finish => @0 | 0 few 65537 100000
+Watch::push, Watch::settle | clear;commit 0 5 0 1;*read 1 4 3 4;settle @9 => @0;finish => 0 \
+| 0 few 65537 100000
+Watch::settle | clear;commit 0 5 0 1;read 1 4 3 4;settle @5 => 1 | 0 few many 18446744073709551610
+";
+
 #[test]
 fn lists_have_memory(rt: HostRuntime) -> Result<(), Fail> {
     plays_cases(rt.alloc(), &mut Lists::new(rt.alloc()), LISTS)
@@ -175,4 +194,9 @@ fn queues_have_memory_at_each_priority(rt: HostRuntime) -> Result<(), Fail> {
 #[test]
 fn records_have_memory(rt: HostRuntime) -> Result<(), Fail> {
     plays_cases(rt.alloc(), &mut Opener::new(&rt), RECORDS)
+}
+
+#[test]
+fn lines_have_memory(rt: HostRuntime) -> Result<(), Fail> {
+    plays_cases(rt.alloc(), &mut Lines::new(rt.alloc()), LINES)
 }

@@ -10,7 +10,7 @@
 
 pub mod words;
 
-use fdb_checks::{Line, Player, plays_all};
+use fdb_checks::{Player, TableLine, plays_all};
 use fdb_history::{
     AuditFault, ClientLog, Event, History, Issued, Record, Sequence, audit, history_of,
     register_after,
@@ -61,7 +61,7 @@ impl Audits {
         history_of(self.alloc, &self.logs)
     }
 
-    fn fault(&mut self, line: &mut Line<'_>) {
+    fn fault(&mut self, line: &mut TableLine<'_>) {
         match self.audited() {
             Ok(_) => line.say("ok"),
             Err(AuditFault::Memory) => line.refuse(),
@@ -71,7 +71,7 @@ impl Audits {
     }
 
     /// The history of logs that have one.
-    fn history(&self, line: &mut Line<'_>) -> Option<History> {
+    fn history(&self, line: &mut TableLine<'_>) -> Option<History> {
         match self.audited() {
             Ok(history) => Some(history),
             Err(fault) => {
@@ -85,14 +85,14 @@ impl Audits {
     }
 
     /// How many events there are, and whether they are found again where no fault is looked for.
-    fn events(&self, line: &mut Line<'_>) {
+    fn events(&self, line: &mut TableLine<'_>) {
         if let Some(history) = self.history(line) {
             line.say(history.events.len());
             self.say_again(line, &history);
         }
     }
 
-    fn say_again(&self, line: &mut Line<'_>, history: &History) {
+    fn say_again(&self, line: &mut TableLine<'_>, history: &History) {
         match self.found_again() {
             Ok(again) => line.say(if again.events == history.events {
                 "again"
@@ -103,7 +103,7 @@ impl Audits {
         }
     }
 
-    fn event(&self, line: &mut Line<'_>) {
+    fn event(&self, line: &mut TableLine<'_>) {
         let place = line.number() as usize;
         if let Some(history) = self.history(line) {
             match history.events.as_slice().get(place) {
@@ -113,22 +113,22 @@ impl Audits {
         }
     }
 
-    fn register(&self, line: &mut Line<'_>) {
+    fn register(&self, line: &mut TableLine<'_>) {
         if let Some(history) = self.history(line) {
             line.say(register_after(self.start, history.events.as_slice()));
         }
     }
 
-    fn begin(&mut self, line: &mut Line<'_>) {
+    fn begin(&mut self, line: &mut TableLine<'_>) {
         self.start = words::record(line);
     }
 
-    fn entry(&mut self, line: &mut Line<'_>) {
+    fn entry(&mut self, line: &mut TableLine<'_>) {
         let issued = words::issued(line);
         line.takes(self.chain.push(issued));
     }
 
-    fn log(&mut self, line: &mut Line<'_>) {
+    fn log(&mut self, line: &mut TableLine<'_>) {
         let log = ClientLog {
             calls: Sequence::new(self.alloc),
         };
@@ -136,7 +136,7 @@ impl Audits {
     }
 
     /// Adds a call to the last log.
-    fn add(&mut self, kind: &str, line: &mut Line<'_>) {
+    fn add(&mut self, kind: &str, line: &mut TableLine<'_>) {
         let call = words::call(kind, line);
         match self.logs.last_mut() {
             Some(log) => line.takes(log.calls.push(call)),
@@ -146,7 +146,7 @@ impl Audits {
 }
 
 impl Player for Audits {
-    fn called(&mut self, call: &str, line: &mut Line<'_>) {
+    fn called(&mut self, call: &str, line: &mut TableLine<'_>) {
         match call {
             "start" => self.begin(line),
             "entry" => self.entry(line),
@@ -161,7 +161,7 @@ impl Player for Audits {
     }
 }
 
-fn say_event(line: &mut Line<'_>, event: &Event) {
+fn say_event(line: &mut TableLine<'_>, event: &Event) {
     match event {
         Event::Read { client, call, rec } => line.say(format_args!("read {client} {call} {rec}")),
         Event::Report {

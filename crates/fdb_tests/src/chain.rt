@@ -13,7 +13,7 @@
 mod rows;
 
 use fdb_chain::{ChainCore, ChainError, RecentChain, Sequencer};
-use fdb_checks::{CaseError, HoldsFirst, Line, Player, lines_of};
+use fdb_checks::{CaseError, HoldsFirst, Player, TableLine, lines_of};
 use fdb_history::{Ask, Issued, OpenGate, Place, Service};
 use std::alloc::Global;
 use std::sync::Wait;
@@ -64,7 +64,7 @@ impl<'a, R: Wait> Chain<'a, R> {
         }
     }
 
-    fn open(&mut self, line: &mut Line<'_>) {
+    fn open(&mut self, line: &mut TableLine<'_>) {
         let (epoch_end, recovery) = (line.number(), line.number());
         match ChainCore::new(line.alloc, epoch_end, recovery, line.who()) {
             Ok(core) => {
@@ -75,7 +75,7 @@ impl<'a, R: Wait> Chain<'a, R> {
         }
     }
 
-    fn open_behind(&mut self, line: &mut Line<'_>) {
+    fn open_behind(&mut self, line: &mut TableLine<'_>) {
         match RecentChain::new(line.alloc, 0, 100, line.who()) {
             Ok(core) => {
                 self.asked = Asked::Behind(Sequencer::new(core));
@@ -103,13 +103,13 @@ impl<'a, R: Wait> Chain<'a, R> {
         found
     }
 
-    fn ask(&mut self, line: &mut Line<'_>) {
+    fn ask(&mut self, line: &mut TableLine<'_>) {
         let found = self.answer_patiently(ask_of(line));
         say_answer(line, found);
     }
 
     /// Has each of so many proxies ask under a number, once it has processed all before it.
-    fn round(&mut self, line: &mut Line<'_>) {
+    fn round(&mut self, line: &mut TableLine<'_>) {
         let (num, proxies) = (line.number(), line.who());
         for proxy in 0..proxies {
             let found = self.answer(Ask {
@@ -126,7 +126,7 @@ impl<'a, R: Wait> Chain<'a, R> {
         line.say("fresh");
     }
 
-    fn stand(&mut self, line: &mut Line<'_>) {
+    fn stand(&mut self, line: &mut TableLine<'_>) {
         match std::mem::replace(&mut self.asked, Asked::Nobody) {
             Asked::Nobody => line.fails("nobody is asked"),
             Asked::Core(core) => line.say(core.into_answers().len()),
@@ -136,7 +136,7 @@ impl<'a, R: Wait> Chain<'a, R> {
 }
 
 impl<R: Wait> Player for Chain<'_, R> {
-    fn called(&mut self, call: &str, line: &mut Line<'_>) {
+    fn called(&mut self, call: &str, line: &mut TableLine<'_>) {
         match call {
             "new" => self.open(line),
             "behind" => self.open_behind(line),
@@ -150,7 +150,7 @@ impl<R: Wait> Player for Chain<'_, R> {
 }
 
 /// Says the cause of a refusal, or notes that memory was refused.
-fn say_cause(line: &mut Line<'_>, cause: ChainError) {
+fn say_cause(line: &mut TableLine<'_>, cause: ChainError) {
     match cause {
         ChainError::Memory => line.refuse(),
         cause => line.say(cause),
@@ -158,7 +158,7 @@ fn say_cause(line: &mut Line<'_>, cause: ChainError) {
 }
 
 /// The members of a request.
-fn ask_of(line: &mut Line<'_>) -> Ask {
+fn ask_of(line: &mut TableLine<'_>) -> Ask {
     Ask {
         proxy: line.who(),
         num: line.number(),
@@ -168,7 +168,7 @@ fn ask_of(line: &mut Line<'_>) -> Ask {
 }
 
 /// Says some members of an answer, or why there is none.
-fn say_answer(line: &mut Line<'_>, found: Result<Issued, ChainError>) {
+fn say_answer(line: &mut TableLine<'_>, found: Result<Issued, ChainError>) {
     match found {
         Ok(issued) => {
             line.say(issued.ordinal);
@@ -198,7 +198,7 @@ fn play_held<R: Threads + Wait + Sync>(
 }
 
 /// Asks a sequencer. While the request is at the gate, with the lock, another one comes.
-fn ask_held<R: Threads + Wait + Sync>(chain: &Chain<'_, R>, line: &mut Line<'_>) {
+fn ask_held<R: Threads + Wait + Sync>(chain: &Chain<'_, R>, line: &mut TableLine<'_>) {
     match &chain.asked {
         Asked::Behind(sequencer) => {
             let (found, in_turn) = held(chain.rt, sequencer, ask_of(line));

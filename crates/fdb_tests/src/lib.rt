@@ -14,6 +14,8 @@ mod audits;
 #[cfg(test)]
 mod chain;
 #[cfg(test)]
+mod in_turn;
+#[cfg(test)]
 mod lists;
 #[cfg(test)]
 mod live;

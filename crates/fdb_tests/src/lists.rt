@@ -10,7 +10,7 @@
 
 use crate::audits::words::limit_of;
 use crate::queue::tag_of_bytes;
-use fdb_checks::{Line, Player, plays};
+use fdb_checks::{Player, TableLine, plays};
 use fdb_history::{GrvOpts, Issued, Priority, Replies, Sequence};
 use std::alloc::Global;
 use std::test::Fail;
@@ -48,39 +48,39 @@ impl Lists {
         *self = Lists::new(self.alloc);
     }
 
-    fn push(&mut self, line: &mut Line<'_>) {
+    fn push(&mut self, line: &mut TableLine<'_>) {
         let number = line.number();
         line.takes(self.list.push(number));
     }
 
-    fn copy_list(&self, line: &mut Line<'_>) {
+    fn copy_list(&self, line: &mut TableLine<'_>) {
         match self.list.clone() {
             Ok(copy) => say_copied(line, copy == self.list, copy.len()),
             Err(_) => line.refuse(),
         }
     }
 
-    fn copy_opts(&self, line: &mut Line<'_>) {
+    fn copy_opts(&self, line: &mut TableLine<'_>) {
         match self.opts.clone() {
             Ok(copy) => say_copied(line, copy == self.opts, copy.tags.len()),
             Err(_) => line.refuse(),
         }
     }
 
-    fn tag(&mut self, line: &mut Line<'_>) {
+    fn tag(&mut self, line: &mut TableLine<'_>) {
         let bytes = line.number();
         let tag = tag_of_bytes(line, bytes);
         line.takes(self.opts.tags.push(tag));
     }
 
-    fn open(&mut self, line: &mut Line<'_>) {
+    fn open(&mut self, line: &mut TableLine<'_>) {
         match Replies::of_each(self.alloc, line.who()) {
             Ok(replies) => self.replies = replies,
             Err(_) => line.refuse(),
         }
     }
 
-    fn keep(&mut self, line: &mut Line<'_>) {
+    fn keep(&mut self, line: &mut TableLine<'_>) {
         let answer = Issued {
             ordinal: self.kept,
             proxy: line.who(),
@@ -100,7 +100,7 @@ impl Lists {
     }
 
     /// Keeps the answer at a place for the first commit proxy alone.
-    fn keep_own(&mut self, line: &mut Line<'_>) {
+    fn keep_own(&mut self, line: &mut TableLine<'_>) {
         let (place, processed) = (line.number(), line.number());
         match self.replies.first_mut() {
             Some(own) => line.takes(own.keep(place as usize, processed)),
@@ -109,7 +109,7 @@ impl Lists {
     }
 
     /// The place of the answer under a number of a commit proxy, if it is kept.
-    fn place(&self, line: &mut Line<'_>) {
+    fn place(&self, line: &mut TableLine<'_>) {
         let (proxy, num) = (line.number(), line.number());
         let Some(own) = self.replies.get(proxy as usize) else {
             line.say("none");
@@ -123,13 +123,13 @@ impl Lists {
 }
 
 /// Says the length of a copy, which is the same.
-fn say_copied(line: &mut Line<'_>, same: bool, length: usize) {
+fn say_copied(line: &mut TableLine<'_>, same: bool, length: usize) {
     line.holds(same, "another copy");
     line.say(length);
 }
 
 /// Copies a limit whose tag has so many bytes.
-fn copy_limit(line: &mut Line<'_>) {
+fn copy_limit(line: &mut TableLine<'_>) {
     let bytes = line.number();
     let limit = limit_of(line, bytes);
     match limit.clone() {
@@ -139,7 +139,7 @@ fn copy_limit(line: &mut Line<'_>) {
 }
 
 impl Player for Lists {
-    fn called(&mut self, call: &str, line: &mut Line<'_>) {
+    fn called(&mut self, call: &str, line: &mut TableLine<'_>) {
         match call {
             "clear" => self.clear(),
             "push" => self.push(line),

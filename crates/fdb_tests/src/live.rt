@@ -11,15 +11,15 @@
 ghost use Rattle.std.specs.Prelude.{◌≡◌, false};
 ghost use Rattle.fdb_live.specs.Seen.{origin_of};
 
+mod gates;
 pub mod gathered;
-mod held;
 mod holders;
 mod master;
 mod rows;
 mod threads;
 
 use crate::audits::words::{plain, record};
-use fdb_checks::{CaseError, Line, Player};
+use fdb_checks::{CaseError, Player, TableLine};
 use fdb_history::Record;
 use fdb_live::{Live, LiveError, LiveRecord, Opened};
 use holders::{Holders, play};
@@ -40,7 +40,7 @@ impl<'a, R: Wait> Opener<'a, R> {
         Opener { rt }
     }
 
-    fn open(&self, line: &mut Line<'_>) {
+    fn open(&self, line: &mut TableLine<'_>) {
         let start = record(line);
         let reporters = u32::try_from(line.number_behind("for")).unwrap_or_default();
         match opened(self.rt, line.alloc, start, reporters) {
@@ -51,7 +51,7 @@ impl<'a, R: Wait> Opener<'a, R> {
 }
 
 impl<R: Wait> Player for Opener<'_, R> {
-    fn called(&mut self, call: &str, line: &mut Line<'_>) {
+    fn called(&mut self, call: &str, line: &mut TableLine<'_>) {
         match call {
             "open" => self.open(line),
             "master" => master::ask(self.rt, line),
@@ -62,7 +62,7 @@ impl<R: Wait> Player for Opener<'_, R> {
 }
 
 /// Says the cause of a refusal, or notes that memory was refused.
-pub(crate) fn say_cause(line: &mut Line<'_>, cause: LiveError) {
+pub(crate) fn say_cause(line: &mut TableLine<'_>, cause: LiveError) {
     match cause {
         LiveError::Memory => line.refuse(),
         cause => line.say(cause),

@@ -4,9 +4,10 @@
 
 mod apart;
 mod judged;
+pub(crate) mod lines;
 
 use fdb_checks::same_text;
-use fdb_lines::{AuditOpts, Turn, order};
+use fdb_lines::{AuditOpts, OrderStep, order};
 use fdb_log_reader::{LogReader, NamedLog, ReadError, read_log};
 use std::alloc::{AllocError, Global};
 use std::test::Fail;
@@ -70,26 +71,30 @@ fn each_text_stands_for_its_log(rt: HostRuntime) -> Result<(), Fail> {
     Ok(())
 }
 
-/// The order that explains the lines of a text, if one does: the act, the line, and whether it
-/// shares the act above.
+/// The order that explains the lines of a text, if one does: the effect, the line, and whether it
+/// shares the effect above.
 fn order_text(alloc: Global, bytes: &[u8]) -> Result<String, AllocError> {
     let opts = AuditOpts {
         complete: None,
         margin: 0,
     };
     match read_log(alloc, bytes) {
-        Ok(named) => turns_text(alloc, order(alloc, &named.log, &opts)?),
+        Ok(named) => steps_text(alloc, order(alloc, &named.log, &opts)?),
         Err(_) => String::from_str(alloc, "no log"),
     }
 }
 
-fn turns_text(alloc: Global, turns: Option<Vec<Turn>>) -> Result<String, AllocError> {
+fn steps_text(alloc: Global, steps: Option<Vec<OrderStep>>) -> Result<String, AllocError> {
     let mut text = String::new(alloc);
-    match turns {
+    match steps {
         None => text.push_str("none")?,
-        Some(turns) => {
-            for Turn { act, line, shared } in turns {
-                write!(text, "{act:?} {line:?} {shared}; ")?;
+        Some(steps) => {
+            for OrderStep {
+                effect,
+                line,
+                shared,
+            } in steps {
+                write!(text, "{effect:?} {line:?} {shared}; ")?;
             }
         }
     }

@@ -20,7 +20,7 @@
 
 mod rows;
 
-use fdb_checks::{Line, Player};
+use fdb_checks::{Player, TableLine};
 use fdb_history::{Sequence, Tag};
 use fdb_queue::{GrvQueue, QueueConfig, QueueError, Req, Throttle, TurnedAway};
 use std::alloc::Global;
@@ -52,7 +52,7 @@ impl Queue {
     }
 
     /// Puts a queue in the place of another.
-    fn open(&mut self, line: &mut Line<'_>, made: Result<GrvQueue<u32>, QueueError>) {
+    fn open(&mut self, line: &mut TableLine<'_>, made: Result<GrvQueue<u32>, QueueError>) {
         match made {
             Ok(made) => {
                 self.queue = made;
@@ -63,26 +63,26 @@ impl Queue {
         }
     }
 
-    fn opens(&mut self, line: &mut Line<'_>) {
+    fn opens(&mut self, line: &mut TableLine<'_>) {
         let made = GrvQueue::new(self.alloc, config(line));
         self.open(line, made);
     }
 
     /// Tells a throttle of the queue that is made next.
-    fn tell(&mut self, line: &mut Line<'_>) {
+    fn tell(&mut self, line: &mut TableLine<'_>) {
         let throttle = throttle(line);
         line.takes(self.throttles.push(throttle));
     }
 
     /// Makes a queue with the throttles that were told.
-    fn made(&mut self, line: &mut Line<'_>) {
+    fn made(&mut self, line: &mut TableLine<'_>) {
         let throttles = mem::replace(&mut self.throttles, Vec::new(self.alloc));
         let made = GrvQueue::with_throttles(self.alloc, config(line), &throttles);
         self.open(line, made);
     }
 
     /// Copies the throttles that were told.
-    fn copied(&self, line: &mut Line<'_>) {
+    fn copied(&self, line: &mut TableLine<'_>) {
         match self.throttles.clone() {
             Ok(copy) => line.say(if copy == self.throttles {
                 "same"
@@ -93,7 +93,7 @@ impl Queue {
         }
     }
 
-    fn offer(&mut self, line: &mut Line<'_>) {
+    fn offer(&mut self, line: &mut TableLine<'_>) {
         let request = Req {
             priority: line.priority(),
             count: line.number(),
@@ -106,7 +106,7 @@ impl Queue {
         }
     }
 
-    fn window(&mut self, line: &mut Line<'_>) {
+    fn window(&mut self, line: &mut TableLine<'_>) {
         match self.queue.window(line.number()) {
             Ok(started) => say_payloads(line, &started),
             Err(cause) => say_cause(line, cause),
@@ -115,19 +115,19 @@ impl Queue {
     }
 
     /// Says a bar, and behind it the budgets.
-    fn say_budgets(&self, line: &mut Line<'_>) {
+    fn say_budgets(&self, line: &mut TableLine<'_>) {
         let budgets = self.queue.budgets();
         line.say(format_args!("| {} {}", budgets.normal, budgets.batch));
     }
 
-    fn starts(&mut self, line: &mut Line<'_>) {
+    fn starts(&mut self, line: &mut TableLine<'_>) {
         match self.queue.window(line.number()) {
             Ok(started) => line.say(started.len()),
             Err(cause) => say_cause(line, cause),
         }
     }
 
-    fn rates(&mut self, line: &mut Line<'_>) {
+    fn rates(&mut self, line: &mut TableLine<'_>) {
         let (normal, batch) = (line.number(), line.number());
         match self.queue.set_rates(normal, batch) {
             Ok(turned_away) => say_turned_away(line, &turned_away),
@@ -135,7 +135,7 @@ impl Queue {
         }
     }
 
-    fn turns(&mut self, line: &mut Line<'_>) {
+    fn turns(&mut self, line: &mut TableLine<'_>) {
         let (normal, batch) = (line.number(), line.number());
         match self.queue.set_rates(normal, batch) {
             Ok(turned_away) => line.say(turned_away.len()),
@@ -143,27 +143,27 @@ impl Queue {
         }
     }
 
-    fn waits(&self, line: &mut Line<'_>) {
+    fn waits(&self, line: &mut TableLine<'_>) {
         match self.queue.waits(line.number()) {
             None => line.say("none"),
             Some(windows) => line.say(windows),
         }
     }
 
-    fn skip(&mut self, line: &mut Line<'_>) {
+    fn skip(&mut self, line: &mut TableLine<'_>) {
         let windows = self.queue.skip_idle(line.number());
         line.say(windows);
         self.say_budgets(line);
     }
 
-    fn lengths(&self, line: &mut Line<'_>) {
+    fn lengths(&self, line: &mut TableLine<'_>) {
         let lengths = self.queue.lengths();
         line.say(lengths.system);
         line.say(lengths.default_);
         line.say(lengths.batch);
     }
 
-    fn throttle(&mut self, line: &mut Line<'_>) {
+    fn throttle(&mut self, line: &mut TableLine<'_>) {
         let Throttle {
             priority,
             tag,
@@ -176,12 +176,12 @@ impl Queue {
         }
     }
 
-    fn tag(&mut self, line: &mut Line<'_>) {
+    fn tag(&mut self, line: &mut TableLine<'_>) {
         let tag = tag_of(line);
         line.takes(self.tags.push(tag));
     }
 
-    fn limits(&mut self, line: &mut Line<'_>) {
+    fn limits(&mut self, line: &mut TableLine<'_>) {
         let tags = mem::replace(&mut self.tags, Vec::new(self.alloc));
         let priority = line.priority();
         match self.queue.throttles(priority, &tags, line.number()) {
@@ -196,7 +196,7 @@ impl Queue {
 }
 
 impl Player for Queue {
-    fn called(&mut self, call: &str, line: &mut Line<'_>) {
+    fn called(&mut self, call: &str, line: &mut TableLine<'_>) {
         match call {
             "new" => self.opens(line),
             "with" => self.tell(line),
@@ -220,14 +220,14 @@ impl Player for Queue {
 }
 
 /// Says the cause of a refusal, or notes that memory was refused.
-fn say_cause(line: &mut Line<'_>, cause: QueueError) {
+fn say_cause(line: &mut TableLine<'_>, cause: QueueError) {
     match cause {
         QueueError::Memory => line.refuse(),
         cause => line.say(cause),
     }
 }
 
-fn config(line: &mut Line<'_>) -> QueueConfig {
+fn config(line: &mut TableLine<'_>) -> QueueConfig {
     QueueConfig {
         normal: line.number(),
         batch: line.number(),
@@ -235,7 +235,7 @@ fn config(line: &mut Line<'_>) -> QueueConfig {
     }
 }
 
-fn throttle(line: &mut Line<'_>) -> Throttle {
+fn throttle(line: &mut TableLine<'_>) -> Throttle {
     Throttle {
         priority: line.priority(),
         tag: tag_of(line),
@@ -244,7 +244,7 @@ fn throttle(line: &mut Line<'_>) -> Throttle {
     }
 }
 
-fn tag_of(line: &mut Line<'_>) -> Tag {
+fn tag_of(line: &mut TableLine<'_>) -> Tag {
     match line.word() {
         "of" => {
             let bytes = line.number();
@@ -256,7 +256,7 @@ fn tag_of(line: &mut Line<'_>) -> Tag {
 }
 
 /// A tag of the digits of a number.
-fn tag_of_number(line: &mut Line<'_>) -> Tag {
+fn tag_of_number(line: &mut TableLine<'_>) -> Tag {
     match line.number().to_string(line.alloc) {
         Ok(digits) => line.tag(digits.as_str()),
         Err(_) => {
@@ -267,7 +267,7 @@ fn tag_of_number(line: &mut Line<'_>) -> Tag {
 }
 
 /// A tag of so many bytes, each of which is a `t`, unless memory is refused.
-pub(crate) fn tag_of_bytes(line: &mut Line<'_>, bytes: u64) -> Tag {
+pub(crate) fn tag_of_bytes(line: &mut TableLine<'_>, bytes: u64) -> Tag {
     let mut tag = Sequence::new(line.alloc);
     for _ in 0..bytes {
         line.takes(tag.push(b't'));
@@ -276,14 +276,14 @@ pub(crate) fn tag_of_bytes(line: &mut Line<'_>, bytes: u64) -> Tag {
 }
 
 /// Says the payloads of requests.
-fn say_payloads(line: &mut Line<'_>, started: &[Req<u32>]) {
+fn say_payloads(line: &mut TableLine<'_>, started: &[Req<u32>]) {
     for request in started {
         line.say(request.payload);
     }
 }
 
 /// Says how many requests were turned away, and the payload and the cause of each.
-fn say_turned_away(line: &mut Line<'_>, turned_away: &[TurnedAway<u32>]) {
+fn say_turned_away(line: &mut TableLine<'_>, turned_away: &[TurnedAway<u32>]) {
     line.say(turned_away.len());
     line.say("|");
     for gone in turned_away {

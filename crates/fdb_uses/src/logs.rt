@@ -2,15 +2,15 @@
 
 use anyhow::Result;
 use fdb_audit::{Wanted, judge};
-use fdb_lines::{AuditOpts, Call, Line, Log, Times};
+use fdb_lines::{AuditOpts, Line, Log, Operation, Times};
 use std::alloc::{AllocError, Global};
 
 /// Audits two calls, and prints what is found: client 1 still reads 100 after client 0 has committed
 /// at 200. That is stale, unless the clocks of the two may be 5 apart.
 pub(crate) fn explained(rt: &impl Print, alloc: Global) -> Result<()> {
     let mut log = Log::new(alloc);
-    log.push(at(0, Call::Commit(200), Times::new(10, Some(14))))?;
-    log.push(at(1, Call::Read(100), Times::new(15, Some(16))))?;
+    log.push(at(0, Operation::Commit(200), Times::new(10, Some(14))))?;
+    log.push(at(1, Operation::Read(100), Times::new(15, Some(16))))?;
     for margin in [0, 5] {
         let said = said_of(alloc, &log, margin)?;
         print!(rt; "{said}")?;
@@ -34,7 +34,7 @@ fn said_of(alloc: Global, log: &Log, margin: u64) -> Result<String, AllocError> 
 }
 
 /// A call of the client with this number, and when it began and ended.
-fn at(client: u32, call: Call, times: Option<Times>) -> Line {
+fn at(client: u32, call: Operation, times: Option<Times>) -> Line {
     Line {
         client: Some(client),
         call,

@@ -3,9 +3,12 @@
 `Chain` issues commit versions as the sequencer does, `Record` is the live committed version with
 what belongs to it, and `GrvQueue` says which requests for a read version wait at a GRV proxy and
 which start. `answers` and `outcomes` take all requests of a run at once. `audit` finds the faults of
-a log of calls, of any system, and `audit_text` says what it found.
+a log of calls, of any system, and `audit_text` says what it found; `Audit` takes a log piece by
+piece, and `Watch` tells of one that grows what has become certain.
 
-A handle is used by one thread at a time; any thread may use and close it.
+Threads may share a handle (`Audit`, `Chain`, `GrvQueue`, `Watch`): its calls wait for one another.
+All other values never change. Versions and numbers are of 64 bits, and moments of a chain or a
+throttle are microseconds.
 """
 from ._status import Refused, Status
 from .chain import Ask, Chain, Issued, answers
@@ -23,6 +26,7 @@ from .grv_queue import (
     outcomes,
 )
 from .log import (
+    Audit,
     Call,
     Fault,
     FaultKind,
@@ -35,9 +39,11 @@ from .log import (
     audit_text,
 )
 from .register import Record
+from .watch import Watch
 
 __all__ = [
     "Ask",
+    "Audit",
     "Call",
     "Chain",
     "Fault",
@@ -60,6 +66,7 @@ __all__ = [
     "Request",
     "Status",
     "TurnedAway",
+    "Watch",
     "Window",
     "answers",
     "audit",

@@ -1,4 +1,4 @@
-"""The shared object, and its structs and functions as the header declares them."""
+"""The shared object, and its structs and functions: each that the header declares stands here."""
 from __future__ import annotations
 
 import ctypes
@@ -15,23 +15,26 @@ from ctypes import (
     c_void_p,
 )
 from pathlib import Path
-from typing import Any, List, Tuple
+from typing import Any, Dict, List, Tuple
+
+FILE = "libfdb_read_version.so"
+# That of include/fdb_read_version.h: 10,000 for a major one, 100 for a minor one, 1 for a patch.
+VERSION = 100
+HOW = "make it with tools/bindings, or set FDB_READ_VERSION_LIB to its path"
 
 
-def _path() -> Path:
+def path_of_library() -> Path:
     """The library that the environment names, the package's own, or what the repository built."""
     here = Path(__file__).resolve()
     named = os.environ.get("FDB_READ_VERSION_LIB")
-    built = [here.with_name("libfdb_c.so")]
-    if len(here.parents) > 4:
-        built.append(here.parents[4] / "crates" / "fdb_c" / "out" / "libfdb_c.so")
-    places = [Path(named)] if named else built
-    places = [it / "libfdb_c.so" if it.is_dir() else it for it in places]
+    places = [Path(named).absolute()] if named else [here.with_name(FILE)]
+    if not named and len(here.parents) > 4:
+        places.append(here.parents[4] / "crates" / "fdb_c" / "out" / FILE)
+    places = [it / FILE if it.is_dir() else it for it in places]
     for place in places:
         if place.is_file():
             return place
-    how = "make it with tools/bindings, or set FDB_READ_VERSION_LIB to its path"
-    raise ImportError(f"{places[-1]} is missing: {how}")
+    raise ImportError(f"{places[-1]} is missing: {HOW}", path=str(places[-1]))
 
 
 class RawAsk(Structure):
@@ -151,94 +154,99 @@ class RawFault(Structure):
     ]
 
 
-def _audits(log: Any, found: Any) -> Tuple[Any, List[Any]]:
-    """What an audit of such a log is given, which writes such elements."""
-    told = [POINTER(found), c_size_t, POINTER(c_uint64), POINTER(RawRefused)]
-    return c_uint8, [log, c_size_t, POINTER(RawOptions), *told]
+class RawWatchOptions(Structure):
+    _fields_ = [
+        ("behind", c_uint64),
+        ("margin", c_uint64),
+        ("totals", c_bool),
+        ("json", c_bool),
+    ]
 
 
-_DECLARED = {
-    "fdb_chain_new": (c_uint8, [c_uint64, c_uint64, c_uint32, POINTER(RawHandle)]),
-    "fdb_chain_ask": (c_uint8, [POINTER(RawHandle), POINTER(RawAsk), POINTER(RawAnswer)]),
-    "fdb_chain_free": (None, [POINTER(RawHandle)]),
-    "fdb_chain_answers": (
-        c_uint8,
-        [
-            c_uint64,
-            c_uint64,
-            c_uint32,
-            POINTER(RawAsk),
-            c_size_t,
-            POINTER(RawAnswer),
-            c_size_t,
-        ],
-    ),
+_CHAIN = _QUEUE = _AUDIT = _WATCH = POINTER(RawHandle)
+_EPOCH = [c_uint64, c_uint64, c_uint32]
+_BYTES = [c_char_p, c_size_t]
+_TAG = [c_uint8, *_BYTES]
+_SIZE = POINTER(c_uint64)
+_REFUSED = POINTER(RawRefused)
+
+
+def _array(element: Any) -> List[Any]:
+    """What stands for an array of these: where it begins, and its length."""
+    return [POINTER(element), c_size_t]
+
+
+def _audit(log: List[Any], found: Any) -> Tuple[Any, List[Any]]:
+    """An audit of such a log, which writes such elements."""
+    return c_uint8, [*log, POINTER(RawOptions), *_array(found), _SIZE, _REFUSED]
+
+
+# Of each function its result and its parameters.
+DECLARED: Dict[str, Tuple[Any, List[Any]]] = {
+    "fdb_read_version_version": (c_uint32, []),
+    "fdb_chain_new": (c_uint8, [*_EPOCH, _CHAIN]),
+    "fdb_chain_ask": (c_uint8, [_CHAIN, POINTER(RawAsk), POINTER(RawAnswer)]),
+    "fdb_chain_free": (None, [_CHAIN]),
+    "fdb_chain_answers": (c_uint8, [*_EPOCH, *_array(RawAsk), *_array(RawAnswer)]),
     "fdb_record_after_report": (None, [POINTER(RawRecord), POINTER(RawRecord)]),
     "fdb_record_version_for": (c_uint64, [POINTER(RawRecord), c_bool]),
-    "fdb_queue_new": (c_uint8, [POINTER(RawConfig), POINTER(RawHandle)]),
-    "fdb_queue_offer": (c_uint8, [POINTER(RawHandle), POINTER(RawRequest), POINTER(RawOutcome)]),
-    "fdb_queue_window": (
-        c_uint8,
-        [POINTER(RawHandle), c_uint64, POINTER(RawOutcome), POINTER(RawRequest), c_size_t],
-    ),
-    "fdb_queue_pop": (None, [POINTER(RawHandle), POINTER(RawOutcome)]),
+    "fdb_queue_new": (c_uint8, [POINTER(RawConfig), _QUEUE]),
+    "fdb_queue_offer": (c_uint8, [_QUEUE, POINTER(RawRequest), POINTER(RawOutcome)]),
+    "fdb_queue_window": (c_uint8, [_QUEUE, c_uint64, POINTER(RawOutcome), *_array(RawRequest)]),
+    "fdb_queue_pop": (None, [_QUEUE, POINTER(RawOutcome)]),
     "fdb_queue_set_rates": (
         c_uint8,
-        [
-            POINTER(RawHandle),
-            c_uint64,
-            c_uint64,
-            POINTER(RawTurnedAway),
-            c_size_t,
-            POINTER(c_uint64),
-        ],
+        [_QUEUE, c_uint64, c_uint64, *_array(RawTurnedAway), _SIZE],
     ),
-    "fdb_queue_waits": (c_bool, [POINTER(RawHandle), c_uint64, POINTER(c_uint64)]),
-    "fdb_queue_set_throttle": (
-        c_uint8,
-        [POINTER(RawHandle), c_uint8, c_char_p, c_size_t, c_uint64, c_uint64],
-    ),
-    "fdb_queue_throttle": (
-        c_uint8,
-        [POINTER(RawHandle), c_uint8, c_char_p, c_size_t, c_uint64, POINTER(RawLimit)],
-    ),
-    "fdb_queue_forget_throttles": (None, [POINTER(RawHandle), c_uint64]),
-    "fdb_queue_free": (None, [POINTER(RawHandle)]),
+    "fdb_queue_waits": (c_bool, [_QUEUE, c_uint64, POINTER(c_uint64)]),
+    "fdb_queue_set_throttle": (c_uint8, [_QUEUE, *_TAG, c_uint64, c_uint64]),
+    "fdb_queue_throttle": (c_uint8, [_QUEUE, *_TAG, c_uint64, POINTER(RawLimit)]),
+    "fdb_queue_forget_throttles": (None, [_QUEUE, c_uint64]),
+    "fdb_queue_free": (None, [_QUEUE]),
     "fdb_queue_outcomes": (
         c_uint8,
         [
             POINTER(RawConfig),
-            POINTER(RawOp),
-            c_size_t,
-            POINTER(RawOutcome),
-            c_size_t,
-            POINTER(RawRequest),
-            c_size_t,
-            POINTER(c_uint64),
+            *_array(RawOp),
+            *_array(RawOutcome),
+            *_array(RawRequest),
+            _SIZE,
         ],
     ),
-    "fdb_audit_log_text": _audits(c_char_p, c_uint8),
-    "fdb_audit_log_faults": _audits(c_char_p, RawFault),
-    "fdb_audit_calls_text": _audits(POINTER(RawCall), c_uint8),
-    "fdb_audit_calls_faults": _audits(POINTER(RawCall), RawFault),
+    "fdb_audit_log_text": _audit(_BYTES, c_uint8),
+    "fdb_audit_log_faults": _audit(_BYTES, RawFault),
+    "fdb_audit_calls_text": _audit(_array(RawCall), c_uint8),
+    "fdb_audit_calls_faults": _audit(_array(RawCall), RawFault),
+    "fdb_audit_new": (c_uint8, [POINTER(RawOptions), _AUDIT]),
+    "fdb_audit_push": (c_uint8, [_AUDIT, *_BYTES, _REFUSED]),
+    "fdb_audit_end": (c_uint8, [_AUDIT, _REFUSED]),
+    "fdb_audit_text": (c_uint8, [_AUDIT, *_array(c_uint8), _SIZE]),
+    "fdb_audit_faults": (c_uint8, [_AUDIT, *_array(RawFault), _SIZE]),
+    "fdb_audit_free": (None, [_AUDIT]),
+    "fdb_watch_new": (c_uint8, [POINTER(RawWatchOptions), *_BYTES, _WATCH]),
+    "fdb_watch_push": (c_uint8, [_WATCH, *_BYTES]),
+    "fdb_watch_tell": (c_uint8, [_WATCH, c_bool]),
+    "fdb_watch_end": (c_uint8, [_WATCH, _REFUSED]),
+    "fdb_watch_text": (c_uint8, [_WATCH, *_array(c_uint8), _SIZE]),
+    "fdb_watch_warnings": (c_uint8, [_WATCH, *_array(c_uint8), _SIZE]),
+    "fdb_watch_free": (None, [_WATCH]),
 }
 
 
 def _loaded() -> ctypes.CDLL:
-    found = ctypes.CDLL(str(_path()))
-    for name, (result, parameters) in _DECLARED.items():
-        function = getattr(found, name)
-        function.restype, function.argtypes = result, parameters
+    path = path_of_library()
+    try:
+        found = ctypes.CDLL(str(path))
+        for name, (result, parameters) in DECLARED.items():
+            function = getattr(found, name)
+            function.restype, function.argtypes = result, parameters
+        number = found.fdb_read_version_version()
+        # (one that differs in a patch alone declares the same)
+        if number // 100 != VERSION // 100:
+            raise OSError(f"its version is {number}, and the package's {VERSION}")
+    except (OSError, AttributeError) as error:
+        raise ImportError(f"{path} cannot be used ({error}): {HOW}", path=str(path)) from error
     return found
 
 
 library = _loaded()
-
-
-def number(name: str, value: int, bits: int = 64) -> int:
-    """A whole number that fits; ctypes would cut it off in silence."""
-    if not isinstance(value, int):
-        raise TypeError(f"{name} is no whole number: {value!r}")
-    if not 0 <= value < 1 << bits:
-        raise ValueError(f"{name} is out of range: {value}")
-    return value

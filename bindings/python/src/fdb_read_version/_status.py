@@ -1,21 +1,11 @@
-"""Why a call refuses, and how numbers of the header are printed."""
+"""Why a call refuses."""
 from __future__ import annotations
 
-from enum import IntEnum
-
-
-class Named(IntEnum):
-    """Numbers of `include/fdb_read_version.h`, which are printed as their names."""
-
-    def __str__(self) -> str:
-        return self.name
-
-    def __format__(self, spec: str) -> str:
-        return format(self.name, spec)
+from ._values import Named
 
 
 class Status(Named):
-    """What a call answers: the numbers of `include/fdb_read_version.h`."""
+    """What a call answers: the numbers of `include/fdb_read_version.h`, which says what each is."""
 
     OK = 0
     BAD_EPOCH = 1
@@ -41,20 +31,25 @@ class Status(Named):
     SOME_TIMES = 38
     BAD_MEMBER = 39
     EMPTY = 40
+    OVER = 41
 
 
 class Refused(Exception):
     """A refusal: its `status`, and of an early request the number that is `expected`, else 0."""
 
     def __init__(self, status: int, expected: int = 0) -> None:
+        # (what a pickle or a copy is made from)
+        super().__init__(Status(status), expected)
         self.status = Status(status)
         self.expected = expected
-        super().__init__(self.status.name + (f", expected {expected}" if expected else ""))
+
+    def __str__(self) -> str:
+        return self.status.name + (f", expected {self.expected}" if self.expected else "")
 
     def __eq__(self, other: object) -> bool:
         if not isinstance(other, Refused):
             return NotImplemented
-        return (self.status, self.expected) == (other.status, other.expected)
+        return type(self) is type(other) and self.args == other.args
 
     def __hash__(self) -> int:
-        return hash((self.status, self.expected))
+        return hash((type(self), self.args))

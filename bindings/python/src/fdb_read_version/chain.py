@@ -5,16 +5,19 @@ from ctypes import byref
 from dataclasses import dataclass
 from typing import Iterable, List, Union
 
-from ._library import RawAnswer, RawAsk, RawHandle, library, number
+from ._handle import Handle
+from ._library import RawAnswer, RawAsk, library
 from ._status import Refused, Status
+from ._values import instance, number
 
 
-@dataclass(frozen=True)
+@dataclass(frozen=True, order=True)
 class Ask:
     """A commit proxy's request for a commit version.
 
-    `num` is its number among those of its proxy, from 1 on; `at` is the moment in microseconds;
-    `processed` is the number up to which the proxy has processed its answers.
+    `proxy` is counted from 0, and `num`, its number among those of its proxy, from 1; `at` is the
+    moment in microseconds; `processed` is the number up to which the proxy has processed its
+    answers.
     """
 
     proxy: int
@@ -31,11 +34,12 @@ class Ask:
         )
 
 
-@dataclass(frozen=True)
+@dataclass(frozen=True, order=True)
 class Issued:
-    """A commit version: the one before it, its place in the chain, and what it was issued to.
+    """A commit version, the one before it (`prev`), and its place in the chain, counted from 0.
 
-    `fresh` says whether this request drew it; else its kept answer came again.
+    `proxy`, `num`, `processed` and `at` (microseconds) are of the request that drew it; `fresh` says
+    whether this request did, or its kept answer came again.
     """
 
     ordinal: int
@@ -63,52 +67,42 @@ def _answer(raw: RawAnswer) -> Union[Issued, Refused]:
     )
 
 
-class Chain:
+class Chain(Handle):
     """The commit versions of an epoch, as the sequencer issues them.
 
-    The epoch begins with version `recovery`, after one that ended with `epoch_end`; `proxies` is
-    the number of its commit proxies. `Refused` says BAD_EPOCH, NO_PROXY or MEMORY.
+    The epoch begins with version `recovery`, after one that ended with `epoch_end`; `proxies` is the
+    number of its commit proxies, 1 to 64. `Refused` says BAD_EPOCH, NO_PROXY or MEMORY.
+
+    Threads may share one: their calls wait for one another. It is freed by `close`, at the end of a
+    `with`, or when nobody has it any more, and can be neither copied nor pickled.
     """
 
+    _free = library.fdb_chain_free
+
     def __init__(self, epoch_end: int, recovery: int, proxies: int) -> None:
-        self._handle = RawHandle()
-        status = library.fdb_chain_new(
-            number("epoch_end", epoch_end),
-            number("recovery", recovery),
-            number("proxies", proxies, 32),
-            byref(self._handle),
-        )
-        if status:
-            raise Refused(status)
+        self._open(library.fdb_chain_new, *_epoch(epoch_end, recovery, proxies))
 
     def ask(self, proxy: int, num: int, at: int, processed: int = 0) -> Issued:
-        """Answers a request; a refused one leaves the chain as it was.
+        """Answers a request, whose numbers are those of `Ask`; `at` is in microseconds.
 
         `Refused` says UNKNOWN_PROXY, EARLY (with the number that is expected), FORGOTTEN,
-        EXHAUSTED or MEMORY.
+        EXHAUSTED or MEMORY, the first that stands; the chain is then as it was.
         """
-        if not self._handle.at:
-            raise ValueError("the chain is closed")
         ask, raw = Ask(proxy, num, at, processed)._raw(), RawAnswer()
-        status = library.fdb_chain_ask(byref(self._handle), byref(ask), byref(raw))
-        if status:
-            raise Refused(status, raw.num)
-        return _answer(raw)
+        status = self._call(library.fdb_chain_ask, byref(ask), byref(raw))
+        # (where memory is refused there is no answer)
+        answer = Refused(status) if status == Status.MEMORY else _answer(raw)
+        if isinstance(answer, Refused):
+            raise answer
+        return answer
 
-    def close(self) -> None:
-        """Frees the chain. A second call does nothing."""
-        if self._handle.at:
-            library.fdb_chain_free(byref(self._handle))
 
-    def __enter__(self) -> "Chain":
-        return self
-
-    def __exit__(self, *_: object) -> None:
-        self.close()
-
-    def __del__(self) -> None:
-        if hasattr(self, "_handle"):
-            self.close()
+def _epoch(epoch_end: int, recovery: int, proxies: int) -> List[int]:
+    return [
+        number("epoch_end", epoch_end),
+        number("recovery", recovery),
+        number("proxies", proxies, 32),
+    ]
 
 
 def answers(
@@ -116,19 +110,12 @@ def answers(
 ) -> List[Union[Issued, Refused]]:
     """The answers of a new chain to these requests, in order. A refusal stands in its place.
 
-    `Refused` is raised where the chain cannot be opened, or memory is refused.
+    `Refused` is raised as by `Chain`, and says MEMORY also where that was refused on the way.
     """
-    raw = [it._raw() for it in asks]
+    raw = [instance("an ask", it, Ask)._raw() for it in asks]
     given, found = (RawAsk * len(raw))(*raw), (RawAnswer * len(raw))()
-    status = library.fdb_chain_answers(
-        number("epoch_end", epoch_end),
-        number("recovery", recovery),
-        number("proxies", proxies, 32),
-        given,
-        len(raw),
-        found,
-        len(raw),
-    )
+    epoch = _epoch(epoch_end, recovery, proxies)
+    status = library.fdb_chain_answers(*epoch, given, len(raw), found, len(raw))
     if status:
         raise Refused(status)
     return [_answer(it) for it in found]

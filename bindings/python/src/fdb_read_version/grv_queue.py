@@ -3,20 +3,20 @@ from __future__ import annotations
 
 from ctypes import byref, c_uint64
 from dataclasses import dataclass
-from typing import Iterable, List, Optional, Tuple, Union
+from typing import Any, Iterable, List, Optional, Tuple, Union
 
+from ._handle import Handle
 from ._library import (
     RawConfig,
-    RawHandle,
     RawLimit,
     RawOp,
     RawOutcome,
     RawRequest,
     RawTurnedAway,
     library,
-    number,
 )
-from ._status import Named, Refused, Status
+from ._status import Refused, Status
+from ._values import Named, Text, instance, named, number, octets
 
 _OFFER, _WINDOW, _POP = 0, 1, 2
 _MOST_STARTED = 10_000
@@ -30,9 +30,13 @@ class Priority(Named):
     BATCH = 2
 
 
-@dataclass(frozen=True)
+@dataclass(frozen=True, order=True)
 class QueueConfig:
-    """The rates, in transactions for each two seconds, and the most requests that wait."""
+    """The rates, in transactions for each two seconds, and the most requests that wait.
+
+    `normal` is 1 to 100,000, `batch` 0 to 100,000 (with 0 no batch request is let in) and `room` 1
+    to 100,000.
+    """
 
     normal: int
     batch: int
@@ -44,30 +48,33 @@ class QueueConfig:
         )
 
 
-@dataclass(frozen=True)
+@dataclass(frozen=True, order=True)
 class Request:
-    """A request for a read version: how many transactions it starts, and what it carries."""
+    """A request for a read version, for `count` transactions, and what it carries (`payload`).
+
+    `count` is 1 to 100,000, and of a batch request at most `normal` + 10.
+    """
 
     count: int
     payload: int = 0
     priority: Priority = Priority.DEFAULT
 
 
-@dataclass(frozen=True)
+@dataclass(frozen=True, order=True)
 class Offer:
     """An operation: a request is offered."""
 
     request: Request
 
 
-@dataclass(frozen=True)
+@dataclass(frozen=True, order=True)
 class Window:
-    """An operation: a window is held, so many microseconds after the last one."""
+    """An operation: a window is held, `elapsed` microseconds (1 to 10,000,000) after the last."""
 
     elapsed: int
 
 
-@dataclass(frozen=True)
+@dataclass(frozen=True, order=True)
 class Pop:
     """An operation: the first request of the row is taken out."""
 
@@ -76,8 +83,10 @@ class Pop:
 class Outcome:
     """What came of an operation, and what the queue then is.
 
-    `started` has the requests that a window started, in order, `out` the one that was pushed out or
-    taken out. Of a budget 2,000,000 are a transaction. `status` is OK but in what `outcomes` gives.
+    `normal` and `batch` are the budgets, of which 2,000,000 are a transaction; `waits` says how many
+    system, default and batch requests wait; `started` has the requests that a window started, in
+    order, and `out` the one that was pushed out or taken out. `status` is OK but in what `outcomes`
+    gives.
     """
 
     normal: int
@@ -88,7 +97,7 @@ class Outcome:
     status: Status = Status.OK
 
 
-@dataclass(frozen=True)
+@dataclass(frozen=True, order=True)
 class TurnedAway:
     """A batch request that new rates turned away: BAD_COUNT or BATCH_THROTTLED, and the request."""
 
@@ -96,9 +105,9 @@ class TurnedAway:
     request: Request
 
 
-@dataclass(frozen=True)
+@dataclass(frozen=True, order=True)
 class Limit:
-    """A throttle: transactions per second, and the moment from which on it holds no longer."""
+    """A throttle: `rate` transactions per second, until the moment `expires` (microseconds)."""
 
     rate: int
     expires: int
@@ -119,159 +128,146 @@ def _outcome(raw: RawOutcome, started: Iterable[RawRequest] = ()) -> Outcome:
     )
 
 
-class GrvQueue:
+class GrvQueue(Handle):
     """The requests that wait at a GRV proxy, and the budgets by which they start.
 
     `Refused` says BAD_CONFIG or MEMORY.
+
+    Threads may share one: their calls wait for one another. It is freed by `close`, at the end of a
+    `with`, or when nobody has it any more, and can be neither copied nor pickled.
     """
 
-    def __init__(self, config: QueueConfig) -> None:
-        self._handle = RawHandle()
-        self._room = min(config.room, _MOST_STARTED)
-        status = library.fdb_queue_new(byref(config._raw()), byref(self._handle))
-        if status:
-            raise Refused(status)
-        self._started = (RawRequest * self._room)()
+    _free = library.fdb_queue_free
 
-    def _open(self) -> RawHandle:
-        if not self._handle.at:
-            raise ValueError("the queue is closed")
-        return self._handle
+    def __init__(self, config: QueueConfig) -> None:
+        raw = instance("config", config, QueueConfig)._raw()
+        self._open(library.fdb_queue_new, byref(raw))
+        # Arrays of what windows started, which the calls of no thread use now.
+        self._spare: List[Any] = []
+        self._most = min(raw.room, _MOST_STARTED)
 
     def offer(
         self, count: int = 1, payload: int = 0, priority: Priority = Priority.DEFAULT
     ) -> Outcome:
-        """Lets a request in; where the queue is full, `out` is who is pushed out.
+        """Lets a request of `count` transactions in; where the queue is full, `out` is pushed out.
 
-        `Refused` says BAD_COUNT, BATCH_THROTTLED, FULL or MEMORY; the queue is then as it was.
+        That is the oldest of a lower priority, batch requests first. `Refused` says BAD_COUNT,
+        BATCH_THROTTLED, FULL or MEMORY, the first that stands; the queue is then as it was.
         """
-        request = RawRequest(number("count", count), number("payload", payload), Priority(priority))
-        raw = RawOutcome()
-        status = library.fdb_queue_offer(byref(self._open()), byref(request), byref(raw))
-        if status:
-            raise Refused(status)
+        request, raw = _raw_request(count, payload, priority), RawOutcome()
+        self._asked(library.fdb_queue_offer, byref(request), byref(raw))
         return _outcome(raw)
 
     def window(self, elapsed: int) -> Outcome:
-        """Holds a window, `elapsed` microseconds after the last one, and starts who may start.
+        """Holds a window, `elapsed` microseconds (1 to 10,000,000) after the last one.
 
-        `Refused` says BAD_CONFIG, for a time out of range, or MEMORY; the queue is then as it was.
+        It starts the longest prefix of all that wait that the budgets allow, of 10,000 requests at
+        most. `Refused` says BAD_CONFIG, for a time out of range, or MEMORY; the queue is then as it
+        was.
         """
-        raw = RawOutcome()
-        status = library.fdb_queue_window(
-            byref(self._open()),
-            number("elapsed", elapsed),
-            byref(raw),
-            self._started,
-            len(self._started),
-        )
-        if status:
-            raise Refused(status)
-        return _outcome(raw, self._started[: raw.started])
+        raw, time, spare = RawOutcome(), number("elapsed", elapsed), self._spare
+        try:
+            started = spare.pop()
+        except IndexError:
+            started = (RawRequest * self._most)()
+        self._asked(library.fdb_queue_window, time, byref(raw), started, len(started))
+        outcome = _outcome(raw, started[: raw.started])
+        spare.append(started)
+        return outcome
 
     def pop(self) -> Outcome:
         """Takes the first request of the row out, whatever the rates say of it."""
         raw = RawOutcome()
-        library.fdb_queue_pop(byref(self._open()), byref(raw))
+        self._call(library.fdb_queue_pop, byref(raw))
         return _outcome(raw)
 
     def set_rates(self, normal: int, batch: int) -> List[TurnedAway]:
-        """Sets the two rates, from the next window on; capacity, budgets and throttles stay.
+        """Sets the two rates, as in `QueueConfig`, from the next window on.
 
-        It gives the batch requests that wait and that a new queue of these rates would refuse, in
-        order; all others wait on. `Refused` says BAD_CONFIG, for a rate out of range, or MEMORY; the
-        queue is then as it was.
+        Capacity, budgets and throttles stay. It gives the batch requests that wait and that a new
+        queue of these rates would refuse, in order; all others wait on. `Refused` says BAD_CONFIG,
+        for a rate out of range, or MEMORY; the queue is then as it was.
         """
-        queue, size = byref(self._open()), c_uint64()
-        rates = number("normal", normal), number("batch", batch)
+        rates, size = (number("normal", normal), number("batch", batch)), c_uint64()
         status = int(Status.ROOM)
         while status == Status.ROOM:
             gone = (RawTurnedAway * size.value)()
-            status = library.fdb_queue_set_rates(queue, *rates, gone, len(gone), byref(size))
+            given = (*rates, gone, len(gone), byref(size))
+            status = self._call(library.fdb_queue_set_rates, *given)
         if status:
             raise Refused(status)
         return [TurnedAway(Status(it.cause), _request(it.request)) for it in gone[: size.value]]
 
     def waits(self, elapsed: int) -> Optional[int]:
-        """How many windows of this length start nothing before one starts the first of the row.
+        """How many windows of `elapsed` microseconds start nothing before one starts the first.
 
-        It is None where that one does not wait for its own rate alone.
+        That is the first of the row. It is None where that one does not wait for its own rate alone.
         """
         windows = c_uint64()
-        queue = byref(self._open())
-        told = library.fdb_queue_waits(queue, number("elapsed", elapsed), byref(windows))
+        time = number("elapsed", elapsed)
+        told = self._call(library.fdb_queue_waits, time, byref(windows))
         return windows.value if told else None
 
-    def set_throttle(self, priority: Priority, tag: bytes, rate: int, expires: int) -> None:
-        """Sets the throttle of a tag, in the place of an older one, until the moment `expires`.
+    def set_throttle(self, priority: Priority, tag: Text, rate: int, expires: int) -> None:
+        """Sets the throttle of a tag, of at most 16 bytes, in the place of an older one.
 
-        `Refused` says TAG_TOO_LONG or MEMORY; the queue is then as it was.
+        `rate` is in transactions per second, and it holds until the moment `expires`, in
+        microseconds. `Refused` says TAG_TOO_LONG or MEMORY; the queue is then as it was. The queue
+        itself does not ask for throttles.
         """
-        status = library.fdb_queue_set_throttle(
-            byref(self._open()),
-            Priority(priority),
-            tag,
-            len(tag),
-            number("rate", rate),
-            number("expires", expires),
-        )
-        if status:
-            raise Refused(status)
+        limit = number("rate", rate), number("expires", expires)
+        self._asked(library.fdb_queue_set_throttle, *_tag(priority, tag), *limit)
 
-    def throttle(self, priority: Priority, tag: bytes, at: int) -> Optional[Limit]:
-        """The throttle of a tag that holds at a moment, if there is one. `Refused` says MEMORY."""
-        raw = RawLimit()
-        status = library.fdb_queue_throttle(
-            byref(self._open()), Priority(priority), tag, len(tag), number("at", at), byref(raw)
-        )
-        if status:
-            raise Refused(status)
+    def throttle(self, priority: Priority, tag: Text, at: int) -> Optional[Limit]:
+        """The throttle of a tag that holds at a moment, in microseconds, if there is one.
+
+        `Refused` says MEMORY.
+        """
+        raw, moment = RawLimit(), number("at", at)
+        self._asked(library.fdb_queue_throttle, *_tag(priority, tag), moment, byref(raw))
         return Limit(raw.rate, raw.expires) if raw.holds else None
 
     def forget_throttles(self, at: int) -> None:
-        """Forgets each throttle that expires at this moment or before.
+        """Forgets each throttle that expires at this moment, in microseconds, or before.
 
         From it on all answers are as if none were forgotten.
         """
-        library.fdb_queue_forget_throttles(byref(self._open()), number("at", at))
-
-    def close(self) -> None:
-        """Frees the queue. A second call does nothing."""
-        if self._handle.at:
-            library.fdb_queue_free(byref(self._handle))
-
-    def __enter__(self) -> "GrvQueue":
-        return self
-
-    def __exit__(self, *_: object) -> None:
-        self.close()
-
-    def __del__(self) -> None:
-        if hasattr(self, "_handle"):
-            self.close()
+        self._call(library.fdb_queue_forget_throttles, number("at", at))
 
 
-def _op(op: Union[Offer, Window, Pop]) -> RawOp:
+def _tag(priority: Priority, tag: Text) -> Tuple[Priority, bytes, int]:
+    given = octets("tag", tag)
+    return named("priority", priority, Priority), given, len(given)
+
+
+def _raw_request(count: int, payload: int, priority: Priority) -> RawRequest:
+    given = number("count", count), number("payload", payload)
+    return RawRequest(*given, named("priority", priority, Priority))
+
+
+def _raw_op(op: Union[Offer, Window, Pop]) -> RawOp:
     if isinstance(op, Offer):
-        it = op.request
-        count, payload = number("count", it.count), number("payload", it.payload)
-        return RawOp(count, payload, _OFFER, Priority(it.priority))
+        it = instance("a request", op.request, Request)
+        raw = _raw_request(it.count, it.payload, it.priority)
+        return RawOp(raw.count, raw.payload, _OFFER, raw.priority)
     if isinstance(op, Window):
         return RawOp(number("elapsed", op.elapsed), 0, _WINDOW, 0)
-    return RawOp(0, 0, _POP, 0)
+    if isinstance(op, Pop):
+        return RawOp(0, 0, _POP, 0)
+    raise TypeError(f"an operation is no Offer, Window or Pop: {op!r}")
 
 
 def outcomes(config: QueueConfig, ops: Iterable[Union[Offer, Window, Pop]]) -> List[Outcome]:
-    """The outcomes of these operations on a new queue, in order; its `status` says a refusal.
+    """The outcomes of these operations on a new queue, in order; the `status` of each says a refusal.
 
     `Refused` is raised where the configuration is out of range, or memory is refused.
     """
-    raw = [_op(it) for it in ops]
+    raw = [_raw_op(it) for it in ops]
     given, found, size = (RawOp * len(raw))(*raw), (RawOutcome * len(raw))(), c_uint64()
     # (no more start than are offered)
     started = (RawRequest * len(raw))()
     status = library.fdb_queue_outcomes(
-        byref(config._raw()),
+        byref(instance("config", config, QueueConfig)._raw()),
         given,
         len(raw),
         found,

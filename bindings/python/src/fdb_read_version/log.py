@@ -3,10 +3,12 @@ from __future__ import annotations
 
 from ctypes import byref, c_uint8, c_uint64
 from dataclasses import dataclass
-from typing import Any, Callable, Iterable, List, Optional, Union
+from typing import Any, Iterable, List, Optional, Tuple, Union, cast
 
-from ._library import RawCall, RawFault, RawOptions, RawRefused, library, number
-from ._status import Named, Refused, Status
+from ._handle import Handle, written
+from ._library import RawCall, RawFault, RawOptions, RawRefused, library
+from ._status import Refused, Status
+from ._values import Named, Text, flag, instance, named, number, octets
 
 _ROOM_FOR_TEXT = 4096
 
@@ -58,32 +60,38 @@ class Means(Named):
 class Call:
     """A line of a log: what was done, and the version that it got or reported.
 
-    `client` is any number of 32 bits for who made the call; `began` and `ended` are in any one
-    unit, on all lines or on none, and `ended` is None where it is not known. Without times every
-    line names its client, and one that has learnt what another knew is
-    `Call(Member.LEARN, client=1, teller=0)`.
+    `kind` is READ, COMMIT, ASK, REPORT or LEARN. `client` is any number of 32 bits for who made the
+    call; `began` and `ended` are in any one unit, on all lines or on none, and `ended` is None where
+    it is not known. Without times every line names its client, and one that has learnt what another
+    knew, the `teller`, has no version: `Call(Member.LEARN, client=1, teller=0)`. A call above is the
+    teller's.
     """
 
     kind: Member
-    version: int = 0
+    version: Optional[int] = None
     client: Optional[int] = None
     began: Optional[int] = None
     ended: Optional[int] = None
-    teller: int = 0
+    teller: Optional[int] = None
 
     def _raw(self) -> RawCall:
-        if self.began is None and self.ended is not None:
+        kind, version, client = named("kind", self.kind, Member), self.version, self.client
+        began, ended, teller = self.began, self.ended, self.teller
+        is_learn = kind is Member.LEARN
+        if began is None and ended is not None:
             raise ValueError(f"a call ended, and did not begin: {self}")
+        if (version is None) != is_learn or (teller is None) == is_learn:
+            raise ValueError(f"a LEARN has a teller alone, and any other call a version: {self}")
         return RawCall(
-            number("version", self.version),
-            number("began", self.began or 0),
-            number("ended", self.ended or 0),
-            number("client", self.client or 0, 32),
-            number("teller", self.teller, 32),
-            number("kind", self.kind, 8),
-            self.client is not None,
-            self.began is not None,
-            self.ended is not None,
+            0 if version is None else number("version", version),
+            0 if began is None else number("began", began),
+            0 if ended is None else number("ended", ended),
+            0 if client is None else number("client", client, 32),
+            0 if teller is None else number("teller", teller, 32),
+            kind,
+            client is not None,
+            began is not None,
+            ended is not None,
         )
 
 
@@ -102,7 +110,11 @@ class Known:
 
 @dataclass(frozen=True)
 class Fault:
-    """A fault, the line at which it stands, counted from 0, and why it stands."""
+    """A fault, the line at which it stands, and why it stands. Lines are counted from 0.
+
+    `other` is the line that reported the version (REPORTED) or drew it (DRAWN), and `known` what was
+    known (KNOWN, REPORTED); else each is None.
+    """
 
     line: int
     kind: FaultKind
@@ -117,37 +129,33 @@ class LogRefused(Refused):
     Where it is a text without a line, `line` is 0.
     """
 
-    def __init__(self, status: int, line: int, member: int) -> None:
+    def __init__(self, status: int, line: int, member: Optional[int] = None) -> None:
         super().__init__(status)
         self.line = line
         self.member = Member(member) if member else None
-        at_line = f" {line}" if line else ""
+        self.args = (self.status, line, self.member)
+
+    def __str__(self) -> str:
+        at_line = f" {self.line}" if self.line else ""
         of_member = f" {self.member.name.lower()}" if self.member else ""
-        self.args = (f"{self.status.name}{at_line}{of_member}",)
-
-    def __eq__(self, other: object) -> bool:
-        if not isinstance(other, LogRefused):
-            return NotImplemented
-        return (self.status, self.line, self.member) == (other.status, other.line, other.member)
-
-    def __hash__(self) -> int:
-        return hash((self.status, self.line, self.member))
+        return f"{self.status.name}{at_line}{of_member}"
 
 
-Log = Union[bytes, str, Iterable[Call]]
+Log = Union[Text, Iterable[Call]]
 
 
 def audit(log: Log, *, complete: Optional[int] = None, margin: int = 0) -> List[Fault]:
     """All faults of a log, by line: none exactly where some history explains it.
 
-    The log is JSON Lines, as docs/FORMATS.md has them, or an iterable of `Call`. `complete` is the
-    version that all began with, where the log has all calls; `margin` says how far the clocks of
-    two clients may be apart. `LogRefused` is raised where a line is wrong or a text has none, and
-    `Refused` says MEMORY.
+    The log is JSON Lines, as docs/FORMATS.md has them, as bytes or a text, or an iterable of `Call`.
+    `complete` is the version that all began with, where the log has all calls; `margin` says how far
+    the clocks of two clients may be apart, in the unit of the times. `LogRefused` is raised where a
+    line is wrong or a text has none, and `Refused` says MEMORY.
     """
     options = _options(complete, margin)
-    given, count, name = _given(log)
-    return [_fault(it) for it in _told(f"fdb_audit_{name}_faults", given, options, RawFault, count)]
+    given, lines, name = _log(log)
+    _, found, size = _told(f"fdb_audit_{name}_faults", given, options, RawFault, lines)
+    return [_fault(it) for it in found[:size]]
 
 
 def audit_text(
@@ -158,50 +166,118 @@ def audit_text(
     all: bool = False,
     history: bool = False,
 ) -> str:
-    """What `fdb_audit` prints of a log: how much a verdict without a fault stands on, with an order
-    that explains the lines where `history` is wanted; or the first fault, or all, and why.
+    """What `fdb_audit` prints of a log, as `audit` takes it.
 
-    As `audit`. An array of calls names a client by its number.
+    That is the first fault, or with `all` each, and why; or how much a verdict without a fault
+    stands on, and with `history` an order that explains the lines. An iterable of `Call` names a
+    client by its number.
     """
+    given, _, name = _log(log)
+    if name == "log" and (all or history):
+        # (what may be long is found once, whatever room it needs)
+        with Audit(complete=complete, margin=margin, all=all, history=history) as found:
+            found.push(given)
+            found.end()
+            return found.text()
     options = _options(complete, margin, all, history)
-    given, _count, name = _given(log)
-    text = _told(f"fdb_audit_{name}_text", given, options, c_uint8, _ROOM_FOR_TEXT)
-    return bytes(text).decode()
+    _, text, size = _told(f"fdb_audit_{name}_text", given, options, c_uint8, _ROOM_FOR_TEXT)
+    return str(memoryview(text)[:size], "utf-8")
+
+
+class Audit(Handle):
+    """An audit of JSON Lines that come piece by piece, and then what it found.
+
+    It keeps the log's lines and not their bytes. `complete` and `margin` are those of `audit`, `all`
+    and `history` those of `audit_text`. `Refused` says MEMORY.
+
+    Threads may share one: their calls wait for one another. It is freed by `close`, at the end of a
+    `with`, or when nobody has it any more, and can be neither copied nor pickled.
+    """
+
+    _free = library.fdb_audit_free
+
+    def __init__(
+        self,
+        *,
+        complete: Optional[int] = None,
+        margin: int = 0,
+        all: bool = False,
+        history: bool = False,
+    ) -> None:
+        options = _options(complete, margin, all, history)
+        self._open(library.fdb_audit_new, byref(options))
+
+    def push(self, piece: Text) -> None:
+        """Takes the next bytes of the log, cut anywhere.
+
+        `LogRefused` is raised as soon as a line is wrong, whatever may come after it. That ends the
+        audit, as MEMORY does; `Refused` says OVER where it was over before.
+        """
+        given, refused = octets("a piece", piece), RawRefused()
+        verdict(self._call(library.fdb_audit_push, given, len(given), byref(refused)), refused)
+
+    def end(self) -> Status:
+        """Audits the log, which ends here: OK or FAULT. The audit is then over.
+
+        It is refused as `push` is; where no line came, as EMPTY.
+        """
+        refused = RawRefused()
+        return verdict(self._call(library.fdb_audit_end, byref(refused)), refused)
+
+    def text(self) -> str:
+        """What was found, as `audit_text` has it: empty where nothing was found yet."""
+        return str(self._call(written, library.fdb_audit_text, c_uint8), "utf-8")
+
+    def faults(self) -> List[Fault]:
+        """All faults that were found, by line."""
+        return [_fault(it) for it in self._call(written, library.fdb_audit_faults, RawFault)]
 
 
 def _options(
     complete: Optional[int], margin: int, all: bool = False, history: bool = False
 ) -> RawOptions:
-    start = number("complete", complete or 0)
-    return RawOptions(start, number("margin", margin), complete is not None, all, history)
+    return RawOptions(
+        0 if complete is None else number("complete", complete),
+        number("margin", margin),
+        complete is not None,
+        flag("all", all),
+        flag("history", history),
+    )
 
 
-def _given(log: Log) -> Any:
+def _log(log: Log) -> Tuple[Any, int, str]:
     """What goes to the library, how many lines it may have, and the word of the call for it."""
-    if isinstance(log, (bytes, str)):
-        text = log.encode() if isinstance(log, str) else log
+    try:
+        text = octets("the log", cast(Text, log))
         return text, text.count(b"\n") + 1, "log"
-    raw = [it._raw() for it in log]
+    except TypeError:
+        if not isinstance(log, Iterable):
+            raise
+    raw = [instance("a line", it, Call)._raw() for it in cast("Iterable[Call]", log)]
     return (RawCall * len(raw))(*raw), len(raw), "calls"
 
 
-def _told(name: str, given: Any, options: RawOptions, element: Any, room: int) -> Any:
-    """What a call writes, with as much room as that needs."""
-    call: Callable[..., int] = getattr(library, name)
-    size, refused = c_uint64(), RawRefused()
+def _told(
+    name: str, given: Any, options: RawOptions, element: Any, room: int
+) -> Tuple[Status, Any, int]:
+    """The verdict, and what a call writes, in an array that has room for it, and how much that is."""
+    call, size, refused = getattr(library, name), c_uint64(), RawRefused()
     while True:
         found = (element * room)()
-        status = call(
-            given, len(given), byref(options), found, room, byref(size), byref(refused)
-        )
+        status = call(given, len(given), byref(options), found, room, byref(size), byref(refused))
         if status != Status.ROOM:
             break
         room = size.value
-    if status == Status.MEMORY:
+    return verdict(status, refused), found, size.value
+
+
+def verdict(status: int, refused: RawRefused) -> Status:
+    """OK or FAULT, or else a refusal, which is raised."""
+    if status in (Status.MEMORY, Status.OVER):
         raise Refused(status)
     if status not in (Status.OK, Status.FAULT):
         raise LogRefused(status, refused.line, refused.member)
-    return found[: size.value]
+    return Status(status)
 
 
 def _fault(raw: RawFault) -> Fault:

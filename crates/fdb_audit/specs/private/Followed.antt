@@ -1,5 +1,5 @@
 -- What the parts of a follower hold of the lines that were read. (this product's own)
-use Rattle.std.specs.Prelude.{◌≡◌, ℕ, ◌+◌, ◌<◌, ◌^◌, ◌++◌, List, All, length, map, string_bytes, Option, Result}
+use Rattle.std.specs.Prelude.{◌≡◌, ℕ, ◌++◌, List, All, length, map, string_bytes, Result}
 use Rattle.std.specs.Option.{option_or}
 use Rattle.fdb_log_reader.specs.declared.error.Why.{Why}
 use Rattle.fdb_log_reader.specs.ReadLine.{SaidLine}
@@ -9,16 +9,16 @@ pub use Rattle.fdb_audit.specs.Taken.{AreNumbered, AreTaken}
 use Rattle.fdb_audit.specs.declared.teller.Teller.{Teller}
 use Rattle.fdb_audit.specs.declared.teller.ToldArguments.{ToldArguments}
 use Rattle.fdb_audit.specs.declared.told_faults.Column.{Column}
-use Rattle.fdb_audit.specs.Following.{AreWindows, Counted, FollowArguments, Window, first_told, keys_taken, lines_taken, taken, taken_above}
+use Rattle.fdb_audit.specs.Following.{AreWindows, Counted, FollowArguments, KeptNumbers, Window, first_told}
 
 -- What is told more, once these lines have been read, whose clients have these names.
-pub record TellsOn (old new : Teller) (margin : ℕ) (read : List (Result SaidLine Why)) (names : List (List ℕ)) : Type 0 where
+pub record TellsOn (kept : KeptNumbers) (old new : Teller) (margin : ℕ) (read : List (Result SaidLine Why)) (names : List (List ℕ)) : Type 0 where
   pub windows : List Window
   pub at : All (λ (window : Window). window.read ≡ length read) windows
   pub text : List ℕ
-  pub told : AreWindows margin new.wanted read names windows text
+  pub told : AreWindows kept margin new.wanted read names windows text
   pub appended : string_bytes new.text ≡ string_bytes old.text ++ text
-  pub first : new.first ≡ option_or old.first (first_told read windows)
+  pub first : new.first ≡ option_or old.first (first_told kept read windows)
   pub wanted : new.wanted ≡ old.wanted
 
 -- how much was read

@@ -5,8 +5,8 @@ use Rattle.clap.specs.Words.{Text}
 use Rattle.fdb_command.specs.Driving.{Promise, Stops}
 use Rattle.fdb_command.specs.Input.{MayBeRead}
 use Rattle.fdb_command.specs.Output.{TakesAny}
-use Rattle.fdb_command.specs.declared.fault.Fault.{Fault}
-use Rattle.fdb_command.specs.declared.fault.Fault.TheVariants.{Reading, Writing}
+use Rattle.fdb_command.specs.declared.failure.Failure.{Failure}
+use Rattle.fdb_command.specs.declared.failure.Failure.TheVariants.{Reading, Writing}
 
 -- this text was written, whole; the writer was not touched where it is empty
 abbrev pub IsPut : {W : Type 0} → (W → Option (List ℕ)) → List ℕ → W → W → Type 0
@@ -26,12 +26,12 @@ pub record IsTaken {O I E F W : Type 0} (program : Promise O I E F) (options : O
   pub put : IsPut contents told before after
 
 -- the input could not be read, or what was told could not be written
-abbrev pub IsFailure : {E F : Type 0} → Fault E F → Type 0
+abbrev pub IsFailure : {E F : Type 0} → Failure E F → Type 0
 IsFailure fault = (fault ≡ Reading) ⊎ (fault ≡ Writing)
 
 -- a program stops so at what may have been read of them, at the arguments that its flags are of
 pub record MayStop {O I E F : Type 0} (program : Promise O I E F) (options : O)
-    (file : Option Text) (remaining : Option (List ℕ)) (fault : Fault E F) : Type 0 where
+    (file : Option Text) (remaining : Option (List ℕ)) (fault : Failure E F) : Type 0 where
   pub bytes : List ℕ
   pub read : MayBeRead file remaining bytes
   pub stops : (arguments : List Text) → program.asks arguments options
@@ -49,7 +49,7 @@ pub record TakesOn {O I E F : Type 0} (program : Promise O I E F) (intake next :
 -- A program stops so at what is gone from the input, which is no more than so many bytes, and at
 -- whatever comes after; or it could not be read.
 pub record StopsAt {O I E F : Type 0} (program : Promise O I E F) (intake : I) (most : ℕ)
-    (before after : Option (List ℕ)) (fault : Fault E F) : Type 0 where
+    (before after : Option (List ℕ)) (fault : Failure E F) : Type 0 where
   pub bytes : List ℕ
   pub few : length bytes ≤ most
   pub gone : Consumes before after bytes

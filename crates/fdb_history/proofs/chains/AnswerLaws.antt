@@ -1,6 +1,7 @@
 -- The laws of answers: what is kept, and that requests make a chain.
 use Rattle.std.proofs.Common.{◌≡◌, ℕ, zero, suc, ◌+◌, ◌-◌, ◌<◌, ◌≤◌, Bool, true, false, cond, not, ◌&&◌, List, [], ◌∷◌, ◌++◌, reverse, length, take, slice_get, Option, Some, None, Ok, Err, refl, sym, ap, ◌∙◌, subst, le_refl, arith, eqb, ltb, leb, eqb-true, find}
-use Rattle.std.proofs.lemmas.Bool.{cond-true, cond-false, eq-eqb, and_parts, ltb-false, leb-true, leb-false, false_from_ne_true}
+use Rattle.std.proofs.lemmas.Grind.{common_steps}
+use Rattle.std.proofs.lemmas.Bool.{cond-true, cond-false, and_parts, false_from_ne_true}
 use Rattle.std.proofs.lemmas.Bool.Decides.{nat_tests}
 use Rattle.std.proofs.lemmas.Option.{same_Some, none-some, slice_get_within, slice_get-get_or, get_or_from_slice_get}
 use Rattle.std.proofs.lemmas.List.{append-nil, append_assoc, get_or-reverse, length-reverse, take_at, take_all}
@@ -67,11 +68,7 @@ latest-cons proxy = sum_by-cons (one_of proxy)
 latest-beyond : (proxy : ℕ) (answers : List Issued) (j k : ℕ) (earlier : Issued) → slice_get answers j ≡ Some earlier → earlier.proxy ≡ proxy → j < k → latest proxy (take j answers) < latest proxy (take k answers)
 latest-beyond proxy [] j k earlier at is order = absurd (none-some earlier at)
 latest-beyond proxy (first ∷ answers) j zero earlier at is order = absurd (omega arith)
-latest-beyond proxy (first ∷ answers) zero (suc k) earlier at is order =
-    let same = ap (λ (a : Issued). a.proxy) (same_Some first earlier at) ∙ is in
-    let one : one_of proxy first ≡ 1 = cond-true (eqb first.proxy proxy) 1 0 (eq-eqb first.proxy proxy same) in
-    let count = latest-cons proxy first (take k answers) in
-    omega arith
+latest-beyond proxy (first ∷ answers) zero (suc k) earlier at is order = grind (arith, common_steps, nat_tests)
 latest-beyond proxy (first ∷ answers) (suc j) (suc k) earlier at is order =
     let order' : j < k = omega arith in
     let deeper = latest-beyond proxy answers j k earlier at is order' in
@@ -138,10 +135,7 @@ leaves-by P chain ask true early old room e o r is grows = is
 leaves-by P chain ask false true old room e o r is grows = is
 leaves-by P chain ask false false true room e o r is grows = kept-leaves P chain (kept ask.proxy ask.num chain.answers) is
 leaves-by P chain ask false false false false e o r is grows = is
-leaves-by P chain ask false false false true e o r is grows =
-    let not_early = ltb-false (latest ask.proxy chain.answers + 1) ask.num e in
-    let not_old = leb-false ask.num (latest ask.proxy chain.answers) o in
-    grows (omega arith) (leb-true (next_answer chain ask).version MAX_VERSION r)
+leaves-by P chain ask false false false true e o r is grows = grind (arith, common_steps, nat_tests)
 
 -- A request leaves the chain as it was, or with the next answer, which has the next number of its proxy and is in range.
 pub request-leaves : (P : Chain → Type 0) (chain : Chain) (ask : Ask) → P chain → (ask.num ≡ latest ask.proxy chain.answers + 1 → (next_answer chain ask).version ≤ MAX_VERSION → P (with_next chain ask)) → P (chain_after chain (answer_to chain ask))

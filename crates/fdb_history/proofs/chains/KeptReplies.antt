@@ -1,6 +1,7 @@
 -- The replies of a proxy after one more answer.
 use Rattle.std.proofs.Common.{◌≡◌, ◌⊎◌, ℕ, zero, suc, ◌+◌, ◌-◌, ◌<◌, ◌≤◌, ◌==◌, cond, get_or, set, List, [], ◌∷◌, ◌++◌, length, reverse, All, IfSome, Option, None, Some, slice_get, ap, subst, sym, ◌∙◌, refl, inl, inr, arith, length-append}
 use Rattle.std.specs.Option.{option_and_then}
+use Rattle.std.proofs.lemmas.Grind.{common_steps}
 use Rattle.std.proofs.lemmas.Bool.{cases_lt, cases_eq}
 use Rattle.std.proofs.lemmas.Bool.Decides.{leb_tells, nat_tests}
 use Rattle.std.proofs.lemmas.List.{reverse-append}
@@ -21,26 +22,26 @@ kept-append proxy num answers answer = ap (kept_among proxy num) (reverse-append
 kept-append_other : (proxy num : ℕ) (answers : List Issued) (answer : Issued) → (answer.proxy ≡ proxy → ⊥) → kept proxy num (answers ++ answer ∷ []) ≡ kept proxy num answers
 kept-append_other proxy num answers answer other = rw (kept-append proxy num answers answer) (grind (arith, nat_tests))
 
-pub kept-append_new : (num : ℕ) (answers : List Issued) (answer : Issued) → answer.num ≡ num → kept answer.proxy num (answers ++ answer ∷ []) ≡ Some answer
+kept-append_new : (num : ℕ) (answers : List Issued) (answer : Issued) → answer.num ≡ num → kept answer.proxy num (answers ++ answer ∷ []) ≡ Some answer
 kept-append_new num answers answer new = rw (kept-append answer.proxy num answers answer) (grind (arith, nat_tests))
 
-pub kept-append_erased : (num : ℕ) (answers : List Issued) (answer : Issued) → (answer.num ≡ num → ⊥) → num ≤ answer.processed → kept answer.proxy num (answers ++ answer ∷ []) ≡ None
+kept-append_erased : (num : ℕ) (answers : List Issued) (answer : Issued) → (answer.num ≡ num → ⊥) → num ≤ answer.processed → kept answer.proxy num (answers ++ answer ∷ []) ≡ None
 kept-append_erased num answers answer old erased = rw (kept-append answer.proxy num answers answer) (grind (arith, nat_tests))
 
-pub kept-append_old : (num : ℕ) (answers : List Issued) (answer : Issued) → (answer.num ≡ num → ⊥) → answer.processed < num → kept answer.proxy num (answers ++ answer ∷ []) ≡ kept answer.proxy num answers
+kept-append_old : (num : ℕ) (answers : List Issued) (answer : Issued) → (answer.num ≡ num → ⊥) → answer.processed < num → kept answer.proxy num (answers ++ answer ∷ []) ≡ kept answer.proxy num answers
 kept-append_old num answers answer old wanted = rw (kept-append answer.proxy num answers answer) (grind (arith, nat_tests))
 
 pub latest-append : (proxy : ℕ) (answers : List Issued) (answer : Issued) → latest proxy (answers ++ answer ∷ []) ≡ latest proxy answers + cond (answer.proxy == proxy) 1 0
 latest-append proxy answers answer = sum_by_push (λ old. cond (old.proxy == proxy) 1 0) answers answer
 
 -- the place under each number, after one more answer of the proxy
-pub place_of-new : (replies : KeptReplies) (place processed num : ℕ) → length replies.places + 1 ≡ num → place_of (replies_after replies place processed) num ≡ Some place
+place_of-new : (replies : KeptReplies) (place processed num : ℕ) → length replies.places + 1 ≡ num → place_of (replies_after replies place processed) num ≡ Some place
 place_of-new replies place processed num new =
     let e : num - 1 ≡ length replies.places = omega arith in
     let at_end : slice_get (replies.places ++ place ∷ []) (num - 1) ≡ Some place = rw e (slice_get-append_seam replies.places place) in
     grind (arith, nat_tests)
 
-pub place_of-erased : (replies : KeptReplies) (place processed num : ℕ) → (length replies.places + 1 ≡ num → ⊥) → num ≤ processed → place_of (replies_after replies place processed) num ≡ None
+place_of-erased : (replies : KeptReplies) (place processed num : ℕ) → (length replies.places + 1 ≡ num → ⊥) → num ≤ processed → place_of (replies_after replies place processed) num ≡ None
 place_of-erased replies place processed num old erased =
     elim (cases_lt num (length replies.places + 1)) [
       | inl before ↦ grind (arith, nat_tests)
@@ -49,7 +50,7 @@ place_of-erased replies place processed num old erased =
           grind (arith, nat_tests)
     ]
 
-pub place_of-old : (replies : KeptReplies) (place processed num : ℕ) → (length replies.places + 1 ≡ num → ⊥) → processed < num → place_of (replies_after replies place processed) num ≡ place_of replies num
+place_of-old : (replies : KeptReplies) (place processed num : ℕ) → (length replies.places + 1 ≡ num → ⊥) → processed < num → place_of (replies_after replies place processed) num ≡ place_of replies num
 place_of-old replies place processed num old wanted =
     elim (cases_lt num (length replies.places + 1)) [
       | inl before ↦
@@ -95,25 +96,18 @@ AreRepliesOf-other proxy answers answer replies other own =
       look_up = λ num. kept-append_other proxy num answers answer other ∙ (own.look_up num ∙ sym (reply-append answers answer replies num own.in_range));
     }
 
-reply-new : (answers : List Issued) (answer : Issued) (replies : KeptReplies) (num : ℕ) → length replies.places + 1 ≡ num → reply (answers ++ answer ∷ []) (replies_after replies (length answers) answer.processed) num ≡ Some answer
-reply-new answers answer replies num new =
-    ap (option_and_then (slice_get (answers ++ answer ∷ []))) (place_of-new replies (length answers) answer.processed num new) ∙ slice_get-append_seam answers answer
-
-look_up-own : (answers : List Issued) (answer : Issued) (replies : KeptReplies) → answer.num ≡ latest answer.proxy answers + 1 → AreRepliesOf answer.proxy answers replies → (num : ℕ) → kept answer.proxy num (answers ++ answer ∷ []) ≡ reply (answers ++ answer ∷ []) (replies_after replies (length answers) answer.processed) num
-look_up-own answers answer replies next own num =
+-- the answer under each number, after one more, where the entries are found by their places
+pub look_up-push : (entry : ℕ → Option Issued) (answers : List Issued) (answer : Issued) (replies : KeptReplies) (place : ℕ) → answer.num ≡ length replies.places + 1 → entry place ≡ Some answer
+    → ((num : ℕ) → kept answer.proxy num answers ≡ option_and_then entry (place_of replies num))
+    → (num : ℕ) → kept answer.proxy num (answers ++ answer ∷ []) ≡ option_and_then entry (place_of (replies_after replies place answer.processed) num)
+look_up-push entry answers answer replies place next here before num =
     elim (cases_eq answer.num num) [
-      | inl new ↦ kept-append_new num answers answer new ∙ sym (reply-new answers answer replies num (omega arith))
+      | inl new ↦ kept-append_new num answers answer new ∙ sym (ap (option_and_then entry) (place_of-new replies place answer.processed num (omega arith)) ∙ here)
       | inr old ↦
           let not_new : length replies.places + 1 ≡ num → ⊥ = λ e. old (omega arith) in
           elim (cases_lt answer.processed num) [
-            | inl wanted ↦
-                kept-append_old num answers answer old wanted
-                ∙ (own.look_up num
-                ∙ (sym (reply-append answers answer replies num own.in_range)
-                ∙ sym (ap (option_and_then (slice_get (answers ++ answer ∷ []))) (place_of-old replies (length answers) answer.processed num not_new wanted))))
-            | inr erased ↦
-                kept-append_erased num answers answer old erased
-                ∙ sym (ap (option_and_then (slice_get (answers ++ answer ∷ []))) (place_of-erased replies (length answers) answer.processed num not_new erased))
+            | inl wanted ↦ kept-append_old num answers answer old wanted ∙ before num ∙ sym (ap (option_and_then entry) (place_of-old replies place answer.processed num not_new wanted))
+            | inr erased ↦ kept-append_erased num answers answer old erased ∙ sym (ap (option_and_then entry) (place_of-erased replies place answer.processed num not_new erased))
           ]
     ]
 
@@ -123,7 +117,8 @@ AreRepliesOf-own answers answer replies next own =
     record {
       count = rw (latest-append answer.proxy answers answer, length-append replies.places (length answers ∷ [])) (grind (arith, nat_tests));
       in_range = All-push (λ place. place < length (answers ++ answer ∷ [])) replies.places (length answers) (in_range-append answers answer replies.places own.in_range) (omega (arith, length-append answers (answer ∷ [])));
-      look_up = look_up-own answers answer replies next own;
+      look_up = look_up-push (slice_get (answers ++ answer ∷ [])) answers answer replies (length answers) (next ∙ ap (λ n. n + 1) (sym own.count)) (slice_get-append_seam answers answer)
+          (λ num. own.look_up num ∙ sym (reply-append answers answer replies num own.in_range));
     }
 
 -- an item of a list of which one was replaced: the new one, or one that was there
@@ -132,11 +127,7 @@ slice_get-set_cases [] i j y x within at = absurd (none-some x at)
 slice_get-set_cases (z ∷ zs) zero zero y x within at = inl (refl, same_Some y x at)
 slice_get-set_cases (z ∷ zs) zero (suc j) y x within at = inr (λ e. cc e, at)
 slice_get-set_cases (z ∷ zs) (suc i) zero y x within at = inr (λ e. cc e, at)
-slice_get-set_cases (z ∷ zs) (suc i) (suc j) y x within at =
-    elim (slice_get-set_cases zs i j y x (omega arith) at) [
-      | inl w ↦ inl (ap suc w.0, w.1)
-      | inr w ↦ inr (λ e. w.0 (omega arith), w.1)
-    ]
+slice_get-set_cases (z ∷ zs) (suc i) (suc j) y x within at = grind (arith, common_steps, nat_tests, slice_get-set_cases zs i j y x (omega arith) at)
 
 -- the replies of all proxies, after the next answer, for one that had these
 pub AreRepliesOfAll-push : (epoch_end recovery : ℕ) (answers : List Issued) (all : List KeptReplies) (answer : Issued) (own : KeptReplies) → answer.proxy < length all → own ≡ get_or all answer.proxy own → IsNext epoch_end recovery answers answer → AreRepliesOfAll answers all → AreRepliesOfAll (answers ++ answer ∷ []) (set all answer.proxy (replies_after own answer.ordinal answer.processed))

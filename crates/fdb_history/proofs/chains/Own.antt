@@ -2,8 +2,9 @@
 use Rattle.std.proofs.Common.{◌≡◌, ℕ, ◌+◌, ◌-◌, ◌==◌, ◌&&◌, Bool, true, false, cond, List, [], ◌∷◌, ◌++◌, filter, length, slice_get, Option, Some, None, refl, ap, sym, ◌∙◌, subst, inl, inr, arith, append-nil, length-append}
 use Rattle.std.specs.List.{find}
 use Rattle.std.specs.Option.{option_map, option_map_or, option_and_then, option_or}
-use Rattle.std.proofs.lemmas.Bool.{and_parts, cases_eq, cases_lt, cases_order, cond-true, eq-eqb, eqb-true, ne_eqb, false≢true}
-use Rattle.std.proofs.lemmas.Bool.Decides.{eqb_tells, leb_tells, nat_tests}
+use Rattle.std.proofs.lemmas.Grind.{common_steps}
+use Rattle.std.proofs.lemmas.Bool.{and_parts, cases_eq, cases_lt, cond-true, eq-eqb, eqb-true, ne_eqb, false≢true}
+use Rattle.std.proofs.lemmas.Bool.Decides.{eqb_tells, nat_tests}
 use Rattle.std.proofs.lemmas.List.Concat.{flat_map-append}
 use Rattle.std.proofs.lemmas.List.Elements.{filter-append}
 use Rattle.std.proofs.lemmas.List.Folds.{find-append}
@@ -12,7 +13,7 @@ use Rattle.fdb_history.specs.Issuing.{by_number, kept}
 use Rattle.fdb_history.specs.private.Justifying.{drawn_version, own_after}
 use Rattle.fdb_history.specs.Chain.{latest}
 use Rattle.fdb_history.specs.Log.{answer_in, answers_in, fresh_answers}
-use Rattle.fdb_history.specs.Replies.{KeptReplies, no_replies, replies_after, reply}
+use Rattle.fdb_history.specs.Replies.{KeptReplies, place_of, replies_after, reply}
 use Rattle.fdb_history.specs.Strays.{goes_with, is_again, is_justified, is_justified_by, is_due, is_early, is_fresh_answer, is_of_chain, is_of_issued, is_rightly_locked_out, is_same, number_of}
 use Rattle.fdb_history.specs.declared.chain.Issued.{Issued}
 use Rattle.fdb_history.specs.declared.log.Call.{Call}
@@ -20,7 +21,7 @@ use Rattle.fdb_history.specs.declared.log.CallAnswer.{CallAnswer}
 use Rattle.fdb_history.specs.declared.log.CallAnswer.TheVariants.{Version, Answered, Acked, Told, Refused}
 use Rattle.fdb_history.specs.declared.log.Input.{Input}
 use Rattle.fdb_history.specs.declared.log.Input.TheVariants as input
-use Rattle.fdb_history.proofs.chains.KeptReplies.{kept-append_new, kept-append_erased, kept-append_old, latest-append, place_of-new, place_of-erased, place_of-old}
+use Rattle.fdb_history.proofs.chains.KeptReplies.{latest-append, look_up-push}
 use Rattle.fdb_history.proofs.Lists.{slice_get-append_left, slice_get-append_seam}
 use Rattle.fdb_history.proofs.chains.SameIssued.{is_same-equal}
 
@@ -43,9 +44,6 @@ pub record AreOwn (chain : List Issued) (client : ℕ) (answers fresh : List Iss
 -- the replies of a client after some calls
 abbrev pub OwnAfter : List Issued → ℕ → List Call → KeptReplies → Type 0
 OwnAfter chain client before own = AreOwn chain client (answers_in before) (fresh_answers before) own
-
-pub OwnAfter-none : (chain : List Issued) (client : ℕ) → OwnAfter chain client [] no_replies
-OwnAfter-none chain client = record { count = refl; look_up = λ num. grind (arith, nat_tests); issued = λ num. grind (arith, nat_tests) }
 
 -- ---- the version under each number, after one more answer
 
@@ -118,42 +116,23 @@ drawn_other chain own place processed num other =
 
 -- what is kept under a number was drawn under it
 kept_drawn : (chain : List Issued) (own : KeptReplies) (num : ℕ) (entry : Issued) → reply chain own num ≡ Some entry → drawn_version chain own num ≡ Some entry.version
-kept_drawn chain own num entry is =
-    elim (leb_tells num own.erased) [
-      | inl w ↦ absurd (none-some entry (sym (ap (λ b. option_and_then (slice_get chain) (cond b None (slice_get own.places (num - 1)))) w.0) ∙ is))
-      | inr w ↦
-          let some = ne_eqb num 0 (λ z. absurd (omega (arith, w.1, z))) in
-          ap (option_map version_of) (ap (λ b. option_and_then (slice_get chain) (cond b None (slice_get own.places (num - 1)))) (some ∙ sym w.0) ∙ is)
-    ]
+kept_drawn chain own num entry is = grind (arith, common_steps, nat_tests)
 
 -- ---- one more answer
+
+-- the entry at a place, as it was drawn
+abbrev entry_at : List Issued → ℕ → Option Issued
+entry_at chain place = option_map as_fresh (slice_get chain place)
+
+entry_found : (chain : List Issued) (place : Option ℕ) → option_and_then (entry_at chain) place ≡ option_map as_fresh (option_and_then (slice_get chain) place)
+entry_found chain None = refl
+entry_found chain (Some place) = refl
 
 -- after a fresh answer, which is the chain's entry at its ordinal under the client's next number
 module _ (chain : List Issued) (client : ℕ) (answers fresh : List Issued) (own : KeptReplies) (answer entry : Issued) (are : AreOwn chain client answers fresh own)
     (at : slice_get chain answer.ordinal ≡ Some entry) (same : answer ≡ as_fresh entry) (of_client : answer.proxy ≡ client) (next : answer.num ≡ length own.places + 1) where
   abbrev more : KeptReplies
   more = replies_after own answer.ordinal answer.processed
-
-  look_up-fresh : (num : ℕ) → kept answer.proxy num (fresh ++ answer ∷ []) ≡ option_map as_fresh (reply chain more num)
-  look_up-fresh num =
-      elim (cases_eq answer.num num) [
-        | inl this ↦
-            kept-append_new num fresh answer this
-            ∙ (ap Some same
-            ∙ sym (ap (λ place. option_map as_fresh (option_and_then (slice_get chain) place)) (place_of-new own answer.ordinal answer.processed num (omega arith)) ∙ ap (option_map as_fresh) at))
-        | inr other ↦
-            let not_new : length own.places + 1 ≡ num → ⊥ = λ e. other (omega arith) in
-            elim (cases_lt answer.processed num) [
-              | inl wanted ↦
-                  kept-append_old num fresh answer other wanted
-                  ∙ (ap (λ p. kept p num fresh) of_client
-                  ∙ (are.look_up num
-                  ∙ sym (ap (λ place. option_map as_fresh (option_and_then (slice_get chain) place)) (place_of-old own answer.ordinal answer.processed num not_new wanted))))
-              | inr erased ↦
-                  kept-append_erased num fresh answer other erased
-                  ∙ sym (ap (λ place. option_map as_fresh (option_and_then (slice_get chain) place)) (place_of-erased own answer.ordinal answer.processed num not_new erased))
-            ]
-      ]
 
   issued-fresh : (num : ℕ) → version_among (answers ++ answer ∷ []) num ≡ drawn_version chain more num
   issued-fresh num =
@@ -175,7 +154,11 @@ module _ (chain : List Issued) (client : ℕ) (answers fresh : List Issued) (own
             let more_by_one = latest-append client fresh answer in
             let count = are.count in
             omega (arith, length-append own.places (answer.ordinal ∷ []));
-        look_up = λ num. ap (λ p. kept p num (fresh ++ answer ∷ [])) (sym of_client) ∙ look_up-fresh num;
+        look_up = λ num.
+            ap (λ p. kept p num (fresh ++ answer ∷ [])) (sym of_client)
+            ∙ look_up-push (entry_at chain) fresh answer own answer.ordinal next (ap (option_map as_fresh) at ∙ ap Some (sym same))
+            (λ n. ap (λ p. kept p n fresh) of_client ∙ are.look_up n ∙ sym (entry_found chain (place_of own n))) num
+            ∙ entry_found chain (place_of more num);
         issued = issued-fresh;
       }
 
@@ -215,12 +198,7 @@ is_fresh issued = issued.fresh
 
 -- what is due to a number that is not the next one, or is
 due_cases : (latest_num num : ℕ) (again next : Bool) (P : Type 0) → by_number latest_num num false again next ≡ true → (again ≡ true → P) → (num ≡ latest_num + 1 → next ≡ true → P) → P
-due_cases latest_num num again next P due if_again if_next =
-    elim (cases_order num (latest_num + 1)) [
-      | inl same ↦ if_next same (grind (arith, nat_tests))
-      | inr (inl below) ↦ if_again (grind (arith, nat_tests))
-      | inr (inr above) ↦ let none : false ≡ true = grind (arith, nat_tests) in absurd (false≢true none)
-    ]
+due_cases latest_num num again next P due if_again if_next = grind (arith, common_steps, nat_tests)
 
 step-asked : (chain : List Issued) (client : ℕ) (answers fresh : List Issued) (own : KeptReplies) (num processed at : ℕ) (issued : Issued) → AreOwn chain client answers fresh own
     → is_of_chain chain client (input.Ask num processed at) (Answered issued) ≡ true → is_due chain (length own.places) (reply chain own num) (input.Ask num processed at) (Answered issued) ≡ true
@@ -277,17 +255,11 @@ OwnAfter-call chain client before own call are justified =
 again-as_fresh : (found : Option Issued) (answer : CallAnswer) → is_again (option_map as_fresh found) answer ≡ is_again found answer
 again-as_fresh None answer = refl
 again-as_fresh (Some entry) (Answered issued) = refl
-again-as_fresh (Some entry) (Version rec limits locked_out) = refl
-again-as_fresh (Some entry) (Acked rec raised changed) = refl
-again-as_fresh (Some entry) Told = refl
-again-as_fresh (Some entry) (Refused cause) = refl
+again-as_fresh (Some entry) _ = refl
 
 due-as_fresh : (chain : List Issued) (latest_num : ℕ) (found : Option Issued) (asked : Input) (answer : CallAnswer) → is_due chain latest_num (option_map as_fresh found) asked answer ≡ is_due chain latest_num found asked answer
 due-as_fresh chain latest_num found (input.Ask num processed at) answer = ap (λ b. by_number latest_num num (is_early (latest_num + 1) answer) b (is_fresh_answer chain processed at answer)) (again-as_fresh found answer)
-due-as_fresh chain latest_num found (input.Grv opts) answer = refl
-due-as_fresh chain latest_num found (input.Report num locked metadata min_known) answer = refl
-due-as_fresh chain latest_num found (input.Tell to) answer = refl
-due-as_fresh chain latest_num found (input.Learn from) answer = refl
+due-as_fresh chain latest_num found _ answer = refl
 
 pub justified-same : (chain : List Issued) (client : ℕ) (before : List Call) (own : KeptReplies) (call : Call) → OwnAfter chain client before own → is_justified chain client before call ≡ justified_of chain client own call
 justified-same chain client before own call are =

@@ -1,25 +1,28 @@
 -- From the logs to their events: what each call keeps to, each event keeps to; whose events they are; and the
 -- changes of both.
-use Rattle.std.proofs.Common.{◌≡◌, ℕ, zero, suc, ◌+◌, ◌<◌, ◌≤◌, ◌⊎◌, ◌==◌, Bool, true, false, IsTrue, List, [], ◌∷◌, ◌++◌, map, length, take, filter, flat_map, slice_get, option_to_list, Some, refl, ap, sym, ◌∙◌, append-nil, inl, inr, arith, le_trans}
+use Rattle.std.proofs.Common.{◌≡◌, ℕ, zero, suc, ◌+◌, ◌<◌, ◌≤◌, ◌⊎◌, ◌==◌, ◌&&◌, Bool, true, false, IsTrue, List, [], ◌∷◌, ◌++◌, map, length, take, filter, flat_map, slice_get, option_to_list, Some, refl, ap, sym, ◌∙◌, append-nil, inl, inr, arith, le_trans}
 use Rattle.std.specs.List.{AllByRecursion}
-use Rattle.std.proofs.lemmas.Bool.{and_from, and_parts, and_left, and_right, eq-eqb, ne_eqb, cases_eq, cases_lt, cases_Bool, false≢true}
-use Rattle.std.proofs.lemmas.List.Elements.{filter-append}
+use Rattle.std.proofs.lemmas.Grind.{common_steps}
+use Rattle.std.proofs.lemmas.Bool.Decides.{nat_tests}
+use Rattle.std.proofs.lemmas.Bool.{eq-eqb, ne_eqb, cases_eq, cases_lt, cases_Bool, false≢true}
+use Rattle.std.proofs.lemmas.List.Elements.{filter-append, filter_passes, recursion_from_All}
 use Rattle.std.proofs.lemmas.List.Concat.{flat_map-append}
 use Rattle.fdb_history.specs.Event.{is_change}
-use Rattle.fdb_history.specs.declared.event.Placed.{Placed}
 use Rattle.fdb_history.specs.Explained.{placed_in}
-use Rattle.fdb_history.specs.private.Explaining.{change_of_event}
-use Rattle.fdb_history.specs.Faults.{change_in, changes_in, changes_at, IsOutOfOrder, StandsAt, Nowhere}
+use Rattle.fdb_history.specs.Faults.{at_position, change_in, changes_in, changes_at, IsOutOfOrder, StandsAt, Nowhere}
 use Rattle.fdb_history.specs.Linear.{NeverGoesBack, client_of}
 use Rattle.fdb_history.specs.Log.{event_of_answer, placed_from, calls_of, answer_changes, position_after_calls}
+use Rattle.fdb_history.specs.private.Explaining.{change_of_event, changes_of}
 use Rattle.fdb_history.specs.declared.auditing.changes.PlacedChange.{PlacedChange}
 use Rattle.fdb_history.specs.declared.event.Event.{Event}
 use Rattle.fdb_history.specs.declared.event.Event.TheVariants.{Report, Read}
+use Rattle.fdb_history.specs.declared.event.Placed.{Placed}
 use Rattle.fdb_history.specs.declared.log.Call.{Call}
 use Rattle.fdb_history.specs.declared.log.CallAnswer.{CallAnswer}
-use Rattle.fdb_history.specs.declared.log.CallAnswer.TheVariants.{Version, Answered, Acked, Told, Refused}
+use Rattle.fdb_history.specs.declared.log.CallAnswer.TheVariants.{Version, Acked}
 use Rattle.fdb_history.specs.declared.log.ClientLog.{ClientLog}
-use Rattle.fdb_history.proofs.faultless.Blocks.{is_change_at, kept, left_out, Climbing}
+use Rattle.fdb_history.proofs.Lists.{filter_all, filter_none}
+use Rattle.fdb_history.proofs.faultless.Ranks.{changes_to, Climbing, events_of}
 
 -- ---- each call, and each event
 
@@ -48,41 +51,30 @@ append_all Q [] ys a b = b
 append_all Q (x ∷ xs) ys a b = (a.0, append_all Q xs ys a.1 b)
 
 -- what a call's event keeps to where the call keeps to something
-abbrev pub Passes : (ℕ → CallAnswer → Type 0) → (Placed → Type 0) → Type 0
-Passes P Q = (client place position : ℕ) (answer : CallAnswer) → P position answer → AllByRecursion Q (placed_call client place position answer)
+abbrev pub Passes : ℕ → (ℕ → CallAnswer → Type 0) → (Placed → Type 0) → Type 0
+Passes client P Q = (place position : ℕ) (answer : CallAnswer) → P position answer → AllByRecursion Q (placed_call client place position answer)
 
 -- a statement of each call of a log is one of each of its events
-pub every_from : (P : ℕ → CallAnswer → Type 0) (Q : Placed → Type 0) → Passes P Q → (client place : ℕ) (calls : List Call)
+pub every_from : (P : ℕ → CallAnswer → Type 0) (Q : Placed → Type 0) (client place : ℕ) (calls : List Call) → Passes client P Q
     → AllByRecursion (λ call. P call.position call.answer) calls → AllByRecursion Q (placed_from client place calls)
-every_from P Q passes client place [] each = tt
-every_from P Q passes client place (call ∷ calls) each =
+every_from P Q client place [] passes each = tt
+every_from P Q client place (call ∷ calls) passes each =
     append_all Q (placed_call client place call.position call.answer) (placed_from client (place + 1) calls)
-    (passes client place call.position call.answer each.0) (every_from P Q passes client (place + 1) calls each.1)
+    (passes place call.position call.answer each.0) (every_from P Q client (place + 1) calls passes each.1)
 
 -- a statement of each call is one of each event
-pub every_placed : (P : ℕ → CallAnswer → Type 0) (Q : Placed → Type 0) → Passes P Q → (client : ℕ) (logs : List ClientLog)
+pub every_placed : (P : ℕ → CallAnswer → Type 0) (Q : Placed → Type 0) → ((client : ℕ) → Passes client P Q) → (client : ℕ) (logs : List ClientLog)
     → AllByRecursion (λ log. AllByRecursion (λ call. P call.position call.answer) log.calls) logs → AllByRecursion Q (placed_in client logs)
 every_placed P Q passes client [] each = tt
 every_placed P Q passes client (log ∷ logs) each =
     append_all Q (placed_from client 0 log.calls) (placed_in (client + 1) logs)
-    (every_from P Q passes client 0 log.calls each.0) (every_placed P Q passes (client + 1) logs each.1)
+    (every_from P Q client 0 log.calls (passes client) each.0) (every_placed P Q passes (client + 1) logs each.1)
 
--- a bound on the calls' positions bounds the events'
-pub passes_bound : (bound : ℕ) → Passes (λ position answer. position ≤ bound) (λ p. p.position ≤ bound)
-passes_bound bound client place position (Version rec limits locked_out) within = (within, tt)
-passes_bound bound client place position (Acked rec raised changed) within = (within, tt)
-passes_bound bound client place position (Answered issued) within = tt
-passes_bound bound client place position Told within = tt
-passes_bound bound client place position (Refused cause) within = tt
-
--- a change stands at 1 or later
-pub passes_raised : Passes (λ position answer. IsTrue (answer_changes answer) → 1 ≤ position) (λ p. is_change p.event ≡ true → 1 ≤ p.position)
-passes_raised client place position (Version rec limits locked_out) least = (λ up. absurd (false≢true up), tt)
-passes_raised client place position (Acked rec raised true) least = (λ up. least refl, tt)
-passes_raised client place position (Acked rec raised false) least = (λ up. absurd (false≢true up), tt)
-passes_raised client place position (Answered issued) least = tt
-passes_raised client place position Told least = tt
-passes_raised client place position (Refused cause) least = tt
+-- what a bound on its position gives of an event, a bound on the call's gives
+pub passes_bound : (Q : Placed → Type 0) (bound client : ℕ) → ((p : Placed) → p.position ≤ bound → Q p) → Passes client (λ position answer. position ≤ bound) Q
+passes_bound Q bound client holds place position (Version rec limits locked_out) within = (holds (record { event = Read client place rec; position = position }) within, tt)
+passes_bound Q bound client holds place position (Acked rec raised changed) within = (holds (record { event = Report client place rec raised changed; position = position }) within, tt)
+passes_bound Q bound client holds place position _ within = tt
 
 -- ---- whose events they are
 
@@ -90,47 +82,27 @@ passes_raised client place position (Refused cause) least = tt
 abbrev pub is_of : ℕ → Placed → Bool
 is_of client p = client_of p.event == client
 
--- a call's event is its client's own
-own_call : (who client place position : ℕ) (answer : CallAnswer) → who ≡ client → filter (is_of client) (placed_call who place position answer) ≡ placed_call who place position answer
-own_call who client place position (Version rec limits locked_out) same = kept (is_of client) (record { event = Read who place rec; position = position }) [] (eq-eqb who client same)
-own_call who client place position (Acked rec raised changed) same = kept (is_of client) (record { event = Report who place rec raised changed; position = position }) [] (eq-eqb who client same)
-own_call who client place position (Answered issued) same = refl
-own_call who client place position Told same = refl
-own_call who client place position (Refused cause) same = refl
+-- a call's event is of its client
+passes_own : (who client : ℕ) (own : Bool) → (who == client) ≡ own → Passes who (λ position answer. Unit {0}) (λ p. is_of client p ≡ own)
+passes_own who client own is place position (Version rec limits locked_out) all = (is, tt)
+passes_own who client own is place position (Acked rec raised changed) all = (is, tt)
+passes_own who client own is place position _ all = tt
 
--- and no other client's
-other_call : (who client place position : ℕ) (answer : CallAnswer) → (who ≡ client → ⊥) → filter (is_of client) (placed_call who place position answer) ≡ []
-other_call who client place position (Version rec limits locked_out) apart = left_out (is_of client) (record { event = Read who place rec; position = position }) [] (ne_eqb who client apart)
-other_call who client place position (Acked rec raised changed) apart = left_out (is_of client) (record { event = Report who place rec raised changed; position = position }) [] (ne_eqb who client apart)
-other_call who client place position (Answered issued) apart = refl
-other_call who client place position Told apart = refl
-other_call who client place position (Refused cause) apart = refl
+-- and so are all of a log
+own_from : (who client place : ℕ) (calls : List Call) (own : Bool) → (who == client) ≡ own → AllByRecursion (λ p. is_of client p ≡ own) (placed_from who place calls)
+own_from who client place calls own is =
+    every_from (λ position answer. Unit {0}) (λ p. is_of client p ≡ own) who place calls (passes_own who client own is) (every_in (λ call. Unit {0}) calls (λ place call at. tt))
 
--- a client's own events are all its own
-own_from : (who client place : ℕ) (calls : List Call) → who ≡ client → filter (is_of client) (placed_from who place calls) ≡ placed_from who place calls
-own_from who client place [] same = refl
-own_from who client place (call ∷ calls) same =
-    let first = placed_call who place call.position call.answer in
-    let rest = placed_from who (place + 1) calls in
-    filter-append (is_of client) first rest ∙ ap (λ l. l ++ filter (is_of client) rest) (own_call who client place call.position call.answer same)
-    ∙ ap (λ l. first ++ l) (own_from who client (place + 1) calls same)
-
--- and none of them is another's
-other_from : (who client place : ℕ) (calls : List Call) → (who ≡ client → ⊥) → filter (is_of client) (placed_from who place calls) ≡ []
-other_from who client place [] apart = refl
-other_from who client place (call ∷ calls) apart =
-    let first = placed_call who place call.position call.answer in
-    let rest = placed_from who (place + 1) calls in
-    filter-append (is_of client) first rest ∙ ap (λ l. l ++ filter (is_of client) rest) (other_call who client place call.position call.answer apart)
-    ∙ other_from who client (place + 1) calls apart
+-- a log's events are no other client's
+other_from : (client from : ℕ) (log : ClientLog) (logs : List ClientLog) → (from ≡ client → ⊥) → filter (is_of client) (placed_in from (log ∷ logs)) ≡ filter (is_of client) (placed_in (from + 1) logs)
+other_from client from log logs apart =
+    filter-append (is_of client) (placed_from from 0 log.calls) (placed_in (from + 1) logs)
+    ∙ ap (λ l. l ++ filter (is_of client) (placed_in (from + 1) logs)) (filter_none (is_of client) (placed_from from 0 log.calls) (own_from from client 0 log.calls false (ne_eqb from client apart)))
 
 -- a client before all of the logs has no event there
 none_after : (client from : ℕ) (logs : List ClientLog) → client < from → filter (is_of client) (placed_in from logs) ≡ []
 none_after client from [] below = refl
-none_after client from (log ∷ logs) below =
-    filter-append (is_of client) (placed_from from 0 log.calls) (placed_in (from + 1) logs)
-    ∙ ap (λ l. l ++ filter (is_of client) (placed_in (from + 1) logs)) (other_from from client 0 log.calls (λ same. absurd (omega arith)))
-    ∙ none_after client (from + 1) logs (omega arith)
+none_after client from (log ∷ logs) below = other_from client from log logs (λ same. omega arith) ∙ none_after client (from + 1) logs (omega arith)
 
 -- the events of a client among all are those of its own log
 pub own_in : (client from i : ℕ) (logs : List ClientLog) → client ≡ from + i → filter (is_of client) (placed_in from logs) ≡ placed_from client 0 (calls_of logs i)
@@ -138,13 +110,17 @@ own_in client from i [] is = refl
 own_in client from zero (log ∷ logs) is =
     let same : from ≡ client = omega arith in
     filter-append (is_of client) (placed_from from 0 log.calls) (placed_in (from + 1) logs)
-    ∙ ap (λ l. l ++ filter (is_of client) (placed_in (from + 1) logs)) (own_from from client 0 log.calls same)
+    ∙ ap (λ l. l ++ filter (is_of client) (placed_in (from + 1) logs)) (filter_all (is_of client) (placed_from from 0 log.calls) (own_from from client 0 log.calls true (eq-eqb from client same)))
     ∙ ap (λ l. placed_from from 0 log.calls ++ l) (none_after client (from + 1) logs (omega arith))
     ∙ append-nil (placed_from from 0 log.calls) ∙ ap (λ who. placed_from who 0 log.calls) same
-own_in client from (suc i) (log ∷ logs) is =
-    filter-append (is_of client) (placed_from from 0 log.calls) (placed_in (from + 1) logs)
-    ∙ ap (λ l. l ++ filter (is_of client) (placed_in (from + 1) logs)) (other_from from client 0 log.calls (λ same. absurd (omega arith)))
-    ∙ own_in client (from + 1) i logs (omega arith)
+own_in client from (suc i) (log ∷ logs) is = other_from client from log logs (λ same. omega arith) ∙ own_in client (from + 1) i logs (omega arith)
+
+-- a client's events are those of its placed events
+pub filter-events : (client : ℕ) (all : List Placed) → filter (λ event. client_of event == client) (events_of all) ≡ events_of (filter (is_of client) all)
+filter-events client [] = refl
+filter-events client (p ∷ all) =
+    let rest = filter-events client all in
+    elim (cases_Bool (client_of p.event == client)) [ inl own ↦ simp own (ap (λ l. p.event ∷ l) rest) | inr other ↦ simp other rest ]
 
 -- ---- the order of a log
 
@@ -177,11 +153,8 @@ climbs_below before later (p ∷ all) below climbs = (le_trans below climbs.0, �
 climbing_call : (client place before position : ℕ) (answer : CallAnswer) (all : List Placed) → before ≤ position → (IsTrue (answer_changes answer) → before < position) → Climbing position all
     → Climbing before (placed_call client place position answer ++ all)
 climbing_call client place before position (Version rec limits locked_out) all least up climbs = (least, λ e. absurd (false≢true e), climbs)
-climbing_call client place before position (Acked rec raised true) all least up climbs = (least, λ e. up refl, climbs)
-climbing_call client place before position (Acked rec raised false) all least up climbs = (least, λ e. absurd (false≢true e), climbs)
-climbing_call client place before position (Answered issued) all least up climbs = climbs_below before position all least climbs
-climbing_call client place before position Told all least up climbs = climbs_below before position all least climbs
-climbing_call client place before position (Refused cause) all least up climbs = climbs_below before position all least climbs
+climbing_call client place before position (Acked rec raised changed) all least up climbs = (least, up, climbs)
+climbing_call client place before position _ all least up climbs = climbs_below before position all least climbs
 
 -- the events of a log that never goes back climb
 pub climbing : (client place before : ℕ) (calls : List Call) → NeverGoesBack before calls → Climbing before (placed_from client place calls)
@@ -192,86 +165,43 @@ climbing client place before (call ∷ calls) order =
 
 -- ---- the changes
 
--- the change of an event with its position, if it is one
-abbrev pub change_of : Placed → List PlacedChange
-change_of p = change_of_event p.position p.event
-
--- a call's change is that of its event
-changes-call : (client place position : ℕ) (answer : CallAnswer) → change_in position answer ≡ flat_map change_of (placed_call client place position answer)
-changes-call client place position (Version rec limits locked_out) = refl
-changes-call client place position (Acked rec raised true) = refl
-changes-call client place position (Acked rec raised false) = refl
-changes-call client place position (Answered issued) = refl
-changes-call client place position Told = refl
-changes-call client place position (Refused cause) = refl
-
 -- the changes of a log's calls are those of its events
-changes-from : (client place : ℕ) (calls : List Call) → flat_map (λ call. change_in call.position call.answer) calls ≡ flat_map change_of (placed_from client place calls)
+changes-from : (client place : ℕ) (calls : List Call) → flat_map (λ call. change_in call.position call.answer) calls ≡ changes_of (placed_from client place calls)
 changes-from client place [] = refl
-changes-from client place (call ∷ calls) =
-    let first = placed_call client place call.position call.answer in
-    ap (λ l. l ++ flat_map (λ (c : Call). change_in c.position c.answer) calls) (changes-call client place call.position call.answer)
-    ∙ ap (λ l. flat_map change_of first ++ l) (changes-from client (place + 1) calls)
-    ∙ sym (flat_map-append change_of first (placed_from client (place + 1) calls))
+changes-from client place (call ∷ calls) = grind (arith, common_steps, nat_tests, changes-from client (place + 1) calls)
 
 -- the changes in the logs are those among their events
-changes-in : (client : ℕ) (logs : List ClientLog) → changes_in logs ≡ flat_map change_of (placed_in client logs)
+changes-in : (client : ℕ) (logs : List ClientLog) → changes_in logs ≡ changes_of (placed_in client logs)
 changes-in client [] = refl
 changes-in client (log ∷ logs) =
-    ap (λ l. l ++ changes_in logs) (changes-from client 0 log.calls)
-    ∙ ap (λ l. flat_map change_of (placed_from client 0 log.calls) ++ l) (changes-in (client + 1) logs)
-    ∙ sym (flat_map-append change_of (placed_from client 0 log.calls) (placed_in (client + 1) logs))
-
--- whether a change stands at this position
-abbrev stands_at : ℕ → PlacedChange → Bool
-stands_at position change = change.position == position
-
--- one event more: its change stands at the position where the event does
-filter-change : (position at : ℕ) (event : Event) (all : List Placed) → filter (stands_at position) (flat_map change_of all) ≡ flat_map change_of (filter (is_change_at position) all)
-    → filter (stands_at position) (change_of_event at event ++ flat_map change_of all) ≡ flat_map change_of (filter (is_change_at position) (record { event = event; position = at } ∷ all))
-filter-change position at (Report client call rec raised true) all rest =
-    let p : Placed = record { event = Report client call rec raised true; position = at } in
-    let change : PlacedChange = record { position = at; rec = rec } in
-    elim (cases_Bool (at == position)) [
-      | inl here ↦ kept (stands_at position) change (flat_map change_of all) here ∙ ap (λ l. change ∷ l) rest
-          ∙ sym (ap (flat_map change_of) (kept (is_change_at position) p all (and_from (at == position) true here refl)))
-      | inr not_here ↦ left_out (stands_at position) change (flat_map change_of all) not_here ∙ rest
-          ∙ sym (ap (flat_map change_of) (left_out (is_change_at position) p all (and_left (at == position) true not_here)))
-    ]
-filter-change position at (Report client call rec raised false) all rest =
-    let p : Placed = record { event = Report client call rec raised false; position = at } in
-    rest ∙ sym (ap (flat_map change_of) (left_out (is_change_at position) p all (and_right (at == position) false refl)))
-filter-change position at (Read client call rec) all rest =
-    let p : Placed = record { event = Read client call rec; position = at } in
-    rest ∙ sym (ap (flat_map change_of) (left_out (is_change_at position) p all (and_right (at == position) false refl)))
+    ap (λ l. l ++ changes_in logs) (changes-from client 0 log.calls) ∙ ap (λ l. changes_of (placed_from client 0 log.calls) ++ l) (changes-in (client + 1) logs)
+    ∙ sym (flat_map-append (λ p. change_of_event p.position p.event) (placed_from client 0 log.calls) (placed_in (client + 1) logs))
 
 -- the changes at a position are those of the events that change there
-pub filter-changes : (position : ℕ) (all : List Placed) → filter (stands_at position) (flat_map change_of all) ≡ flat_map change_of (filter (is_change_at position) all)
-filter-changes position [] = refl
-filter-changes position (p ∷ all) = filter-change position p.position p.event all (filter-changes position all)
+pub changes-to : (position : ℕ) (all : List Placed) → at_position position (changes_of all) ≡ changes_of (changes_to position all)
+changes-to position [] = refl
+changes-to position (p ∷ all) = by p.position p.event (changes-to position all)
+  where
+    by : (at : ℕ) (event : Event) → at_position position (changes_of all) ≡ changes_of (changes_to position all)
+        → at_position position (change_of_event at event ++ changes_of all) ≡ changes_of (changes_to position (record { event = event; position = at } ∷ all))
+    by at (Report client call rec raised true) rest =
+        elim (cases_Bool (at == position)) [ inl here ↦ simp here (ap (λ l. record { position = at; rec = rec } ∷ l) rest) | inr other ↦ simp other rest ]
+    by at (Report client call rec raised false) rest = rest
+    by at (Read client call rec) rest = rest
 
 -- the changes in the logs at a position are those among their events
-pub changes-at : (logs : List ClientLog) (position : ℕ) → changes_at logs position ≡ flat_map change_of (filter (is_change_at position) (placed_in 0 logs))
-changes-at logs position = ap (filter (stands_at position)) (changes-in 0 logs) ∙ filter-changes position (placed_in 0 logs)
-
--- an event that changes has one change
-length-change : (at : ℕ) (event : Event) (more : List PlacedChange) → is_change event ≡ true → length (change_of_event at event ++ more) ≡ suc (length more)
-length-change at (Report client call rec raised true) more up = refl
-length-change at (Report client call rec raised false) more up = absurd (false≢true up)
-length-change at (Read client call rec) more up = absurd (false≢true up)
+pub changes-at : (logs : List ClientLog) (position : ℕ) → changes_at logs position ≡ changes_of (changes_to position (placed_in 0 logs))
+changes-at logs position = ap (at_position position) (changes-in 0 logs) ∙ changes-to position (placed_in 0 logs)
 
 -- as many changes as events that change
-pub length-changes : (position : ℕ) (all : List Placed) → length (flat_map change_of (filter (is_change_at position) all)) ≡ length (filter (is_change_at position) all)
-length-changes position [] = refl
-length-changes position (p ∷ all) =
-    let rest = length-changes position all in
-    elim (cases_Bool (is_change_at position p)) [
-      | inl here ↦
-          let is = kept (is_change_at position) p all here in
-          ap (λ l. length (flat_map change_of l)) is
-          ∙ length-change p.position p.event (flat_map change_of (filter (is_change_at position) all)) (and_parts (p.position == position) (is_change p.event) here).1
-          ∙ ap suc rest ∙ sym (ap length is)
-      | inr not_here ↦
-          let is = left_out (is_change_at position) p all not_here in
-          ap (λ l. length (flat_map change_of l)) is ∙ rest ∙ sym (ap length is)
-    ]
+pub length-changes : (position : ℕ) (all : List Placed) → length (changes_of (changes_to position all)) ≡ length (changes_to position all)
+length-changes position all =
+    ones (changes_to position all) (recursion_from_All _ (changes_to position all) (filter_passes (λ p. is_change p.event && (p.position == position)) all))
+  where
+    one : (at : ℕ) (event : Event) (more : List PlacedChange) → (is_change event && (at == position)) ≡ true → length (change_of_event at event ++ more) ≡ suc (length more)
+    one at (Report client call rec raised true) more up = refl
+    one at _ more up = absurd (false≢true up)
+
+    ones : (found : List Placed) → AllByRecursion (λ p. (is_change p.event && (p.position == position)) ≡ true) found → length (changes_of found) ≡ length found
+    ones [] all = refl
+    ones (p ∷ found) all = one p.position p.event (changes_of found) all.0 ∙ ap suc (ones found all.1)

@@ -1,14 +1,16 @@
 -- The events of a list by their ranks: a number for each position and kind, the change at a position before the others
--- there. A list that rises by rank is the blocks of its positions.
-use Rattle.std.proofs.Common.{◌≡◌, ℕ, zero, suc, ◌+◌, ◌<◌, ◌≤◌, ◌==◌, ◌&&◌, not, Bool, true, false, leb, List, [], ◌∷◌, ◌++◌, filter, refl, ap, sym, ◌∙◌, append_assoc, arith}
-use Rattle.std.specs.List.{AllByRecursion}
-use Rattle.std.proofs.lemmas.Bool.{le-leb}
+-- there. The events in the fixed order are the groups of their ranks.
+use Rattle.std.proofs.Common.{◌≡◌, ℕ, zero, suc, ◌+◌, ◌<◌, ◌≤◌, ◌==◌, ◌&&◌, not, Bool, true, false, List, [], ◌∷◌, ◌++◌, map, filter, ap, sym, ◌∙◌, arith}
+use Rattle.std.proofs.lemmas.Grind.{common_steps}
 use Rattle.std.proofs.lemmas.Bool.Decides.{nat_tests}
+use Rattle.std.proofs.lemmas.List.{map-append}
 use Rattle.std.proofs.lemmas.List.Elements.{filter_agree}
 use Rattle.fdb_history.specs.Event.{is_change}
+use Rattle.fdb_history.specs.Explained.{events_at, events_up_to}
+use Rattle.fdb_history.specs.private.Auditing.{Rises}
+use Rattle.fdb_history.specs.declared.event.Event.{Event}
 use Rattle.fdb_history.specs.declared.event.Placed.{Placed}
-use Rattle.fdb_history.proofs.faultless.Blocks.{is_change_at, is_other_at, block, blocks_up_to, kept, Climbing}
-use Rattle.fdb_history.proofs.faultless.Grouped.{Rising, more}
+use Rattle.fdb_history.proofs.faultless.Grouped.{of, groups, two_more}
 
 -- the rank of a position and kind
 abbrev pub rank : ℕ → Bool → ℕ
@@ -27,81 +29,59 @@ rank-most position false = omega arith
 abbrev pub rank_of : Placed → ℕ
 rank_of p = rank p.position (is_change p.event)
 
--- the changes at a position have a rank of their own
-change_rank : (m position : ℕ) (raised : Bool) → (m == position && raised) ≡ (rank m raised == position + position)
-change_rank m position true = grind (arith, nat_tests)
-change_rank m position false = grind (arith, nat_tests)
+-- the events alone
+abbrev pub events_of : List Placed → List Event
+events_of all = map (λ p. p.event) all
 
--- and so have the others
-other_rank : (m position : ℕ) (raised : Bool) → (m == position && not raised) ≡ (rank m raised == position + position + 1)
-other_rank m position true = grind (arith, nat_tests)
-other_rank m position false = grind (arith, nat_tests)
+-- the changes among them to a position
+abbrev pub changes_to : ℕ → List Placed → List Placed
+changes_to position all = filter (λ p. is_change p.event && (p.position == position)) all
 
--- the events of a rank, and those of a rank and below
-abbrev pub of_rank : ℕ → List Placed → List Placed
-of_rank k all = filter (λ p. rank_of p == k) all
+-- they are one rank
+pub changes-rank : (position : ℕ) (all : List Placed) → changes_to position all ≡ of rank_of (position + position) all
+changes-rank position all = grind (arith, common_steps, nat_tests)
 
-abbrev to_rank : ℕ → List Placed → List Placed
-to_rank k all = filter (λ p. leb (rank_of p) k) all
-
--- the changes at a position are one rank
-pub changes-rank : (position : ℕ) (all : List Placed) → filter (is_change_at position) all ≡ of_rank (position + position) all
-changes-rank position all =
-    filter_agree (is_change_at position) (λ p. rank_of p == position + position) (λ p. change_rank p.position position (is_change p.event)) all
-
--- a block is two ranks
-pub block-rank : (position : ℕ) (all : List Placed) → block position all ≡ of_rank (position + position) all ++ of_rank (position + position + 1) all
-block-rank position all =
-    let others = filter_agree (is_other_at position) (λ p. rank_of p == position + position + 1) (λ p. other_rank p.position position (is_change p.event)) all in
-    ap (λ l. l ++ filter (is_other_at position) all) (changes-rank position all) ∙ ap (λ l. of_rank (position + position) all ++ l) others
-
--- ---- a list that rises by rank
-
--- it does
-abbrev pub RisesByRank : List Placed → Type 0
-RisesByRank all = Rising rank_of 0 all
-
--- two more ranks
-two_more : (j k l : ℕ) (all : List Placed) → k ≡ suc j → l ≡ suc k → RisesByRank all → to_rank l all ≡ to_rank j all ++ (of_rank k all ++ of_rank l all)
-two_more j k l all next after up =
-    more rank_of 0 k l all after up ∙ ap (λ front. front ++ of_rank l all) (more rank_of 0 j k all next up)
-    ∙ append_assoc (to_rank j all) (of_rank k all) (of_rank l all)
-
--- the ranks of the positions up to a number are their blocks
-in_blocks : (count : ℕ) (all : List Placed) → RisesByRank all → to_rank (count + count + 1) all ≡ blocks_up_to count all
-in_blocks zero all up =
-    more rank_of 0 0 1 all refl up ∙ ap (λ l. l ++ of_rank 1 all) (filter_agree (λ p. leb (rank_of p) 0) (λ p. rank_of p == 0) (λ p. at_zero (rank_of p)) all)
-    ∙ sym (block-rank 0 all)
+-- the events at a position are two ranks
+at-groups : (position : ℕ) (all : List Placed) → events_at position all ≡ events_of (of rank_of (position + position) all ++ of rank_of (position + position + 1) all)
+at-groups position all =
+    ap (λ l. events_of l ++ events_of (filter (λ p. p.position == position && not (is_change p.event)) all))
+    (filter_agree (λ p. p.position == position && is_change p.event) (λ p. rank_of p == position + position) (λ p. change p.position (is_change p.event)) all)
+    ∙ ap (λ l. events_of (of rank_of (position + position) all) ++ events_of l)
+    (filter_agree (λ p. p.position == position && not (is_change p.event)) (λ p. rank_of p == position + position + 1) (λ p. other p.position (is_change p.event)) all)
+    ∙ sym (map-append (λ p. p.event) (of rank_of (position + position) all) (of rank_of (position + position + 1) all))
   where
-    at_zero : (k : ℕ) → leb k 0 ≡ (k == 0)
-    at_zero k = grind (arith, nat_tests)
-in_blocks (suc count) all up =
-    two_more (count + count + 1) (suc count + suc count) (suc count + suc count + 1) all (omega arith) (omega arith) up
-    ∙ ap (λ l. to_rank (count + count + 1) all ++ l) (sym (block-rank (suc count) all))
-    ∙ ap (λ l. l ++ block (suc count) all) (in_blocks count all up)
+    change : (m : ℕ) (raised : Bool) → (m == position && raised) ≡ (rank m raised == position + position)
+    change m true = grind (arith, nat_tests)
+    change m false = grind (arith, nat_tests)
 
--- where no position is above a number, no rank is above its two
-all_to_rank : (count : ℕ) (all : List Placed) → AllByRecursion (λ p. p.position ≤ count) all → to_rank (count + count + 1) all ≡ all
-all_to_rank count [] within = refl
-all_to_rank count (p ∷ all) within =
-    let most = rank-most p.position (is_change p.event) in
-    let here : p.position ≤ count = within.0 in
-    kept (λ q. leb (rank_of q) (count + count + 1)) p all (le-leb (rank_of p) (count + count + 1) (omega arith)) ∙ ap (λ l. p ∷ l) (all_to_rank count all within.1)
+    other : (m : ℕ) (raised : Bool) → (m == position && not raised) ≡ (rank m raised == position + position + 1)
+    other m true = grind (arith, nat_tests)
+    other m false = grind (arith, nat_tests)
 
--- The blocks of a list that rises by rank are the list again.
-pub back_in_order : (count : ℕ) (all : List Placed) → RisesByRank all → AllByRecursion (λ p. p.position ≤ count) all → blocks_up_to count all ≡ all
-back_in_order count all up within = sym (in_blocks count all up) ∙ all_to_rank count all within
+-- the groups of the ranks of the positions up to one
+abbrev pub ranks_up_to : ℕ → List Placed → List Placed
+ranks_up_to count all = groups rank_of (count + count + 1) all
+
+pub ranks-more : (count : ℕ) (all : List Placed)
+    → ranks_up_to (suc count) all ≡ ranks_up_to count all ++ (of rank_of (suc count + suc count) all ++ of rank_of (suc count + suc count + 1) all)
+ranks-more count all = two_more rank_of (count + count + 1) (suc count + suc count) (suc count + suc count + 1) all (omega arith) (omega arith)
+
+-- the events up to a position are theirs
+pub events-ranks : (count : ℕ) (all : List Placed) → events_up_to count all ≡ events_of (ranks_up_to count all)
+events-ranks zero all = at-groups 0 all
+events-ranks (suc count) all =
+    ap (λ l. l ++ events_at (suc count) all) (events-ranks count all) ∙ ap (λ l. events_of (ranks_up_to count all) ++ l) (at-groups (suc count) all)
+    ∙ sym (ap events_of (ranks-more count all)
+    ∙ map-append (λ p. p.event) (ranks_up_to count all) (of rank_of (suc count + suc count) all ++ of rank_of (suc count + suc count + 1) all))
 
 -- ---- a climbing list
 
--- it rises by rank, from where an event may stand after another at the position before
-rises_from : (before low : ℕ) (all : List Placed) → low ≤ before + before + 1 → Climbing before all → Rising rank_of low all
-rises_from before low [] least climbs = tt
-rises_from before low (p ∷ all) least climbs = (first (is_change p.event) climbs.1, rises_from p.position (rank_of p) all (rank-most p.position (is_change p.event)) climbs.2)
-  where
-    first : (raised : Bool) → (raised ≡ true → before < p.position) → low ≤ rank p.position raised
-    first true up = let above = up refl in omega arith
-    first false up = let next = climbs.0 in omega arith
+-- the positions never fall, and a change has a new one
+abbrev pub Climbing : ℕ → List Placed → Type 0
+Climbing before [] = Unit {0}
+Climbing before (p ∷ all) = (before ≤ p.position) × (is_change p.event ≡ true → before < p.position) × Climbing p.position all
 
-pub climbing_rises : (all : List Placed) → Climbing 0 all → RisesByRank all
-climbing_rises all climbs = rises_from 0 0 all (omega arith) climbs
+-- it rises by rank, from where an event may stand after another at the position before
+pub climbing_rises : (before low : ℕ) (all : List Placed) → low ≤ before + before + 1 → Climbing before all → Rises rank_of low all
+climbing_rises before low [] least climbs = tt
+climbing_rises before low (p ∷ all) least climbs = grind (arith, common_steps, nat_tests, climbing_rises p.position (rank_of p) all (rank-most p.position (is_change p.event)) climbs.2)

@@ -20,11 +20,10 @@ use Rattle.fdb_history.specs.declared.register.TheConstants.{MAX_VERSION}
 
 -- ---- the limits
 
-greatest_version : MAX_VERSION ≡ 9223372036854775807
-greatest_version = refl
-
-greatest_step : MAX_STEP ≡ 5000000
-greatest_step = refl
+greatest_version :
+    (MAX_VERSION ≡ 9223372036854775807)
+    × (MAX_STEP ≡ 5000000)
+greatest_version = (refl, refl)
 
 -- ---- what a call's answer is justified by
 
@@ -54,37 +53,26 @@ reads lock_aware rec locked_out =
     called (input.Grv (record { priority = Default; count = 1; tags = []; lock_aware = lock_aware; at = 0; use_min = false })) (Version rec [] locked_out)
 
 -- Of a locked database a client that is not lock-aware is turned away, and no other.
-turned_away : is_justified [] 0 [] (reads false (locked 100) true) ≡ true
-turned_away = refl
-
-not_turned_away : is_justified [] 0 [] (reads false (locked 100) false) ≡ false
-not_turned_away = refl
-
-aware_turned_away : is_justified [] 0 [] (reads true (locked 100) true) ≡ false
-aware_turned_away = refl
-
-aware_goes_on : is_justified [] 0 [] (reads true (locked 100) false) ≡ true
-aware_goes_on = refl
+turned_away :
+    (is_justified [] 0 [] (reads false (locked 100) true) ≡ true)
+    × (is_justified [] 0 [] (reads false (locked 100) false) ≡ false)
+    × (is_justified [] 0 [] (reads true (locked 100) true) ≡ false)
+    × (is_justified [] 0 [] (reads true (locked 100) false) ≡ true)
+turned_away = (refl, refl, refl, refl)
 
 -- Of one that is not locked nobody is.
-unlocked_turned_away : is_justified [] 0 [] (reads false (plain 100) true) ≡ false
-unlocked_turned_away = refl
-
-unlocked_goes_on : is_justified [] 0 [] (reads false (plain 100) false) ≡ true
-unlocked_goes_on = refl
+unlocked_turned_away :
+    (is_justified [] 0 [] (reads false (plain 100) true) ≡ false)
+    × (is_justified [] 0 [] (reads false (plain 100) false) ≡ true)
+unlocked_turned_away = (refl, refl)
 
 -- Nobody may be refused a tell, and no report is refused because a queue is full.
-tell_done : is_justified [] 0 [] (called (input.Tell 1) Told) ≡ true
-tell_done = refl
-
-tell_refused : is_justified [] 0 [] (called (input.Tell 1) (Refused Full)) ≡ false
-tell_refused = refl
-
-report_full : is_justified [] 0 [] (called (input.Report 1 false None 0) (Refused Full)) ≡ false
-report_full = refl
-
-report_told : goes_with (input.Report 1 false None 0) Told ≡ false
-report_told = refl
+tell_done :
+    (is_justified [] 0 [] (called (input.Tell 1) Told) ≡ true)
+    × (is_justified [] 0 [] (called (input.Tell 1) (Refused Full)) ≡ false)
+    × (is_justified [] 0 [] (called (input.Report 1 false None 0) (Refused Full)) ≡ false)
+    × (goes_with (input.Report 1 false None 0) Told ≡ false)
+tell_done = (refl, refl, refl, refl)
 
 -- commit proxy 0 is given versions 100 and 2100, the second where it has processed this number
 abbrev first_entry : Issued
@@ -110,150 +98,92 @@ abbrev drew_first : Call
 drew_first = asks 1 0 1000 (Answered first_entry)
 
 -- An answer is the chain's, the client's own and under the number that it asked for.
-of_chain : is_justified entries 0 [] drew_first ≡ true
-of_chain = refl
-
-of_no_chain : is_justified [] 0 [] drew_first ≡ false
-of_no_chain = refl
-
-of_another_version : is_justified entries 0 [] (asks 1 0 1000 (Answered (record first_entry { version = 101 }))) ≡ false
-of_another_version = refl
-
-of_another_prev : is_justified entries 0 [] (asks 1 0 1000 (Answered (record first_entry { prev = 1 }))) ≡ false
-of_another_prev = refl
-
-of_another_client : is_justified entries 1 [] drew_first ≡ false
-of_another_client = refl
-
-of_another_number : is_justified entries 0 [] (asks 1 0 3000 (Answered second_entry)) ≡ false
-of_another_number = refl
+of_chain :
+    (is_justified entries 0 [] drew_first ≡ true)
+    × (is_justified [] 0 [] drew_first ≡ false)
+    × (is_justified entries 0 [] (asks 1 0 1000 (Answered (record first_entry { version = 101 }))) ≡ false)
+    × (is_justified entries 0 [] (asks 1 0 1000 (Answered (record first_entry { prev = 1 }))) ≡ false)
+    × (is_justified entries 1 [] drew_first ≡ false)
+    × (is_justified entries 0 [] (asks 1 0 3000 (Answered second_entry)) ≡ false)
+of_chain = (refl, refl, refl, refl, refl, refl)
 
 -- The next number draws a version, with the request's members.
-next_fresh : is_justified entries 0 (drew_first ∷ []) (asks 2 0 3000 (Answered second_entry)) ≡ true
-next_fresh = refl
-
-next_not_fresh : is_justified entries 0 (drew_first ∷ []) (asks 2 0 3000 (Answered (again second_entry))) ≡ false
-next_not_fresh = refl
-
-next_of_another_moment : is_justified entries 0 (drew_first ∷ []) (asks 2 0 3001 (Answered second_entry)) ≡ false
-next_of_another_moment = refl
-
-next_having_processed : is_justified entries 0 (drew_first ∷ []) (asks 2 1 3000 (Answered second_entry)) ≡ false
-next_having_processed = refl
-
-next_forgotten : is_justified entries 0 (drew_first ∷ []) (asks 2 0 3000 (Refused Forgotten)) ≡ false
-next_forgotten = refl
+next_fresh :
+    (is_justified entries 0 (drew_first ∷ []) (asks 2 0 3000 (Answered second_entry)) ≡ true)
+    × (is_justified entries 0 (drew_first ∷ []) (asks 2 0 3000 (Answered (again second_entry))) ≡ false)
+    × (is_justified entries 0 (drew_first ∷ []) (asks 2 0 3001 (Answered second_entry)) ≡ false)
+    × (is_justified entries 0 (drew_first ∷ []) (asks 2 1 3000 (Answered second_entry)) ≡ false)
+    × (is_justified entries 0 (drew_first ∷ []) (asks 2 0 3000 (Refused Forgotten)) ≡ false)
+next_fresh = (refl, refl, refl, refl, refl)
 
 -- A number ahead of it is early, and is told the next one.
-ahead_early : is_justified entries 0 (drew_first ∷ []) (asks 3 0 4000 (Refused (Early 2))) ≡ true
-ahead_early = refl
-
-ahead_of_another : is_justified entries 0 (drew_first ∷ []) (asks 3 0 4000 (Refused (Early 3))) ≡ false
-ahead_of_another = refl
-
-next_early : is_justified entries 0 (drew_first ∷ []) (asks 2 0 3000 (Refused (Early 2))) ≡ false
-next_early = refl
+ahead_early :
+    (is_justified entries 0 (drew_first ∷ []) (asks 3 0 4000 (Refused (Early 2))) ≡ true)
+    × (is_justified entries 0 (drew_first ∷ []) (asks 3 0 4000 (Refused (Early 3))) ≡ false)
+    × (is_justified entries 0 (drew_first ∷ []) (asks 2 0 3000 (Refused (Early 2))) ≡ false)
+ahead_early = (refl, refl, refl)
 
 -- A number up to the latest gets its answer again, and nothing else.
-repeat_again : is_justified entries 0 (drew_first ∷ []) (asks 1 0 9000 (Answered (again first_entry))) ≡ true
-repeat_again = refl
-
-repeat_fresh : is_justified entries 0 (drew_first ∷ []) (asks 1 0 1000 (Answered first_entry)) ≡ false
-repeat_fresh = refl
-
-repeat_forgotten : is_justified entries 0 (drew_first ∷ []) (asks 1 0 9000 (Refused Forgotten)) ≡ false
-repeat_forgotten = refl
+repeat_again :
+    (is_justified entries 0 (drew_first ∷ []) (asks 1 0 9000 (Answered (again first_entry))) ≡ true)
+    × (is_justified entries 0 (drew_first ∷ []) (asks 1 0 1000 (Answered first_entry)) ≡ false)
+    × (is_justified entries 0 (drew_first ∷ []) (asks 1 0 9000 (Refused Forgotten)) ≡ false)
+repeat_again = (refl, refl, refl)
 
 -- But once it was processed, or where there is no such number, it is forgotten.
-erased_forgotten : is_justified (first_entry ∷ second_having 1 ∷ []) 0 (drew_first ∷ asks 2 1 3000 (Answered (second_having 1)) ∷ []) (asks 1 0 9000 (Refused Forgotten)) ≡ true
-erased_forgotten = refl
-
-erased_again : is_justified (first_entry ∷ second_having 1 ∷ []) 0 (drew_first ∷ asks 2 1 3000 (Answered (second_having 1)) ∷ []) (asks 1 0 9000 (Answered (again first_entry))) ≡ false
-erased_again = refl
-
-zero_forgotten : is_justified entries 0 (drew_first ∷ []) (asks 0 0 9000 (Refused Forgotten)) ≡ true
-zero_forgotten = refl
+erased_forgotten :
+    (is_justified (first_entry ∷ second_having 1 ∷ []) 0 (drew_first ∷ asks 2 1 3000 (Answered (second_having 1)) ∷ []) (asks 1 0 9000 (Refused Forgotten)) ≡ true)
+    × (is_justified (first_entry ∷ second_having 1 ∷ []) 0 (drew_first ∷ asks 2 1 3000 (Answered (second_having 1)) ∷ []) (asks 1 0 9000 (Answered (again first_entry))) ≡ false)
+    × (is_justified entries 0 (drew_first ∷ []) (asks 0 0 9000 (Refused Forgotten)) ≡ true)
+erased_forgotten = (refl, refl, refl)
 
 -- a chain whose last version is this
 abbrev up_to : ℕ → List Issued
 up_to version = first_entry ∷ record { ordinal = 1; proxy = 1; num = 1; processed = 0; prev = 100; version = version; at = 2000; fresh = true } ∷ []
 
 -- There may be no version left once the last one is within MAX_STEP of the greatest.
-near_the_end : is_near_the_end (up_to 9223372036849775808) ≡ true
-near_the_end = refl
-
-not_near_the_end : is_near_the_end (up_to 9223372036849775807) ≡ false
-not_near_the_end = refl
-
-nothing_is_not_near_the_end : is_near_the_end [] ≡ false
-nothing_is_not_near_the_end = refl
-
-exhausted : is_justified (up_to 9223372036849775808) 0 (drew_first ∷ []) (asks 2 0 3000 (Refused Exhausted)) ≡ true
-exhausted = refl
-
-exhausted_too_early : is_justified (up_to 9223372036849775807) 0 (drew_first ∷ []) (asks 2 0 3000 (Refused Exhausted)) ≡ false
-exhausted_too_early = refl
-
-repeat_exhausted : is_justified (up_to 9223372036849775808) 0 (drew_first ∷ []) (asks 1 0 3000 (Refused Exhausted)) ≡ false
-repeat_exhausted = refl
+near_the_end :
+    (is_near_the_end (up_to 9223372036849775808) ≡ true)
+    × (is_near_the_end (up_to 9223372036849775807) ≡ false)
+    × (is_near_the_end [] ≡ false)
+    × (is_justified (up_to 9223372036849775808) 0 (drew_first ∷ []) (asks 2 0 3000 (Refused Exhausted)) ≡ true)
+    × (is_justified (up_to 9223372036849775807) 0 (drew_first ∷ []) (asks 2 0 3000 (Refused Exhausted)) ≡ false)
+    × (is_justified (up_to 9223372036849775808) 0 (drew_first ∷ []) (asks 1 0 3000 (Refused Exhausted)) ≡ false)
+near_the_end = (refl, refl, refl, refl, refl, refl)
 
 -- A report is of the version that was issued under its number, with the flags that it was told.
-report_of_issued : is_justified entries 0 (drew_first ∷ []) (called (input.Report 1 false None 0) (Acked (plain 100) true true)) ≡ true
-report_of_issued = refl
-
-report_of_another_version : is_justified entries 0 (drew_first ∷ []) (called (input.Report 1 false None 0) (Acked (plain 101) true true)) ≡ false
-report_of_another_version = refl
-
-report_of_another_number : is_justified entries 0 (drew_first ∷ []) (called (input.Report 2 false None 0) (Acked (plain 100) true true)) ≡ false
-report_of_another_number = refl
-
-report_of_another_lock : is_justified entries 0 (drew_first ∷ []) (called (input.Report 1 true None 0) (Acked (plain 100) true true)) ≡ false
-report_of_another_lock = refl
-
-report_of_metadata : is_justified entries 0 (drew_first ∷ []) (called (input.Report 1 false (Some (stamp 7 8)) 0) (Acked (with_metadata 100 (stamp 7 8)) true true)) ≡ true
-report_of_metadata = refl
-
-report_of_another_first_byte : is_justified entries 0 (drew_first ∷ []) (called (input.Report 1 false (Some (stamp 7 8)) 0) (Acked (with_metadata 100 (stamp 6 8)) true true)) ≡ false
-report_of_another_first_byte = refl
-
-report_of_another_last_byte : is_justified entries 0 (drew_first ∷ []) (called (input.Report 1 false (Some (stamp 7 8)) 0) (Acked (with_metadata 100 (stamp 7 9)) true true)) ≡ false
-report_of_another_last_byte = refl
-
-report_of_zeroes_for_none : is_justified entries 0 (drew_first ∷ []) (called (input.Report 1 false None 0) (Acked (with_metadata 100 (stamp 0 0)) true true)) ≡ false
-report_of_zeroes_for_none = refl
-
-report_of_another_minimum : is_justified entries 0 (drew_first ∷ []) (called (input.Report 1 false None 7) (Acked (knowing 100 8) true true)) ≡ false
-report_of_another_minimum = refl
+report_of_issued :
+    (is_justified entries 0 (drew_first ∷ []) (called (input.Report 1 false None 0) (Acked (plain 100) true true)) ≡ true)
+    × (is_justified entries 0 (drew_first ∷ []) (called (input.Report 1 false None 0) (Acked (plain 101) true true)) ≡ false)
+    × (is_justified entries 0 (drew_first ∷ []) (called (input.Report 2 false None 0) (Acked (plain 100) true true)) ≡ false)
+    × (is_justified entries 0 (drew_first ∷ []) (called (input.Report 1 true None 0) (Acked (plain 100) true true)) ≡ false)
+    × (is_justified entries 0 (drew_first ∷ []) (called (input.Report 1 false (Some (stamp 7 8)) 0) (Acked (with_metadata 100 (stamp 7 8)) true true)) ≡ true)
+    × (is_justified entries 0 (drew_first ∷ []) (called (input.Report 1 false (Some (stamp 7 8)) 0) (Acked (with_metadata 100 (stamp 6 8)) true true)) ≡ false)
+    × (is_justified entries 0 (drew_first ∷ []) (called (input.Report 1 false (Some (stamp 7 8)) 0) (Acked (with_metadata 100 (stamp 7 9)) true true)) ≡ false)
+    × (is_justified entries 0 (drew_first ∷ []) (called (input.Report 1 false None 0) (Acked (with_metadata 100 (stamp 0 0)) true true)) ≡ false)
+    × (is_justified entries 0 (drew_first ∷ []) (called (input.Report 1 false None 7) (Acked (knowing 100 8) true true)) ≡ false)
+report_of_issued = (refl, refl, refl, refl, refl, refl, refl, refl, refl)
 
 -- A minimum known committed version is above the version that was issued, or not.
-min_above : is_justified entries 0 (drew_first ∷ []) (called (input.Report 1 false None 101) (Refused MinAbove)) ≡ true
-min_above = refl
-
-min_above_untrue : is_justified entries 0 (drew_first ∷ []) (called (input.Report 1 false None 100) (Refused MinAbove)) ≡ false
-min_above_untrue = refl
-
-min_above_of_nothing : is_justified entries 0 (drew_first ∷ []) (called (input.Report 2 false None 101) (Refused MinAbove)) ≡ false
-min_above_of_nothing = refl
+min_above :
+    (is_justified entries 0 (drew_first ∷ []) (called (input.Report 1 false None 101) (Refused MinAbove)) ≡ true)
+    × (is_justified entries 0 (drew_first ∷ []) (called (input.Report 1 false None 100) (Refused MinAbove)) ≡ false)
+    × (is_justified entries 0 (drew_first ∷ []) (called (input.Report 2 false None 101) (Refused MinAbove)) ≡ false)
+min_above = (refl, refl, refl)
 
 -- It is refused only where none was.
-not_issued : is_justified entries 0 (drew_first ∷ []) (called (input.Report 2 false None 0) (Refused NotIssued)) ≡ true
-not_issued = refl
-
-not_issued_untrue : is_justified entries 0 (drew_first ∷ []) (called (input.Report 1 false None 0) (Refused NotIssued)) ≡ false
-not_issued_untrue = refl
+not_issued :
+    (is_justified entries 0 (drew_first ∷ []) (called (input.Report 2 false None 0) (Refused NotIssued)) ≡ true)
+    × (is_justified entries 0 (drew_first ∷ []) (called (input.Report 1 false None 0) (Refused NotIssued)) ≡ false)
+not_issued = (refl, refl)
 
 -- The call drew the first entry, and neither the second nor the first at another place.
-first_drawn : is_drawn (drew_first ∷ []) 0 first_entry ≡ true
-first_drawn = refl
-
-second_undrawn : is_drawn (drew_first ∷ []) 1 second_entry ≡ false
-second_undrawn = refl
-
-elsewhere_undrawn : is_drawn (drew_first ∷ []) 1 first_entry ≡ false
-elsewhere_undrawn = refl
-
-again_undrawn : is_drawn (asks 1 0 9000 (Answered (again first_entry)) ∷ []) 0 first_entry ≡ false
-again_undrawn = refl
+first_drawn :
+    (is_drawn (drew_first ∷ []) 0 first_entry ≡ true)
+    × (is_drawn (drew_first ∷ []) 1 second_entry ≡ false)
+    × (is_drawn (drew_first ∷ []) 1 first_entry ≡ false)
+    × (is_drawn (asks 1 0 9000 (Answered (again first_entry)) ∷ []) 0 first_entry ≡ false)
+first_drawn = (refl, refl, refl, refl)
 
 -- ---- faults of the history
 

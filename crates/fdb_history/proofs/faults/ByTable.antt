@@ -9,7 +9,7 @@ use Rattle.fdb_history.specs.declared.auditing.found.CallName.{CallName}
 use Rattle.fdb_history.specs.declared.auditing.registers.Registers.{Registers}
 use Rattle.fdb_history.specs.declared.log.Call.{Call}
 use Rattle.fdb_history.specs.declared.log.CallAnswer.{CallAnswer}
-use Rattle.fdb_history.specs.declared.log.CallAnswer.TheVariants.{Version, Answered, Acked, Told, Refused}
+use Rattle.fdb_history.specs.declared.log.CallAnswer.TheVariants.{Version, Answered, Acked}
 use Rattle.fdb_history.specs.declared.log.ClientLog.{ClientLog}
 use Rattle.fdb_history.specs.declared.register.Record.{Record}
 
@@ -28,16 +28,13 @@ wrong_alike : (f g : ℕ → Record) (position : ℕ) (answer : CallAnswer) → 
 wrong_alike f g position (Version rec limits locked_out) here before wrong = subst (λ r. rec ≡ r → ⊥) here wrong
 wrong_alike f g position (Acked rec raised true) here before wrong = subst (λ (r : Record). IsMisanswered r rec raised true) before wrong
 wrong_alike f g position (Acked rec raised false) here before wrong = subst (λ (r : Record). IsMisanswered r rec raised false) here wrong
-wrong_alike f g position (Answered issued) here before wrong = wrong
-wrong_alike f g position Told here before wrong = wrong
-wrong_alike f g position (Refused cause) here before wrong = wrong
+wrong_alike f g position _ here before wrong = wrong
 
 low_alike : (f g : ℕ → Record) (asked : ℕ) (answer : CallAnswer) → f asked ≡ g asked → IsNotAbove f asked answer → IsNotAbove g asked answer
 low_alike f g asked (Version rec limits locked_out) here low = low
 low_alike f g asked (Acked rec raised changed) here low = low
 low_alike f g asked (Answered issued) here low = subst (λ (r : Record). (issued.fresh ≡ true) × (issued.ordinal ≡ 0 → ⊥) × (issued.version ≤ r.version)) here low
-low_alike f g asked Told here low = low
-low_alike f g asked (Refused cause) here low = low
+low_alike f g asked _ here low = low
 
 -- what a call has reached
 reached : (logs : List ClientLog) (client place : ℕ) (call : Call) (position : ℕ) → slice_get (calls_of logs client) place ≡ Some call → position ≤ call.position → IsReached logs position

@@ -1,7 +1,9 @@
 -- The first call at which something stands, found client by client.
-use Rattle.std.proofs.Common.{◌≡◌, ℕ, zero, suc, ◌+◌, ◌<◌, ◌≤◌, List, [], ◌∷◌, length, take, None, Some, slice_get, get_or, refl, ap, sym, subst, ◌∙◌, inl, inr, arith}
+use Rattle.std.proofs.Common.{◌≡◌, ℕ, zero, suc, ◌+◌, ◌<◌, ◌≤◌, List, [], ◌∷◌, length, take, None, Some, slice_get, get_or, refl, ap, sym, subst, inl, inr, arith}
+use Rattle.std.proofs.lemmas.Grind.{common_steps}
+use Rattle.std.proofs.lemmas.Bool.Decides.{nat_tests}
 use Rattle.std.proofs.lemmas.Bool.{cases_eq, cases_lt}
-use Rattle.std.proofs.lemmas.Option.{none-some, same_Some}
+use Rattle.std.proofs.lemmas.Option.{none-some}
 use Rattle.fdb_history.specs.private.Auditing.{IsFirstOf, NoneBefore}
 use Rattle.fdb_history.specs.Faults.{StandsAt, IsFirst, ComesBefore}
 use Rattle.fdb_history.specs.Log.{calls_of, position_after_calls}
@@ -23,22 +25,11 @@ calls-past (first ∷ logs) (suc client) past = calls-past logs client (omega ar
 -- nothing stands at a client's calls where nothing is found in its log
 none_in : (Fault : List Call → Call → Type 0) (logs : List ClientLog) (client place : ℕ) (calls : List Call) → calls_of logs client ≡ calls
     → IsFirstOf Fault calls None → StandsAt Fault logs client place → ⊥
-none_in Fault logs client place calls is none stands =
-    let P : List Call → Type 0 = λ l. (call : Call) × (slice_get l place ≡ Some call) × Fault (take place l) call in
-    let there = subst P is stands in
-    none place there.0 there.1 there.2
+none_in Fault logs client place calls is none stands = grind (arith, common_steps, nat_tests)
 
 -- one call more without
 pub call_more : (Fault : List Call → Call → Type 0) (calls : List Call) (place : ℕ) (call : Call) → slice_get calls place ≡ Some call → (Fault (take place calls) call → ⊥) → NoneBefore Fault calls place → NoneBefore Fault calls (place + 1)
-call_more Fault calls place call at fine before p other below here fault =
-    elim (cases_lt p place) [
-      | inl earlier ↦ before p other earlier here fault
-      | inr last ↦
-          let same : p ≡ place = omega arith in
-          let this : other ≡ call = same_Some other call (sym here ∙ (ap (slice_get calls) same ∙ at)) in
-          let P : ℕ → Call → Type 0 = λ k c. Fault (take k calls) c in
-          fine (subst (P place) this (subst (λ (k : ℕ). P k other) same fault))
-    ]
+call_more Fault calls place call at fine before p other below here fault = grind (arith, common_steps, nat_tests)
 
 -- one client more without; the fault of a call may depend on its client
 pub none_more : (Fault : ℕ → List Call → Call → Type 0) (logs : List ClientLog) (client : ℕ) (calls : List Call) → calls_of logs client ≡ calls

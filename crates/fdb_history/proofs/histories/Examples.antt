@@ -32,12 +32,11 @@ one_client-legal : IsLegal (plain 100) one_client
 one_client-legal = (refl, ((refl, refl), ((refl, refl), (refl, tt))))
 
 -- The position rises where the register does.
-one_client-positions : positions_from 0 one_client ≡ 0 ∷ 0 ∷ 1 ∷ 1 ∷ []
-one_client-positions = refl
-
--- The register has what was reported last.
-one_client-register : register_after (plain 100) one_client ≡ plain 2100
-one_client-register = refl
+one_client-positions :
+    (positions_from 0 one_client ≡ 0 ∷ 0 ∷ 1 ∷ 1 ∷ [])
+    -- The register has what was reported last.
+    × (register_after (plain 100) one_client ≡ plain 2100)
+one_client-positions = (refl, refl)
 
 -- a sequencer for four proxies that has given no answer
 abbrev recruited : ℕ → Chain
@@ -71,88 +70,64 @@ repeated : answer_to two (ask 2 9000) ≡ second_again
 repeated = refl
 
 -- It draws no version.
-repeated-stays : chain_after two (answer_to two (ask 2 9000)) ≡ two
-repeated-stays = refl
-
--- So the next number goes on from there.
-after_repeated : answer_to (after_asks two (ask 2 9000 ∷ [])) (ask 3 3500) ≡ Ok (record { ordinal = 2; proxy = 0; num = 3; processed = 0; prev = 2100; version = 2600; at = 3500; fresh = true })
-after_repeated = refl
-
--- A version is at least one above the last one, and at most five million.
-least_and_greatest_step : drawn (ask 1 1000 ∷ ask 2 1000 ∷ ask 3 20001000 ∷ []) ≡ 100 ∷ 101 ∷ 5000101 ∷ []
-least_and_greatest_step = refl
-
--- A moment before the last one counts as no time, and the next one is measured from it.
-time_goes_back : drawn (ask 1 1000 ∷ ask 2 500 ∷ ask 3 1200 ∷ []) ≡ 100 ∷ 101 ∷ 801 ∷ []
-time_goes_back = refl
+repeated-stays :
+    (chain_after two (answer_to two (ask 2 9000)) ≡ two)
+    -- So the next number goes on from there.
+    × (answer_to (after_asks two (ask 2 9000 ∷ [])) (ask 3 3500) ≡ Ok (record { ordinal = 2; proxy = 0; num = 3; processed = 0; prev = 2100; version = 2600; at = 3500; fresh = true }))
+    -- A version is at least one above the last one, and at most five million.
+    × (drawn (ask 1 1000 ∷ ask 2 1000 ∷ ask 3 20001000 ∷ []) ≡ 100 ∷ 101 ∷ 5000101 ∷ [])
+    -- A moment before the last one counts as no time, and the next one is measured from it.
+    × (drawn (ask 1 1000 ∷ ask 2 500 ∷ ask 3 1200 ∷ []) ≡ 100 ∷ 101 ∷ 801 ∷ [])
+repeated-stays = (refl, refl, refl, refl)
 
 -- after numbers 1 and 2, number 3 says that number 1 is processed
 abbrev one_processed : Chain
 one_processed = after_asks two (ask_having 1 3 3500 ∷ [])
 
 -- Number 1 is not kept any more.
-processed-forgotten : answer_to one_processed (ask 1 4000) ≡ Err Forgotten
-processed-forgotten = refl
-
--- Number 2 is kept.
-unprocessed-kept : answer_to one_processed (ask 2 4000) ≡ second_again
-unprocessed-kept = refl
-
--- A repeated request drops nothing, whatever it says that is processed.
-repeated-drops_nothing : answer_to one_processed (ask_having 2 2 4000) ≡ second_again
-repeated-drops_nothing = refl
-
--- And again.
-repeated_again : answer_to (after_asks one_processed (ask_having 2 2 4000 ∷ [])) (ask 2 5000) ≡ second_again
-repeated_again = refl
-
--- A number beyond the next one is early.
-beyond-early : answer_to two (ask 5 4000) ≡ Err (Early 3)
-beyond-early = refl
-
--- There is no number 0.
-zero-forgotten : answer_to two (ask 0 4000) ≡ Err Forgotten
-zero-forgotten = refl
-
--- Four proxies are 0 to 3.
-fourth-unknown : answer_to two (record { proxy = 4; num = 1; processed = 0; at = 4000 }) ≡ Err UnknownProxy
-fourth-unknown = refl
-
--- Proxy 3 is the last one, and the versions of all proxies are one chain.
-third-known : answer_to two (record { proxy = 3; num = 1; processed = 0; at = 3001 }) ≡ Ok (record { ordinal = 2; proxy = 3; num = 1; processed = 0; prev = 2100; version = 2101; at = 3001; fresh = true })
-third-known = refl
+processed-forgotten :
+    (answer_to one_processed (ask 1 4000) ≡ Err Forgotten)
+    -- Number 2 is kept.
+    × (answer_to one_processed (ask 2 4000) ≡ second_again)
+    -- A repeated request drops nothing, whatever it says that is processed.
+    × (answer_to one_processed (ask_having 2 2 4000) ≡ second_again)
+    -- And again.
+    × (answer_to (after_asks one_processed (ask_having 2 2 4000 ∷ [])) (ask 2 5000) ≡ second_again)
+    -- A number beyond the next one is early.
+    × (answer_to two (ask 5 4000) ≡ Err (Early 3))
+    -- There is no number 0.
+    × (answer_to two (ask 0 4000) ≡ Err Forgotten)
+    -- Four proxies are 0 to 3.
+    × (answer_to two (record { proxy = 4; num = 1; processed = 0; at = 4000 }) ≡ Err UnknownProxy)
+    -- Proxy 3 is the last one, and the versions of all proxies are one chain.
+    × (answer_to two (record { proxy = 3; num = 1; processed = 0; at = 3001 }) ≡ Ok (record { ordinal = 2; proxy = 3; num = 1; processed = 0; prev = 2100; version = 2101; at = 3001; fresh = true }))
+processed-forgotten = (refl, refl, refl, refl, refl, refl, refl, refl)
 
 -- after number 1, number 2 says that all up to number 9 is processed
 abbrev all_processed : Chain
 all_processed = after_asks (recruited 100) (ask 1 1000 ∷ ask_having 9 2 3000 ∷ [])
 
 -- Number 1 is not kept.
-all_processed-forgotten : answer_to all_processed (ask 1 4000) ≡ Err Forgotten
-all_processed-forgotten = refl
-
--- A request's own answer is kept, even where it says that it is processed.
-own-kept : answer_to all_processed (ask 2 4000) ≡ Ok (record { ordinal = 1; proxy = 0; num = 2; processed = 9; prev = 100; version = 2100; at = 3000; fresh = false })
-own-kept = refl
+all_processed-forgotten :
+    (answer_to all_processed (ask 1 4000) ≡ Err Forgotten)
+    -- A request's own answer is kept, even where it says that it is processed.
+    × (answer_to all_processed (ask 2 4000) ≡ Ok (record { ordinal = 1; proxy = 0; num = 2; processed = 9; prev = 100; version = 2100; at = 3000; fresh = false }))
+all_processed-forgotten = (refl, refl)
 
 -- a sequencer that has drawn the last two versions
 abbrev spent : Chain
 spent = after_asks (recruited 9223372036854775806) (ask 1 0 ∷ ask 2 0 ∷ [])
 
 -- They are 2^63 - 2 and 2^63 - 1.
-spent-versions : map (λ answer. answer.version) spent.answers ≡ 9223372036854775806 ∷ 9223372036854775807 ∷ []
-spent-versions = refl
-
--- There is no next version.
-spent-exhausted : answer_to spent (ask 3 0) ≡ Err Exhausted
-spent-exhausted = refl
-
--- The answers stay.
-spent-stays : chain_after spent (answer_to spent (ask 3 0)) ≡ spent
-spent-stays = refl
-
--- Number 2 is still kept.
-spent-kept : answer_to (after_asks spent (ask 3 0 ∷ [])) (ask 2 0) ≡ Ok (record { ordinal = 1; proxy = 0; num = 2; processed = 0; prev = 9223372036854775806; version = 9223372036854775807; at = 0; fresh = false })
-spent-kept = refl
+spent-versions :
+    (map (λ answer. answer.version) spent.answers ≡ 9223372036854775806 ∷ 9223372036854775807 ∷ [])
+    -- There is no next version.
+    × (answer_to spent (ask 3 0) ≡ Err Exhausted)
+    -- The answers stay.
+    × (chain_after spent (answer_to spent (ask 3 0)) ≡ spent)
+    -- Number 2 is still kept.
+    × (answer_to (after_asks spent (ask 3 0 ∷ [])) (ask 2 0) ≡ Ok (record { ordinal = 1; proxy = 0; num = 2; processed = 0; prev = 9223372036854775806; version = 9223372036854775807; at = 0; fresh = false }))
+spent-versions = (refl, refl, refl, refl)
 
 -- ---- logs
 
@@ -174,16 +149,13 @@ abbrev two_clients : List ClientLog
 two_clients = log_of (raised 0 1 200 ∷ raised 1 2 300 ∷ []) ∷ log_of (reads 0 0 100 ∷ reads 0 1 200 ∷ []) ∷ []
 
 -- The history goes by position, the change first.
-two_clients-explained : explained two_clients ≡ Read 1 0 (plain 100) ∷ Report 0 0 (plain 200) true true ∷ Read 1 1 (plain 200) ∷ Report 0 1 (plain 300) true true ∷ []
-two_clients-explained = refl
-
--- The register at each position.
-two_clients-register : map (register_at (plain 100) two_clients) (0 ∷ 1 ∷ 2 ∷ 3 ∷ []) ≡ plain 100 ∷ plain 200 ∷ plain 300 ∷ plain 300 ∷ []
-two_clients-register = refl
-
--- A change in each of two logs at position 1: both stand there.
-two_at_one : length (changes_at (log_of (raised 0 1 200 ∷ []) ∷ log_of (raised 0 1 300 ∷ []) ∷ []) 1) ≡ 2
-two_at_one = refl
+two_clients-explained :
+    (explained two_clients ≡ Read 1 0 (plain 100) ∷ Report 0 0 (plain 200) true true ∷ Read 1 1 (plain 200) ∷ Report 0 1 (plain 300) true true ∷ [])
+    -- The register at each position.
+    × (map (register_at (plain 100) two_clients) (0 ∷ 1 ∷ 2 ∷ 3 ∷ []) ≡ plain 100 ∷ plain 200 ∷ plain 300 ∷ plain 300 ∷ [])
+    -- A change in each of two logs at position 1: both stand there.
+    × (length (changes_at (log_of (raised 0 1 200 ∷ []) ∷ log_of (raised 0 1 300 ∷ []) ∷ []) 1) ≡ 2)
+two_clients-explained = (refl, refl, refl)
 
 apart : (a b : ℕ) → a ≡ 300 → b ≡ 100 → a ≡ b → ⊥
 apart a b one other same = absurd (omega arith)
@@ -197,8 +169,7 @@ second-out_of_order : IsOutOfOrder (reads 0 1 100 ∷ []) (reads 0 0 100)
 second-out_of_order = inl (omega arith)
 
 -- A read may be refused for its count, and no report may.
-read_may : goes_with (input.Grv plain_read) (Refused BadCount) ≡ true
-read_may = refl
-
-report_may_not : goes_with (input.Report 1 false None 0) (Refused BadCount) ≡ false
-report_may_not = refl
+read_may :
+    (goes_with (input.Grv plain_read) (Refused BadCount) ≡ true)
+    × (goes_with (input.Report 1 false None 0) (Refused BadCount) ≡ false)
+read_may = (refl, refl)

@@ -1,12 +1,14 @@
 -- A read never misses a commit that its client knows of.
-use Rattle.std.proofs.Common.{◌≡◌, ℕ, zero, suc, ◌<◌, ◌≤◌, ◌==◌, Bool, true, false, IsTrue, List, [], ◌∷◌, filter, flat_map, Some, slice_get, refl, sym, ◌∙◌, subst, inl, inr, arith, le_refl, le_trans, ltb, ltb-false}
+use Rattle.std.proofs.Common.{◌≡◌, ℕ, zero, suc, ◌<◌, ◌≤◌, ◌==◌, Bool, true, false, IsTrue, List, [], ◌∷◌, filter, flat_map, Some, slice_get, refl, sym, ◌∙◌, subst, inl, inr, arith, le_refl, le_trans}
 use Rattle.std.specs.List.{AllByRecursion}
-use Rattle.std.proofs.lemmas.Bool.{cases_Bool, cases_lt, eq-eqb, false≢true, or_parts}
+use Rattle.std.proofs.lemmas.Grind.{common_steps}
+use Rattle.std.proofs.lemmas.Bool.Decides.{nat_tests}
+use Rattle.std.proofs.lemmas.Bool.{cases_Bool, cases_lt, eq-eqb, false≢true}
 use Rattle.std.proofs.lemmas.Option.{same_Some, none-some}
 use Rattle.fdb_history.specs.Faults.{change_in, changes_in, changes_at, after_changes, register_at, IsWrongAnswer, IsFaultless}
 use Rattle.fdb_history.specs.Linear.{IsLinear, NeverGoesBack}
 use Rattle.fdb_history.specs.Log.{calls_of, answer_changes}
-use Rattle.fdb_history.specs.Register.{raises, changes, after_report}
+use Rattle.fdb_history.specs.Register.{changes, after_report}
 use Rattle.fdb_history.specs.declared.auditing.changes.PlacedChange.{PlacedChange}
 use Rattle.fdb_history.specs.declared.event.Event.{Event}
 use Rattle.fdb_history.specs.declared.grv.TagLimit.{TagLimit}
@@ -15,8 +17,8 @@ use Rattle.fdb_history.specs.declared.log.CallAnswer.TheVariants.{Version, Acked
 use Rattle.fdb_history.specs.declared.log.ClientLog.{ClientLog}
 use Rattle.fdb_history.specs.declared.register.Record.{Record}
 use Rattle.fdb_history.proofs.histories.AfterReport.{version-at_least, min_known-at_least}
-use Rattle.fdb_history.proofs.explained.NoFault.{all_parts, all_at, of_client, faultless}
-use Rattle.fdb_history.proofs.faultless.Blocks.{kept, left_out}
+use Rattle.fdb_history.proofs.Lists.{all_parts, all_at, of_client, kept, left_out}
+use Rattle.fdb_history.proofs.explained.NoFault.{faultless}
 use Rattle.fdb_history.proofs.faultless.Legal.{same_record, answered_so}
 
 -- ---- of lists
@@ -135,9 +137,7 @@ ends_later start logs fine client place call at =
 
 -- a report that would not change a record is of no more than that
 no_more : (current rec : Record) → changes current rec ≡ false → AtMost rec current
-no_more current rec stays =
-    let parts = or_parts (raises current rec) (ltb current.min_known rec.min_known) stays in
-    (ltb-false current.version rec.version parts.0, ltb-false current.min_known rec.min_known parts.1)
+no_more current rec stays = grind (arith, common_steps, nat_tests)
 
 -- the register at an acknowledgement's position has at least what was reported
 acknowledged : (start : Record) (logs : List ClientLog) → IsFaultless start logs → (client place : ℕ) (call : Call) (rec : Record) (raised changed : Bool)

@@ -11,10 +11,10 @@ use Rattle.fdb_history.specs.declared.event.Event.TheVariants.{Report, Read}
 use Rattle.fdb_history.specs.declared.event.Placed.{Placed}
 use Rattle.fdb_history.specs.declared.log.Call.{Call}
 use Rattle.fdb_history.specs.declared.log.CallAnswer.{CallAnswer}
-use Rattle.fdb_history.specs.declared.log.CallAnswer.TheVariants.{Version, Answered, Acked, Told, Refused}
+use Rattle.fdb_history.specs.declared.log.CallAnswer.TheVariants.{Version, Acked}
 use Rattle.fdb_history.specs.declared.log.ClientLog.{ClientLog}
 use Rattle.fdb_history.specs.declared.register.Record.{Record}
-use Rattle.fdb_history.proofs.faultless.Blocks.{kept, left_out}
+use Rattle.fdb_history.proofs.Lists.{kept, left_out}
 use Rattle.fdb_history.proofs.histories.HistoryLaws.{IsWithin}
 
 -- an event that is no report of a minimum above its version
@@ -27,9 +27,7 @@ one_within : (client place position : ℕ) (answer : CallAnswer) (rest : List Pl
     → AllByRecursion IsEventWithin (map (λ p. p.event) (map (λ event. record { event = event; position = position }) (option_to_list (event_of_answer client place answer)) ++ rest))
 one_within client place position (Version rec limits locked_out) rest within all = (tt, all)
 one_within client place position (Acked rec raised changed) rest within all = (within, all)
-one_within client place position (Answered issued) rest within all = all
-one_within client place position Told rest within all = all
-one_within client place position (Refused cause) rest within all = all
+one_within client place position _ rest within all = all
 
 -- and those of all calls of a log
 calls_within : (client place : ℕ) (calls : List Call) → AllByRecursion (λ call. HasMinimumWithin call.answer) calls

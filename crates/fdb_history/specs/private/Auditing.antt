@@ -1,16 +1,16 @@
 -- How the parts of an audit answer one another. (this product's own)
-use Rattle.std.specs.Prelude.{◌≡◌, ℕ, ◌+◌, ◌<◌, ◌≤◌, Bool, false, List, length, take, Option, None, Some, slice_get, slice_index_or, count_by}
+use Rattle.std.specs.Prelude.{◌≡◌, ℕ, ◌+◌, ◌<◌, ◌≤◌, ◌==◌, Bool, false, if◌then◌else◌, List, [], ◌∷◌, length, take, Option, None, Some, slice_get, slice_index_or, count_by, max}
 use Rattle.std.specs.List.{AllByRecursion}
-use Rattle.std.specs.List.Sorted.{IsNonDecreasingBy}
 use Rattle.fdb_history.specs.Event.{is_change}
 use Rattle.fdb_history.specs.Explained.{placed_in}
-use Rattle.fdb_history.specs.Faults.{IsClash, IsGap, IsFirst, IsLeast, IsReached, Nowhere, AtNoPosition, at_position, changes_at, register_at, after_changes}
+use Rattle.fdb_history.specs.Faults.{IsClash, IsGap, IsFirst, IsLeast, IsReached, Nowhere, AtNoPosition, at_position, changes_at, register_at}
+use Rattle.fdb_history.specs.Register.{after_report}
 use Rattle.fdb_history.specs.declared.auditing.found.CallName.{CallName}
 use Rattle.fdb_history.specs.declared.auditing.changes.PlacedChange.{PlacedChange}
 use Rattle.fdb_history.specs.declared.auditing.registers.Registers.{Registers}
 use Rattle.fdb_history.specs.declared.chain.Issued.{Issued}
 use Rattle.fdb_history.specs.declared.fault.AuditFault.{AuditFault}
-use Rattle.fdb_history.specs.declared.fault.AuditFault.TheVariants.{Order, Clash, Gap, Wrong, Stray, NotAbove, Memory}
+use Rattle.fdb_history.specs.declared.fault.AuditFault.TheVariants.{Clash, Gap, Memory}
 use Rattle.fdb_history.specs.declared.log.Call.{Call}
 use Rattle.fdb_history.specs.declared.log.ClientLog.{ClientLog}
 use Rattle.fdb_history.specs.declared.register.Record.{Record}
@@ -39,29 +39,45 @@ abbrev pub IsLeastIfAny : (ℕ → Type 0) → Option ℕ → Type 0
 IsLeastIfAny Stands None = AtNoPosition Stands
 IsLeastIfAny Stands (Some position) = IsLeast Stands position
 
+-- no number falls below the one before it, from this one on
+abbrev pub Rises : {X : Type 0} → (X → ℕ) → ℕ → List X → Type 0
+Rises n low [] = Unit {0}
+Rises n low (x ∷ xs) = (low ≤ n x) × Rises n (n x) xs
+
 -- the changes stand in the order of their positions
 abbrev pub AreByPosition : List PlacedChange → Type 0
-AreByPosition changes = IsNonDecreasingBy (λ (change : PlacedChange). change.position) changes
+AreByPosition changes = Rises (λ (change : PlacedChange). change.position) 0 changes
 
 -- the changes of a list are those of the logs, at each position
 abbrev pub AreChangesOf : List ClientLog → List PlacedChange → Type 0
 AreChangesOf logs changes = (position : ℕ) → at_position position changes ≡ changes_at logs position
 
--- two or more changes of the list have this position
-abbrev pub AreTwoAt : List PlacedChange → ℕ → Type 0
-AreTwoAt changes position = 1 < length (at_position position changes)
+-- the first position that a change shares with the one before it
+abbrev pub clash_in : ℕ → List PlacedChange → Option ℕ
+clash_in before [] = None
+clash_in before (change ∷ changes) =
+    if change.position == before then Some before else clash_in change.position changes
 
--- the changes before a position stand at 1, 2 and so on
-abbrev pub StandInTurn : ℕ → List PlacedChange → Type 0
-StandInTurn position changes =
-    (place : ℕ) (d : PlacedChange) → place + 1 < position
-    → (place < length changes) × ((slice_index_or changes place d).position ≡ place + 1)
+-- the first number, from this one on, at which the changes do not stand in turn
+abbrev pub missing_in : ℕ → List PlacedChange → ℕ
+missing_in next [] = next
+missing_in next (change ∷ changes) =
+    if change.position == next then missing_in (next + 1) changes else next
 
 -- the register before any change, and then after each change in turn
-abbrev pub IsTable : Record → List PlacedChange → List Record → Type 0
-IsTable start changes table =
-    (count : ℕ) (d : Record) → count ≤ length changes
-    → slice_index_or table count d ≡ after_changes start (take count changes)
+abbrev pub table_of : Record → List PlacedChange → List Record
+table_of current [] = current ∷ []
+table_of current (change ∷ changes) = current ∷ table_of (after_report current change.rec) changes
+
+-- the greatest of a position and those of some calls
+abbrev pub farthest_in : ℕ → List Call → ℕ
+farthest_in far [] = far
+farthest_in far (call ∷ calls) = farthest_in (max far call.position) calls
+
+-- the greatest of a position and those of all calls in the logs
+abbrev pub farthest : ℕ → List ClientLog → ℕ
+farthest far [] = far
+farthest far (log ∷ logs) = farthest (farthest_in far log.calls) logs
 
 -- the register at a position, by a table
 abbrev pub by_table : Registers → ℕ → Record
@@ -78,10 +94,7 @@ abbrev pub IsChangeFault : List ClientLog → AuditFault → Type 0
 IsChangeFault logs (Clash position) = IsLeast (IsClash logs) position
 IsChangeFault logs (Gap position) = AtNoPosition (IsClash logs) × IsLeast (IsGap logs) position
 IsChangeFault logs Memory = Unit {0}
-IsChangeFault logs (Order client call) = ⊥
-IsChangeFault logs (Wrong client call) = ⊥
-IsChangeFault logs (Stray client call) = ⊥
-IsChangeFault logs (NotAbove client call) = ⊥
+IsChangeFault logs _ = ⊥
 
 -- no register call has a position above the number of changes
 abbrev pub IsWithin : List ClientLog → Type 0

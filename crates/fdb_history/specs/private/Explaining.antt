@@ -1,7 +1,7 @@
 -- The order of the program's events, and the changes among them. (this product's own)
 use Rattle.std.specs.Prelude.{ℕ, true, false, List, [], ◌∷◌}
 use Rattle.std.specs.List.{flat_map}
-use Rattle.std.specs.List.Sorted.{IsNonDecreasingBy}
+use Rattle.fdb_history.specs.private.Auditing.{Rises}
 use Rattle.fdb_history.specs.declared.event.Placed.{Placed}
 use Rattle.fdb_history.specs.declared.auditing.changes.PlacedChange.{PlacedChange}
 use Rattle.fdb_history.specs.declared.event.Event.{Event}
@@ -9,7 +9,7 @@ use Rattle.fdb_history.specs.declared.event.Event.TheVariants.{Report, Read}
 
 -- the events stand in the order of their positions
 abbrev pub AreEventsByPosition : List Placed → Type 0
-AreEventsByPosition events = IsNonDecreasingBy (λ (p : Placed). p.position) events
+AreEventsByPosition events = Rises (λ (p : Placed). p.position) 0 events
 
 -- the change of an event at a position, if it is one
 abbrev pub change_of_event : ℕ → Event → List PlacedChange

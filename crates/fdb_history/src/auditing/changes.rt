@@ -1,10 +1,8 @@
 //! The changes among the events of the logs.
 
-ghost use Rattle.std.specs.Prelude.{◌≡◌, ◌≤◌, [], IfOk};
-ghost use Rattle.fdb_history.specs.private.Auditing.{AreByPosition, AreTwoAt, IsLeastIfAny};
-ghost use Rattle.fdb_history.specs.private.Auditing.{StandInTurn};
+ghost use Rattle.std.specs.Prelude.{◌≡◌, IfOk};
+ghost use Rattle.fdb_history.specs.private.Auditing.{clash_in, missing_in};
 ghost use Rattle.fdb_history.specs.private.Explaining.{changes_of};
-ghost use Rattle.fdb_history.specs.Faults.{AtNoPosition, at_position};
 
 use crate::event::{Event, Placed};
 use crate::register::Record;
@@ -39,27 +37,24 @@ pub(crate) fn changes_of(alloc: Global, events: &[Placed]) -> Result<Vec<PlacedC
     Ok(changes)
 }
 
-/// The least position that two changes have.
+/// The first position that two changes share, where they stand by position and none at 0.
 pub(crate) fn first_clash(changes: &[PlacedChange]) -> Option<u64>
-    requires { AreByPosition changes.now }
-    ensures { IsLeastIfAny (AreTwoAt changes.now) result }
+    ensures { result ≡ clash_in 0 changes.now }
 {
-    for place in 1..changes.len() {
-        if changes[place - 1].position == changes[place].position {
-            return Some(changes[place].position);
+    let mut before = 0;
+    for change in changes {
+        if change.position == before {
+            return Some(before);
         }
+        before = change.position;
     }
     None
 }
 
-/// The least position, from 1 on, that no change has. The
+/// The least position, from 1 on, that no change has, where they rise from 1 on. The
 /// changes before it have each position in turn.
 pub(crate) fn first_missing(changes: &[PlacedChange]) -> u64
-    requires sorted { AreByPosition changes.now }
-    requires from_one { at_position 0 changes.now ≡ [] }
-    requires once { AtNoPosition (AreTwoAt changes.now) }
-    ensures missing { (1 ≤ result) × (at_position result changes.now ≡ []) }
-    ensures in_turn { StandInTurn result changes.now }
+    ensures { result ≡ missing_in 1 changes.now }
 {
     for (place, change) in changes.iter().enumerate() {
         let position = place as u64 + 1;

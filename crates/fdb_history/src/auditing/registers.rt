@@ -1,11 +1,10 @@
 //! The register at each position, by the changes in the logs.
 
-ghost use Rattle.std.specs.Prelude.{◌≡◌, ◌≤◌, ℕ, slice_get, Some, IfOk, OnOk, IfErr};
+ghost use Rattle.std.specs.Prelude.{◌≡◌, IfOk, OnOk, IfErr};
 ghost use Rattle.fdb_history.specs.private.Auditing.{AreByPosition, AreChangesOf, AreRegisters};
-ghost use Rattle.fdb_history.specs.private.Auditing.{IsChangeFault, IsTable, by_table};
-ghost use Rattle.fdb_history.specs.Faults.{OutOfOrder, IsClash, IsGap, IsReached, AtNoPosition};
-ghost use Rattle.fdb_history.specs.Faults.{Nowhere};
-ghost use Rattle.fdb_history.specs.declared.log.Call.{Call};
+ghost use Rattle.fdb_history.specs.private.Auditing.{IsChangeFault, by_table, farthest};
+ghost use Rattle.fdb_history.specs.private.Auditing.{farthest_in, table_of};
+ghost use Rattle.fdb_history.specs.Faults.{OutOfOrder, IsClash, IsGap, AtNoPosition, Nowhere};
 
 use crate::auditing::changes::{PlacedChange, first_clash, first_missing};
 use crate::fault::AuditFault;
@@ -68,41 +67,36 @@ fn table_of(
     start: Record,
     changes: &[PlacedChange],
 ) -> Result<Vec<Record>, AllocError>
-    ensures { IfOk result (λ table. IsTable start changes.now table.items) }
+    ensures { IfOk result (λ table. table.items ≡ table_of start changes.now) }
 {
     let mut table = Vec::with_capacity(alloc, changes.len() + 1)?;
     let mut current = start;
-    table.push_reserved(current);
     for change in changes {
+        table.push(current)?;
         current = current.after_report(change.rec);
-        table.push_reserved(current);
     }
+    table.push(current)?;
     Ok(table)
 }
 
 /// The greatest position of a call, or 0 where there is no call.
 fn greatest_position(logs: &[ClientLog]) -> u64
-    ensures above { (position : ℕ) → IsReached logs.now position → position ≤ result }
-    ensures reached { (position : ℕ) → 1 ≤ position → position ≤ result
-        → IsReached logs.now position }
+    ensures { result ≡ farthest 0 logs.now }
 {
     let mut greatest = 0;
     for log in logs {
-        greatest = greatest.max(greatest_in(log.calls.as_slice()));
+        greatest = greatest_in(greatest, log.calls.as_slice());
     }
     greatest
 }
 
-/// The greatest position of a log's calls, or 0 where there is none.
-fn greatest_in(calls: &[Call]) -> u64
-    ensures above { (place : ℕ) (call : Call) → slice_get calls.now place ≡ Some call
-        → call.position ≤ result }
-    ensures reached { 1 ≤ result → (place : ℕ) × (call : Call)
-        × (slice_get calls.now place ≡ Some call) × (result ≤ call.position) }
+/// The greatest of a position and those of a log's calls.
+fn greatest_in(far: u64, calls: &[Call]) -> u64
+    ensures { result ≡ farthest_in far calls.now }
 {
-    let mut greatest = 0;
+    let mut greatest = far;
     for call in calls {
-        greatest = call.position.max(greatest);
+        greatest = greatest.max(call.position);
     }
     greatest
 }

@@ -4,24 +4,24 @@ use Rattle.fdb_lines.specs.declared.end.End.{End}
 use Rattle.fdb_lines.specs.declared.line.Line.{Line}
 use Rattle.fdb_lines.specs.declared.reason.Means.{Means}
 use Rattle.fdb_lines.specs.declared.reason.Witness.{Witness}
-use Rattle.fdb_lines.specs.declared.seen.Seen.{Seen}
+use Rattle.fdb_lines.specs.declared.exposure.Exposure.{Exposure}
 use Rattle.fdb_lines.specs.Lines.{line_at, kind_of, version_of}
 use Rattle.fdb_lines.specs.Before.{began, ended, one_client}
 use Rattle.fdb_lines.specs.Faults.{greatest_of}
 use Rattle.fdb_lines.specs.Reasons.{IsMeans}
-use Rattle.fdb_lines.specs.private.Ends.{Moment, comes_by, is_earlier}
+use Rattle.fdb_lines.specs.private.EndTable.{Moment, comes_by, is_earlier}
 use Rattle.fdb_lines.specs.private.Entries.{AreEntries, IsEntry}
-use Rattle.fdb_lines.specs.private.Seen.{counts}
+use Rattle.fdb_lines.specs.private.Exposure.{counts}
 
 -- whether a line lets its version be known
-abbrev pub counts_at : Seen → List Line → ℕ → Bool
+abbrev pub counts_at : Exposure → List Line → ℕ → Bool
 counts_at seen lines j = counts seen (kind_of (line_at lines j).call)
 
 abbrev pub version_in : List Line → ℕ → ℕ
 version_in lines j = version_of (line_at lines j).call
 
 -- the newest version that lines before one let know
-abbrev pub newest_known : (ℕ → ℕ → Bool) → Seen → List Line → ℕ → ℕ
+abbrev pub newest_known : (ℕ → ℕ → Bool) → Exposure → List Line → ℕ → ℕ
 newest_known before seen lines k = greatest_of (λ j. before j k && counts_at seen lines j) (version_in lines) (length lines)
 
 -- ---- a line that is known
@@ -56,19 +56,19 @@ abbrev pub AreKnownOf : (ℕ → ℕ → Bool) → ℕ → List Line → ℕ →
 AreKnownOf test margin lines n known = (length known ≡ n) × ((k : ℕ) → k < n → KnowsOf test margin lines k (by_at known k))
 
 -- of all lines before them that let their versions be known
-abbrev pub lets_know : (ℕ → ℕ → Bool) → Seen → List Line → ℕ → ℕ → Bool
+abbrev pub lets_know : (ℕ → ℕ → Bool) → Exposure → List Line → ℕ → ℕ → Bool
 lets_know before seen lines k j = before j k && counts_at seen lines j
 
-abbrev pub AreKnown : (ℕ → ℕ → Bool) → ℕ → Seen → List Line → List (Option Witness) → Type 0
+abbrev pub AreKnown : (ℕ → ℕ → Bool) → ℕ → Exposure → List Line → List (Option Witness) → Type 0
 AreKnown before margin seen lines known = AreKnownOf (lets_know before seen lines) margin lines (length lines) known
 
 -- ---- whether a line before one lets a version be known
 
-abbrev pub tells : (ℕ → ℕ → Bool) → Seen → List Line → ℕ → ℕ → ℕ → Bool
+abbrev pub tells : (ℕ → ℕ → Bool) → Exposure → List Line → ℕ → ℕ → ℕ → Bool
 tells before seen lines k version j = before j k && (counts_at seen lines j && version_in lines j == version)
 
 -- one that does, and how it was known, or none does
-abbrev pub IsFound : (ℕ → ℕ → Bool) → ℕ → Seen → List Line → ℕ → ℕ → Option Witness → Type 0
+abbrev pub IsFound : (ℕ → ℕ → Bool) → ℕ → Exposure → List Line → ℕ → ℕ → Option Witness → Type 0
 IsFound before margin seen lines k version None = (j : ℕ) → j < length lines → tells before seen lines k version j ≡ false
 IsFound before margin seen lines k version (Some by) =
     (by.line < length lines) × (tells before seen lines k version by.line ≡ true) × IsMeans margin lines by.line k by.means
@@ -90,17 +90,17 @@ had_ended None above time place = false
 had_ended (Some end) above time place = is_earlier end above time place
 
 -- whether a line stands in a table, in a group and before a moment
-abbrev pub stands_in : Bool → Seen → Line → ℕ → Moment → Bool
+abbrev pub stands_in : Bool → Exposure → Line → ℕ → Moment → Bool
 stands_in by_client seen line above moment =
     counts seen (kind_of line.call)
     && (in_group by_client line.client moment.group && had_ended (ended line) above moment.time moment.place)
 
-abbrev pub AreEnds : Bool → Seen → List Line → ℕ → List End → Type 0
+abbrev pub AreEnds : Bool → Exposure → List Line → ℕ → List End → Type 0
 AreEnds by_client seen lines =
     AreEntries (λ (end : End). end.place) (λ (end : End). end.version) comes_by (version_in lines)
     (λ moment j. stands_in by_client seen (line_at lines j) j moment)
 
-abbrev pub IsEndOf : Bool → Seen → Line → ℕ → Option End → Type 0
+abbrev pub IsEndOf : Bool → Exposure → Line → ℕ → Option End → Type 0
 IsEndOf by_client seen line above =
     IsEntry (λ (end : End). end.place) (λ (end : End). end.version) comes_by above (version_of line.call) (stands_in by_client seen line above)
 
@@ -108,11 +108,11 @@ abbrev pub moment : ℕ → ℕ → ℕ → Moment
 moment group time place = record { group = group; time = time; place = place }
 
 -- whether a line of all had ended by more than the margin before another began
-abbrev pub of_all : ℕ → Seen → List Line → ℕ → ℕ → Bool
+abbrev pub of_all : ℕ → Exposure → List Line → ℕ → ℕ → Bool
 of_all margin seen lines k j = stands_in false seen (line_at lines j) j (moment 0 (began (line_at lines k) - margin) 0)
 
 -- whether a line of its client's had ended before it began
-abbrev pub of_own : Seen → List Line → ℕ → ℕ → Bool
+abbrev pub of_own : Exposure → List Line → ℕ → ℕ → Bool
 of_own seen lines k j =
     counts_at seen lines j && (one_client (line_at lines j).client (line_at lines k).client && had_ended (ended (line_at lines j)) j (began (line_at lines k)) k)
 

@@ -3,14 +3,14 @@ use Rattle.std.specs.Prelude.{◌≡◌, ℕ, ◌<◌, ◌&&◌, nat_lt, Bool, L
 use Rattle.fdb_lines.specs.declared.end.End.{End}
 use Rattle.fdb_lines.specs.declared.fault.Fault.{Fault}
 use Rattle.fdb_lines.specs.declared.line.Line.{Line}
-use Rattle.fdb_lines.specs.declared.seen.Seen.{Seen}
+use Rattle.fdb_lines.specs.declared.exposure.Exposure.{Exposure}
 use Rattle.fdb_lines.specs.Before.{ended}
 use Rattle.fdb_lines.specs.Late.{is_outdated, IsFirstThat}
 use Rattle.fdb_lines.specs.Lines.{line_at}
 use Rattle.fdb_lines.specs.private.Known.{counts_at, version_in}
 
 -- whether a line that lets its version be known outdates a version
-abbrev pub outdates_by : Fault → Seen → List Line → ℕ → ℕ → Bool
+abbrev pub outdates_by : Fault → Exposure → List Line → ℕ → ℕ → Bool
 outdates_by fault seen lines version j = counts_at seen lines j && is_outdated fault version (version_in lines j)
 
 -- the first end of the lines that pass a test; none where none that passes has a known end

@@ -5,18 +5,19 @@ use Rattle.fdb_lines.specs.declared.end.End.{End}
 use Rattle.fdb_lines.specs.declared.fault.Fault.{Fault}
 use Rattle.fdb_lines.specs.declared.fault.Fault.TheVariants.{NotAbove}
 use Rattle.fdb_lines.specs.declared.line.Line.{Line}
+use Rattle.fdb_lines.specs.declared.log.Log.{Log}
 use Rattle.fdb_lines.specs.declared.opts.AuditOpts.{AuditOpts}
 use Rattle.fdb_lines.specs.declared.reason.Reason.{Reason}
 use Rattle.fdb_lines.specs.declared.reason.Reason.TheVariants.{Drawn as DrawnBy, Undrawn}
-use Rattle.fdb_lines.specs.declared.seen.Seen.{Seen}
-use Rattle.fdb_lines.specs.declared.seen.Seen.TheVariants.{Shown, Drawn}
-use Rattle.fdb_lines.specs.declared.sort.Sort.{Sort}
-use Rattle.fdb_lines.specs.declared.sort.Sort.TheVariants.{Reports, Raises, Draws, Asks, Owned, Nameless}
+use Rattle.fdb_lines.specs.declared.exposure.Exposure.{Exposure}
+use Rattle.fdb_lines.specs.declared.exposure.Exposure.TheVariants.{Shown, Drawn}
+use Rattle.fdb_lines.specs.declared.line_kind.LineKind.{LineKind}
+use Rattle.fdb_lines.specs.declared.line_kind.LineKind.TheVariants.{Reports, Raises, Draws, Asks, Owned, Nameless}
 use Rattle.fdb_lines.specs.declared.tables.DrawTables.{DrawTables}
-use Rattle.fdb_lines.specs.declared.tables.Tables.{Tables}
+use Rattle.fdb_lines.specs.declared.tables.Made.{Made}
 use Rattle.fdb_lines.specs.declared.fault.Found.{Found}
 use Rattle.fdb_lines.specs.declared.reason.Finding.{Finding}
-use Rattle.fdb_lines.specs.declared.mark.Mark.{Mark}
+use Rattle.fdb_lines.specs.declared.locator.Locator.{Locator}
 use Rattle.fdb_lines.specs.declared.reason.Witness.{Witness}
 use Rattle.fdb_lines.specs.Audit.{case_of, start_of}
 use Rattle.fdb_lines.specs.Before.{comes_before}
@@ -24,17 +25,18 @@ use Rattle.fdb_lines.specs.Faults.{is_drawn, is_own, is_raised, is_reported, sta
 use Rattle.fdb_lines.specs.Late.{HasLate}
 use Rattle.fdb_lines.specs.Lines.{Case, Lines, is_ask, kind_of, version_at}
 use Rattle.fdb_lines.specs.Listing.{faults_below}
+use Rattle.fdb_lines.specs.Log.{lines_of}
 use Rattle.fdb_lines.specs.Reasons.{found_of, HasReason, IsReason}
-use Rattle.fdb_lines.specs.private.Ends.{AreSettled}
+use Rattle.fdb_lines.specs.private.EndTable.{AreSettled}
 use Rattle.fdb_lines.specs.private.Known.{AreEnds, AreKnown, IsFound}
 use Rattle.fdb_lines.specs.private.Late.{outdates_by, IsFirstEnd}
-use Rattle.fdb_lines.specs.private.Marks.{AreMarks}
+use Rattle.fdb_lines.specs.private.Locators.{AreLocators}
 
-abbrev pub AreKnownIn : Lines → AuditOpts → Seen → List (Option Witness) → Type 0
+abbrev pub AreKnownIn : Lines → AuditOpts → Exposure → List (Option Witness) → Type 0
 AreKnownIn log opts seen = AreKnown (comes_before log.timed opts.margin log.lines) opts.margin seen log.lines
 
-abbrev pub AreMarksIn : Lines → AuditOpts → Sort → List (Option Witness) → List Mark → Type 0
-AreMarksIn log opts sort known = AreMarks sort (start_of opts.complete) log.lines known (length log.lines)
+abbrev pub AreLocatorsIn : Lines → AuditOpts → LineKind → List (Option Witness) → List Locator → Type 0
+AreLocatorsIn log opts line_kind known = AreLocators line_kind (start_of opts.complete) log.lines known (length log.lines)
 
 abbrev pub has_ask : List Line → Bool
 has_ask lines = list_any (λ (line : Line). is_ask (kind_of line.call)) lines
@@ -51,20 +53,31 @@ abbrev pub IsFirstDrawn : List Line → ℕ → Option End → Type 0
 IsFirstDrawn lines version first =
     IsFirstEnd (outdates_by NotAbove Drawn lines version) lines first ⊎ ((has_ask lines ≡ false) × (first ≡ None))
 
-pub record AreTables (log : Lines) (opts : AuditOpts) (tables : Tables) : Type 0 where
-  pub shown : AreKnownIn log opts Shown tables.shown.items
-  pub drawn : AreDrawnIn log opts tables.drawn
-  pub reports : AreMarksIn log opts Reports tables.shown.items tables.reports.marks.items
-  pub raises : AreMarksIn log opts Raises tables.shown.items tables.raises.marks.items
-  pub draws : AreMarksIn log opts Draws tables.shown.items tables.draws.marks.items
-  pub asks : AreMarksIn log opts Asks tables.shown.items tables.asks.marks.items
-  pub owned : AreMarksIn log opts Owned tables.shown.items tables.owned.marks.items
-  pub nameless : AreMarksIn log opts Nameless tables.shown.items tables.nameless.marks.items
-  pub settled : AreSettled tables.firsts
-  pub firsts : AreEnds false Shown log.lines (length log.lines) tables.firsts.ends.items
+-- what tables answer of: a log, and the options of its audit
+pub record Asked : Type 0 where
+  pub log : Log
+  pub opts : AuditOpts
+
+abbrev pub asked_of : Log → AuditOpts → Asked
+asked_of log opts = record { log = log; opts = opts }
+
+abbrev pub case_in : Asked → Case
+case_in asked = case_of (lines_of asked.log) asked.opts
+
+pub record AreTables (log : Lines) (opts : AuditOpts) (made : Made) : Type 0 where
+  pub shown : AreKnownIn log opts Shown made.shown.items
+  pub drawn : AreDrawnIn log opts made.drawn
+  pub reports : AreLocatorsIn log opts Reports made.shown.items made.reports.locators.items
+  pub raises : AreLocatorsIn log opts Raises made.shown.items made.raises.locators.items
+  pub draws : AreLocatorsIn log opts Draws made.shown.items made.draws.locators.items
+  pub asks : AreLocatorsIn log opts Asks made.shown.items made.asks.locators.items
+  pub owned : AreLocatorsIn log opts Owned made.shown.items made.owned.locators.items
+  pub nameless : AreLocatorsIn log opts Nameless made.shown.items made.nameless.locators.items
+  pub settled : AreSettled made.firsts
+  pub firsts : AreEnds false Shown log.lines (length log.lines) made.firsts.ends.items
 
 -- a line before one that lets a version be known, or none does
-abbrev pub IsFoundIn : Lines → AuditOpts → Seen → ℕ → ℕ → Option Witness → Type 0
+abbrev pub IsFoundIn : Lines → AuditOpts → Exposure → ℕ → ℕ → Option Witness → Type 0
 IsFoundIn log opts seen = IsFound (comes_before log.timed opts.margin log.lines) opts.margin seen log.lines
 
 abbrev pub drawn_by : Option ℕ → Reason

@@ -5,6 +5,7 @@ use Rattle.fdb_history.specs.declared.service.Service.{Ghosts as ServiceGhosts}
 use Rattle.fdb_live.specs.declared.live.Live.{Ghosts as LiveGhosts}
 use Rattle.fdb_live.specs.declared.change.Change.{Change}
 use Rattle.fdb_proxy.specs.Batch.{Replies}
+use Rattle.fdb_proxy.specs.declared.answer.Addressed.{Addressed}
 use Rattle.fdb_proxy.specs.declared.answer.Answer.{Answer}
 use Rattle.fdb_proxy.specs.declared.answer.Answer.TheVariants as answer
 use Rattle.fdb_proxy.specs.declared.answer.Refused.{Refused}
@@ -52,6 +53,12 @@ module _ {J : Type 0} {live : LiveGhosts J} {service : ServiceGhosts J} where
         FoldsTo (λ one gone next. IsRefused (cause.Queue gone.cause) gone.request.payload one next)
         before turned_away after
 
+    -- Each of some replies was sent, once and in order, and nothing else was.
+    abbrev pub AreReplied : O → List (Addressed J live service) → O → Type 0
+    AreReplied before replies after =
+        FoldsTo (λ one addressed next. sends one (answer.Reply addressed.reply) next)
+        before replies after
+
     -- Where there are new rates, they lead from one queue to another: whoever may not wait under them
     -- was sent the refusal, once and in the order of the row, and nothing else was. Where there are
     -- none, nothing is done.
@@ -71,12 +78,12 @@ module _ {J : Type 0} {live : LiveGhosts J} {service : ServiceGhosts J} where
         (after : Queue (Request J live service)) (one next : O) : Type 0 where
       pub started : List (Req (Request J live service))
       pub turned_away : List (TurnedAway (Request J live service))
-      pub answers : List (Answer J live service)
+      pub addressed : List (Addressed J live service)
       pub between : O
       pub turn : IsTurn elapsed before offered started turned_away after
       pub refused : AreTurnedAway one turned_away between
-      pub replies : AllZip (Replies after.throttles changes) started answers
-      pub sent : FoldsTo sends between answers next
+      pub replies : AllZip (Replies after.throttles changes) started addressed
+      pub sent : AreReplied between addressed next
 
     -- The same; after the last turn all that are left leave the queue, and are told that the desk
     -- was closed, and nothing else is done there.

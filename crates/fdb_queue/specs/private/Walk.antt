@@ -5,7 +5,7 @@ use Rattle.fdb_queue.specs.declared.budgets.Budgets.{Budgets}
 use Rattle.fdb_queue.specs.declared.config.QueueConfig.{QueueConfig}
 use Rattle.fdb_queue.specs.declared.config.TheConstants.{MAX_COUNT, MAX_STARTED}
 use Rattle.fdb_queue.specs.declared.request.Req.{Req}
-use Rattle.fdb_queue.specs.declared.walk.Walk.{Walk}
+use Rattle.fdb_queue.specs.declared.window.Walk.{Walk}
 
 -- A window has come to its next request: it starts it or ends there.
 abbrev pub walk_after : {T : Type 0} → QueueConfig → Budgets → Walk → Req T → Walk

@@ -3,7 +3,7 @@
 ghost use Rattle.std.specs.Prelude.{◌≡◌, None};
 
 use crate::stand::Stand;
-use fdb_checks::Line;
+use fdb_checks::TableLine;
 use fdb_client::{Client, ClientError};
 use fdb_history::{Issued, OpenGate};
 use fdb_live::{Ack, Live, Seen};
@@ -12,7 +12,7 @@ use std::sync::Wait;
 /// The client whose number is the next word.
 pub(crate) fn client_at<'s, 'a, J: Live>(
     clients: &'s mut [Client<'a, J>],
-    line: &mut Line<'_>,
+    line: &mut TableLine<'_>,
 ) -> Option<&'s mut Client<'a, J>> {
     let client = clients.get_mut(line.who() as usize);
     line.holds(client.is_some(), "no client");
@@ -20,7 +20,7 @@ pub(crate) fn client_at<'s, 'a, J: Live>(
 }
 
 /// Says why a call is refused, or notes that it is refused memory.
-pub(crate) fn say_cause(line: &mut Line<'_>, cause: ClientError) {
+pub(crate) fn say_cause(line: &mut TableLine<'_>, cause: ClientError) {
     match cause {
         ClientError::Memory => line.refuse(),
         cause => line.say(cause),
@@ -28,7 +28,7 @@ pub(crate) fn say_cause(line: &mut Line<'_>, cause: ClientError) {
 }
 
 /// A request for a commit version.
-pub(crate) fn ask<J: Live, R: Wait>(stand: &mut Stand<'_, J, R>, line: &mut Line<'_>) {
+pub(crate) fn ask<J: Live, R: Wait>(stand: &mut Stand<'_, J, R>, line: &mut TableLine<'_>) {
     if let Some(client) = client_at(&mut stand.clients, line) {
         let (processed, at) = (line.number(), line.number());
         let found = client.ask(stand.rt, &OpenGate, processed, at);
@@ -37,7 +37,7 @@ pub(crate) fn ask<J: Live, R: Wait>(stand: &mut Stand<'_, J, R>, line: &mut Line
 }
 
 /// The same again.
-pub(crate) fn reask<J: Live, R: Wait>(stand: &mut Stand<'_, J, R>, line: &mut Line<'_>) {
+pub(crate) fn reask<J: Live, R: Wait>(stand: &mut Stand<'_, J, R>, line: &mut TableLine<'_>) {
     if let Some(client) = client_at(&mut stand.clients, line) {
         let (num, processed, at) = (line.number(), line.number(), line.number());
         let found = client.reask(stand.rt, &OpenGate, num, processed, at);
@@ -45,7 +45,7 @@ pub(crate) fn reask<J: Live, R: Wait>(stand: &mut Stand<'_, J, R>, line: &mut Li
     }
 }
 
-fn say_issued(line: &mut Line<'_>, found: Result<Issued, ClientError>) {
+fn say_issued(line: &mut TableLine<'_>, found: Result<Issued, ClientError>) {
     match found {
         Ok(issued) => {
             line.say(format_args!("{} after {}", issued.version, issued.prev));
@@ -56,7 +56,7 @@ fn say_issued(line: &mut Line<'_>, found: Result<Issued, ClientError>) {
 }
 
 /// A report of the version under a number.
-pub(crate) fn report<J: Live, R: Wait>(stand: &mut Stand<'_, J, R>, line: &mut Line<'_>) {
+pub(crate) fn report<J: Live, R: Wait>(stand: &mut Stand<'_, J, R>, line: &mut TableLine<'_>) {
     if let Some(client) = client_at(&mut stand.clients, line) {
         let (num, least) = (line.number(), line.number());
         let locked = line.text.contains(" locked");
@@ -66,7 +66,7 @@ pub(crate) fn report<J: Live, R: Wait>(stand: &mut Stand<'_, J, R>, line: &mut L
     }
 }
 
-fn say_ack(line: &mut Line<'_>, found: Result<Ack, ClientError>) {
+fn say_ack(line: &mut TableLine<'_>, found: Result<Ack, ClientError>) {
     match found {
         Ok(ack) => {
             line.say(if ack.raised { "raised" } else { "not raised" });
@@ -82,7 +82,7 @@ fn say_ack(line: &mut Line<'_>, found: Result<Ack, ClientError>) {
 }
 
 /// A client tells another, which is the next word.
-pub(crate) fn tell<J: Live, R: Wait>(stand: &mut Stand<'_, J, R>, line: &mut Line<'_>) {
+pub(crate) fn tell<J: Live, R: Wait>(stand: &mut Stand<'_, J, R>, line: &mut TableLine<'_>) {
     if let Some(client) = client_at(&mut stand.clients, line) {
         match client.tell(line.who()) {
             Ok(token) => {
@@ -96,7 +96,7 @@ pub(crate) fn tell<J: Live, R: Wait>(stand: &mut Stand<'_, J, R>, line: &mut Lin
 
 /// A client learns what was told last, by another, which is the next word. A token that comes back
 /// is kept.
-pub(crate) fn learn<J: Live, R: Wait>(stand: &mut Stand<'_, J, R>, line: &mut Line<'_>) {
+pub(crate) fn learn<J: Live, R: Wait>(stand: &mut Stand<'_, J, R>, line: &mut TableLine<'_>) {
     let Some(token) = stand.told.take() else {
         line.fails("nothing was told");
         return;
@@ -115,7 +115,7 @@ fn learn_token<J: Live, R: Wait>(
     rt: &R,
     client: &mut Client<'_, J>,
     token: Seen<J>,
-    line: &mut Line<'_>,
+    line: &mut TableLine<'_>,
 ) -> Option<Seen<J>>
     requires { token.reporter ≡ None }
 {
@@ -133,7 +133,7 @@ fn learn_token<J: Live, R: Wait>(
 
 /// How many calls a client has logged, and the position that it has come to, by its last call and
 /// by its token.
-pub(crate) fn log<J: Live, R: Wait>(stand: &mut Stand<'_, J, R>, line: &mut Line<'_>) {
+pub(crate) fn log<J: Live, R: Wait>(stand: &mut Stand<'_, J, R>, line: &mut TableLine<'_>) {
     if let Some(client) = client_at(&mut stand.clients, line) {
         let (calls, position) = (client.calls(), client.position());
         let last = calls.last().map_or(client.begun(), |call| call.position);

@@ -15,7 +15,7 @@ use crate::client::calls::{client_at, say_cause};
 use crate::gated::counting::Counting;
 use crate::stand::{Service, Stand};
 use crossbeam_channel::Sender;
-use fdb_checks::Line;
+use fdb_checks::TableLine;
 use fdb_client::{Client, ClientError, ReadVersion};
 use fdb_history::{GrvOpts, Priority, Sequence, Tag};
 use fdb_live::{Live, Seen};
@@ -63,7 +63,7 @@ impl<'w> Wanted<'w> {
 }
 
 /// A read of which each option is another than that of a plain one, but for the flags.
-fn told_apart(line: &mut Line<'_>) -> GrvOpts {
+fn told_apart(line: &mut TableLine<'_>) -> GrvOpts {
     let flag = line.next_word().unwrap_or_default();
     let mut tags: Sequence<Tag> = Sequence::new(line.alloc);
     let web = line.tag("web");
@@ -83,7 +83,7 @@ fn told_apart(line: &mut Line<'_>) -> GrvOpts {
 /// A client's read at a desk that is served in the way of the next word.
 pub(crate) fn read<J: Live + Send + Sync, R: Threads + Wait + Sync>(
     stand: &mut Stand<'_, J, R>,
-    line: &mut Line<'_>,
+    line: &mut TableLine<'_>,
 ) {
     let (rt, service) = (stand.rt, stand.service);
     let served = service.master.record().split(&mut stand.tokens.served);
@@ -107,7 +107,7 @@ fn read_wanted<J: Live + Send + Sync, R: Threads + Wait + Sync>(
     client: &mut Client<'_, J>,
     wanted: &Wanted<'_>,
     opts: GrvOpts,
-    line: &mut Line<'_>,
+    line: &mut TableLine<'_>,
 ) {
     let gate = Counting::new(wanted.client);
     let desk = Desk::new(service.alloc);
@@ -153,7 +153,7 @@ fn read_served<J: Live + Send + Sync, R: Threads + Wait + Sync>(
 
 /// Says what a client reads, or why it does not. One that a proxy says is refused memory is no call
 /// that is to be made once more.
-fn say_read(line: &mut Line<'_>, found: Result<ReadVersion, ClientError>, way: &str) {
+fn say_read(line: &mut TableLine<'_>, found: Result<ReadVersion, ClientError>, way: &str) {
     match found {
         Ok(read) => say_version(line, &read),
         Err(ClientError::Memory) if way == "memory" => line.say(ClientError::Memory),
@@ -161,7 +161,7 @@ fn say_read(line: &mut Line<'_>, found: Result<ReadVersion, ClientError>, way: &
     }
 }
 
-fn say_version(line: &mut Line<'_>, read: &ReadVersion) {
+fn say_version(line: &mut TableLine<'_>, read: &ReadVersion) {
     line.say(read.version);
     if read.version != read.rec.version {
         line.say(format_args!("of {} and {}", read.rec.version, read.rec.min_known));

@@ -2,7 +2,7 @@
 
 use crate::proxy::desks::{Waiter, add_waiter, queue_of, request_of, submit};
 use crate::stand::{Service, Stand};
-use fdb_checks::Line;
+use fdb_checks::TableLine;
 use fdb_client::Client;
 use fdb_history::{GrvOpts, OpenGate, Priority, Sequence};
 use fdb_live::{Live, Seen};
@@ -104,7 +104,7 @@ impl<J: Live> Asker<'_, J> {
 /// The clients ask two proxies, and each of their requests is answered.
 pub(crate) fn ask_all<J: Live + Send + Sync, R: Threads + Wait + Sync>(
     stand: &mut Stand<'_, J, R>,
-    line: &mut Line<'_>,
+    line: &mut TableLine<'_>,
 ) {
     let (rt, service) = (stand.rt, stand.service);
     let other = &Desk::new(line.alloc);
@@ -129,7 +129,7 @@ fn askers_of<'a, J: Live>(
     service: &'a Service<J>,
     other: &'a Desk<J>,
     clients: Vec<Client<'a, J>>,
-    line: &mut Line<'_>,
+    line: &mut TableLine<'_>,
 ) -> Vec<Asker<'a, J>> {
     let mut askers = Vec::new(line.alloc);
     for client in clients {

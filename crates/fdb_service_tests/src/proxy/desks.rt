@@ -5,10 +5,10 @@ ghost use Rattle.std.specs.Prelude.{◌≡◌};
 use crate::proxy::answers::{Rows, add_answer};
 use crate::stand::{Service, Stand};
 use crossbeam_channel::{Receiver, Sender, bounded, unbounded};
-use fdb_checks::{Line, tag};
+use fdb_checks::{TableLine, tag};
 use fdb_history::{GrvOpts, Priority, Sequence, Tag};
 use fdb_live::{Live, Seen};
-use fdb_proxy::{Answer, Desk, ProxyError, Request, serve_batch};
+use fdb_proxy::{Addressed, Answer, Desk, ProxyError, Request, serve_batch};
 use fdb_queue::{GrvQueue, QueueConfig, Req};
 use std::alloc::{AllocError, Global};
 use std::mem;
@@ -104,7 +104,7 @@ fn submit_again<J: Live, R: Wait>(
 
 /// The options of a request: its priority, its count, the moment, and so many tags `t`. Behind them
 /// may stand the tag `u`, `aware` of locks, and `min`.
-pub(crate) fn opts_of(line: &mut Line<'_>) -> GrvOpts {
+pub(crate) fn opts_of(line: &mut TableLine<'_>) -> GrvOpts {
     GrvOpts {
         priority: line.priority(),
         count: line.number(),
@@ -115,7 +115,7 @@ pub(crate) fn opts_of(line: &mut Line<'_>) -> GrvOpts {
     }
 }
 
-fn tags_of(line: &mut Line<'_>) -> Sequence<Tag> {
+fn tags_of(line: &mut TableLine<'_>) -> Sequence<Tag> {
     let mut tags = Sequence::new(line.alloc);
     for _ in 0..line.number() {
         add_tag(&mut tags, line, "t");
@@ -126,7 +126,7 @@ fn tags_of(line: &mut Line<'_>) -> Sequence<Tag> {
     tags
 }
 
-fn add_tag(tags: &mut Sequence<Tag>, line: &mut Line<'_>, word: &str) {
+fn add_tag(tags: &mut Sequence<Tag>, line: &mut TableLine<'_>, word: &str) {
     let tag = line.tag(word);
     if tags.push(tag).is_err() {
         line.lacks();
@@ -134,7 +134,7 @@ fn add_tag(tags: &mut Sequence<Tag>, line: &mut Line<'_>, word: &str) {
 }
 
 /// Leaves so many requests on the desk, until it refuses one.
-pub(crate) fn leave<J: Live, R: Wait>(stand: &mut Stand<'_, J, R>, line: &mut Line<'_>) {
+pub(crate) fn leave<J: Live, R: Wait>(stand: &mut Stand<'_, J, R>, line: &mut TableLine<'_>) {
     let (number, client, first) = (line.number(), line.who(), line.number());
     let opts = opts_of(line);
     let mut left = Ok(());
@@ -219,7 +219,7 @@ pub(crate) fn queue_of<J: Live>(
 }
 
 /// Says what is taken from a desk that is closed.
-pub(crate) fn take<J: Live, R: Wait>(stand: &Stand<'_, J, R>, line: &mut Line<'_>) {
+pub(crate) fn take<J: Live, R: Wait>(stand: &Stand<'_, J, R>, line: &mut TableLine<'_>) {
     let taken = stand.service.desk.take(stand.rt, true);
     for request in &taken.requests {
         say_request(&request.payload, line);
@@ -228,7 +228,7 @@ pub(crate) fn take<J: Live, R: Wait>(stand: &Stand<'_, J, R>, line: &mut Line<'_
 
 /// Says whose a request is, from which position, and whether it is a batch request; then how many
 /// transactions, which moment and how many tags it has, and its flags.
-fn say_request<J: Live>(request: &Request<J>, line: &mut Line<'_>) {
+fn say_request<J: Live>(request: &Request<J>, line: &mut TableLine<'_>) {
     let opts = &request.opts;
     line.say(request.client);
     line.say(request.serial);
@@ -242,7 +242,7 @@ fn say_request<J: Live>(request: &Request<J>, line: &mut Line<'_>) {
 }
 
 /// Says the answers to what waits at the desk, as one batch, which may be refused memory.
-pub(crate) fn serve<J: Live, R: Wait>(stand: &mut Stand<'_, J, R>, line: &mut Line<'_>) {
+pub(crate) fn serve<J: Live, R: Wait>(stand: &mut Stand<'_, J, R>, line: &mut TableLine<'_>) {
     let requests = match stand.back.take() {
         Some(back) => back,
         None => stand.service.desk.take(stand.rt, false).requests,
@@ -257,7 +257,7 @@ fn serve_requests<J: Live, R: Wait>(
     stand: &mut Stand<'_, J, R>,
     queue: &GrvQueue<Request<J>>,
     requests: Vec<Req<Request<J>>>,
-    line: &mut Line<'_>,
+    line: &mut TableLine<'_>,
 ) {
     let (rt, live, served) = (
         stand.rt,
@@ -265,9 +265,9 @@ fn serve_requests<J: Live, R: Wait>(
         &mut stand.tokens.served,
     );
     match serve_batch(rt, line.alloc, live, served, queue, requests) {
-        Ok(answers) => {
-            line.holds(answers.len() == stand.waiters.len(), "answers");
-            hear(&mut stand.waiters, answers);
+        Ok(replies) => {
+            line.holds(replies.len() == stand.waiters.len(), "replies");
+            send(rt, replies);
             say_answers(stand, line);
         }
         Err((_, back)) => {
@@ -277,15 +277,15 @@ fn serve_requests<J: Live, R: Wait>(
     }
 }
 
-/// Has each hear its answer.
-fn hear<J: Live>(waiters: &mut [Waiter<J>], answers: Vec<Answer<J>>) {
-    for (waiter, answer) in waiters.iter_mut().zip(answers) {
-        waiter.heard = Some(answer);
+/// Sends each reply on the channel beside it. One that does not come is not heard.
+fn send<J: Live, R: Wait>(rt: &R, replies: Vec<Addressed<J>>) {
+    for Addressed { to, reply } in replies {
+        let _ = to.send(rt, Answer::Reply(reply));
     }
 }
 
 /// Says the answers to all who wait, of whom none does then.
-pub(crate) fn say_answers<J: Live, R: Wait>(stand: &mut Stand<'_, J, R>, line: &mut Line<'_>) {
+pub(crate) fn say_answers<J: Live, R: Wait>(stand: &mut Stand<'_, J, R>, line: &mut TableLine<'_>) {
     let waiters = mem::replace(&mut stand.waiters, Vec::new(line.alloc));
     match rows_of(stand.rt, line.alloc, waiters) {
         Ok(text) => line.say(text),

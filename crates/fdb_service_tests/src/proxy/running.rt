@@ -2,7 +2,7 @@
 
 use crate::proxy::desks::{Waiter, queue_of, say_answers, submit};
 use crate::stand::{Service, Stand};
-use fdb_checks::Line;
+use fdb_checks::TableLine;
 use fdb_live::Live;
 use fdb_proxy::{GrvProxy, Rates, Request};
 use fdb_queue::GrvQueue;
@@ -16,7 +16,7 @@ const LOOKS: u32 = 1_000_000;
 /// Says the answers of a proxy with such a queue to all who wait.
 pub(crate) fn run<J: Live + Send + Sync, R: Threads + Wait + Sync>(
     stand: &mut Stand<'_, J, R>,
-    line: &mut Line<'_>,
+    line: &mut TableLine<'_>,
 ) {
     let (normal, batch, room) = (line.number(), line.number(), line.number());
     let Some(queue) = queue_of(line.alloc, normal, batch, room) else {
@@ -34,7 +34,7 @@ pub(crate) fn run<J: Live + Send + Sync, R: Threads + Wait + Sync>(
 pub(crate) fn runs_beside<J: Live + Send + Sync, R: Threads + Wait + Sync>(
     stand: &mut Stand<'_, J, R>,
     queue: GrvQueue<Request<J>>,
-    line: &mut Line<'_>,
+    line: &mut TableLine<'_>,
 ) -> Option<bool> {
     let (rt, service) = (stand.rt, stand.service);
     let live = service.master.record();
@@ -62,7 +62,7 @@ fn hear_beside<J: Live, R: Wait>(
     service: &Service<J>,
     waiters: &mut [Waiter<J>],
     mut later: Option<Request<J>>,
-    line: &mut Line<'_>,
+    line: &mut TableLine<'_>,
 ) {
     for _ in 0..9 {
         match line.next_word() {
@@ -86,7 +86,7 @@ fn act<J: Live, R: Wait>(
     waiters: &mut [Waiter<J>],
     later: &mut Option<Request<J>>,
     word: &str,
-    line: &mut Line<'_>,
+    line: &mut TableLine<'_>,
 ) {
     match word {
         "close" => service.desk.close(rt),
@@ -100,7 +100,7 @@ fn act<J: Live, R: Wait>(
     }
 }
 
-fn hear<J: Live, R: Wait>(rt: &R, waiters: &mut [Waiter<J>], line: &mut Line<'_>) {
+fn hear<J: Live, R: Wait>(rt: &R, waiters: &mut [Waiter<J>], line: &mut TableLine<'_>) {
     match waiters.get_mut(line.who() as usize) {
         Some(waiter) => waiter.hears(rt),
         None => line.fails("nobody waits"),
@@ -111,7 +111,7 @@ fn leave_late<J: Live, R: Wait>(
     rt: &R,
     service: &Service<J>,
     later: &mut Option<Request<J>>,
-    line: &mut Line<'_>,
+    line: &mut TableLine<'_>,
 ) {
     match later.take() {
         Some(request) => {
@@ -123,7 +123,11 @@ fn leave_late<J: Live, R: Wait>(
 }
 
 /// Leaves new rates on the desk.
-pub(crate) fn leave_rates<J: Live, R: Wait>(rt: &R, service: &Service<J>, line: &mut Line<'_>) {
+pub(crate) fn leave_rates<J: Live, R: Wait>(
+    rt: &R,
+    service: &Service<J>,
+    line: &mut TableLine<'_>,
+) {
     match Rates::new(line.number(), line.number()) {
         Some(rates) => service.desk.set_rates(rt, rates),
         None => line.fails("rates out of range"),
@@ -131,7 +135,7 @@ pub(crate) fn leave_rates<J: Live, R: Wait>(rt: &R, service: &Service<J>, line: 
 }
 
 /// Looks whether an answer comes to the last who waits, while nobody else hears.
-fn look<J: Live, R: Wait>(rt: &R, waiters: &mut [Waiter<J>], line: &mut Line<'_>) {
+fn look<J: Live, R: Wait>(rt: &R, waiters: &mut [Waiter<J>], line: &mut TableLine<'_>) {
     let heard = match waiters.last_mut() {
         Some(waiter) => comes(rt, waiter),
         None => false,

@@ -3,7 +3,7 @@
 use crate::proxy::desks::{opts_of, queue_of, request_of};
 use crate::proxy::running::runs_beside;
 use crate::stand::Stand;
-use fdb_checks::Line;
+use fdb_checks::TableLine;
 use fdb_history::{GrvOpts, Priority};
 use fdb_live::Live;
 use fdb_proxy::{Answer, Cause, Refused, Request};
@@ -20,7 +20,7 @@ const REQUESTS: u64 = 6;
 /// Notes the number of the request that alone was refused memory.
 pub(crate) fn run_refused<J: Live + Send + Sync, R: Threads + Wait + Sync>(
     stand: &mut Stand<'_, J, R>,
-    line: &mut Line<'_>,
+    line: &mut TableLine<'_>,
 ) {
     let used = line.text.contains(" used");
     let (normal, batch, room) = (line.number(), line.number(), line.number());
@@ -36,7 +36,7 @@ pub(crate) fn run_refused<J: Live + Send + Sync, R: Threads + Wait + Sync>(
 }
 
 /// Looks at the desk of a proxy that ended out of memory.
-fn look_at_desk<J: Live, R: Wait>(stand: &Stand<'_, J, R>, line: &mut Line<'_>) {
+fn look_at_desk<J: Live, R: Wait>(stand: &Stand<'_, J, R>, line: &mut TableLine<'_>) {
     let taken = stand.service.desk.take(stand.rt, false);
     line.holds(taken.closed, "a desk that is closed");
     line.holds(taken.requests.is_empty(), "a desk that is empty");
@@ -44,7 +44,11 @@ fn look_at_desk<J: Live, R: Wait>(stand: &Stand<'_, J, R>, line: &mut Line<'_>) 
 }
 
 /// Looks at what all have heard of a proxy that ended well.
-fn look_at_all<J: Live, R: Wait>(stand: &mut Stand<'_, J, R>, used: bool, line: &mut Line<'_>) {
+fn look_at_all<J: Live, R: Wait>(
+    stand: &mut Stand<'_, J, R>,
+    used: bool,
+    line: &mut TableLine<'_>,
+) {
     let (mut refused, mut last) = (0u64, 0);
     for (place, waiter) in stand.waiters.iter().enumerate() {
         let place = place as u64;
@@ -63,7 +67,7 @@ fn look_at_all<J: Live, R: Wait>(stand: &mut Stand<'_, J, R>, used: bool, line: 
 
 /// Whether a request was answered that its offer was refused memory. Else it has its reply, or new
 /// rates have turned it away.
-fn was_refused<J: Live>(heard: &Option<Answer<J>>, place: u64, line: &mut Line<'_>) -> bool {
+fn was_refused<J: Live>(heard: &Option<Answer<J>>, place: u64, line: &mut TableLine<'_>) -> bool {
     match heard {
         Some(Answer::Reply(reply)) => line.holds(reply.serial == place, "another's reply"),
         Some(Answer::Refused(refused)) => {
@@ -92,7 +96,7 @@ fn queue_for<J: Live, R: Wait>(
     let alloc = stand.service.alloc;
     let mut queue = queue_of(alloc, normal, batch, room)?;
     if used {
-        let opts = opts_of(&mut Line::new(alloc, "default 1 0 0"));
+        let opts = opts_of(&mut TableLine::new(alloc, "default 1 0 0"));
         for serial in 0..REQUESTS {
             use_once(stand, &mut queue, serial, &opts)?;
         }

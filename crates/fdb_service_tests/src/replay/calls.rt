@@ -48,10 +48,7 @@ pub(crate) fn replays<R: Threads + Wait + Sync, G: Gate, W: Write>(
     opts: ReplayOpts,
     gate: &G,
     out: &mut W,
-) -> Result<(), ReplayFault>
-    requires some_proxy { 0 < opts.proxies }
-    requires few_proxies { opts.proxies ≤ 16 }
-{
+) -> Result<(), ReplayFault> {
     replay(rt, alloc, script.as_bytes(), opts, gate, out)
 }
 

@@ -28,7 +28,7 @@ use crate::proxy::desks::{leave, serve, take};
 use crate::proxy::running::{leave_rates, run};
 use crate::refused_memory::proxies::run_refused;
 use crate::stand::Stand;
-use fdb_checks::{CaseError, Line, lines_of};
+use fdb_checks::{CaseError, TableLine, lines_of};
 use fdb_live::{Fetched, Live};
 use std::alloc::Global;
 use std::sync::Wait;
@@ -52,7 +52,7 @@ pub(crate) fn play_lines<J: Live + Send + Sync, R: Threads + Wait + Sync>(
 /// it is compared where the line has an arrow.
 fn play_line<J: Live + Send + Sync, R: Threads + Wait + Sync>(
     stand: &mut Stand<'_, J, R>,
-    line: &mut Line<'_>,
+    line: &mut TableLine<'_>,
 ) {
     let before = stand.state();
     let call = line.word();
@@ -69,7 +69,7 @@ fn play_line<J: Live + Send + Sync, R: Threads + Wait + Sync>(
 fn make_again<J: Live + Send + Sync, R: Threads + Wait + Sync>(
     stand: &mut Stand<'_, J, R>,
     before: (usize, u64, Fetched),
-    line: &mut Line<'_>,
+    line: &mut TableLine<'_>,
 ) {
     line.holds(stand.state() == before, "a refused call changed something");
     line.again();
@@ -82,7 +82,7 @@ fn make_again<J: Live + Send + Sync, R: Threads + Wait + Sync>(
 fn make<J: Live + Send + Sync, R: Threads + Wait + Sync>(
     stand: &mut Stand<'_, J, R>,
     call: &str,
-    line: &mut Line<'_>,
+    line: &mut TableLine<'_>,
 ) {
     match call {
         "ask" => ask(stand, line),
@@ -105,12 +105,12 @@ fn make<J: Live + Send + Sync, R: Threads + Wait + Sync>(
     }
 }
 
-fn see<J: Live, R: Wait>(stand: &mut Stand<'_, J, R>, line: &mut Line<'_>) {
+fn see<J: Live, R: Wait>(stand: &mut Stand<'_, J, R>, line: &mut TableLine<'_>) {
     let live = stand.service.master.record();
     line.say(live.read(stand.rt, &mut stand.tokens.ahead).position);
 }
 
-fn close<J: Live, R: Wait>(stand: &mut Stand<'_, J, R>, line: &mut Line<'_>) {
+fn close<J: Live, R: Wait>(stand: &mut Stand<'_, J, R>, line: &mut TableLine<'_>) {
     stand.service.desk.close(stand.rt);
     line.say("ok");
 }

@@ -8,7 +8,7 @@
 //! members; `asks` and `reports` a number and a refusal; `tells` a position and another client.
 
 use crate::queue::tag_of_bytes;
-use fdb_checks::{Line, says};
+use fdb_checks::{TableLine, says};
 use fdb_history::{
     AuditFault, Call, CallAnswer, GrvOpts, Input, Issued, Priority, Record, Refusal, Sequence,
     TagLimit,
@@ -17,7 +17,7 @@ use hex::FromHex;
 use std::test::Fail;
 
 /// A call of a kind, by the rest of its words.
-pub(crate) fn call(kind: &str, line: &mut Line<'_>) -> Call {
+pub(crate) fn call(kind: &str, line: &mut TableLine<'_>) -> Call {
     match kind {
         "reads" => read(line, false),
         "limited" => read(line, true),
@@ -36,7 +36,7 @@ pub(crate) fn call(kind: &str, line: &mut Line<'_>) -> Call {
 }
 
 /// A read of a plain record at default priority.
-fn read(line: &mut Line<'_>, limited: bool) -> Call {
+fn read(line: &mut TableLine<'_>, limited: bool) -> Call {
     let (asked, position) = (line.number(), line.number());
     let rec = plain_record(line);
     let count = if limited { line.number() } else { 0 };
@@ -52,7 +52,7 @@ fn read(line: &mut Line<'_>, limited: bool) -> Call {
     }
 }
 
-fn plain_read(line: &Line<'_>) -> Input {
+fn plain_read(line: &TableLine<'_>) -> Input {
     Input::Grv(GrvOpts {
         priority: Priority::Default,
         count: 1,
@@ -64,7 +64,7 @@ fn plain_read(line: &Line<'_>) -> Input {
 }
 
 /// So many limits of a tag.
-fn limits(line: &mut Line<'_>, count: u64) -> Sequence<TagLimit> {
+fn limits(line: &mut TableLine<'_>, count: u64) -> Sequence<TagLimit> {
     let mut limits = Sequence::new(line.alloc);
     for _ in 0..count {
         let limit = limit_of(line, 1);
@@ -74,7 +74,7 @@ fn limits(line: &mut Line<'_>, count: u64) -> Sequence<TagLimit> {
 }
 
 /// A limit of a tag of so many bytes.
-pub(crate) fn limit_of(line: &mut Line<'_>, bytes: u64) -> TagLimit {
+pub(crate) fn limit_of(line: &mut TableLine<'_>, bytes: u64) -> TagLimit {
     TagLimit {
         tag: tag_of_bytes(line, bytes),
         rate: 5,
@@ -83,7 +83,7 @@ pub(crate) fn limit_of(line: &mut Line<'_>, bytes: u64) -> TagLimit {
 }
 
 /// A report of a plain record that is answered by just that record, with these flags.
-fn reported(line: &mut Line<'_>, raised: bool, changed: bool) -> Call {
+fn reported(line: &mut TableLine<'_>, raised: bool, changed: bool) -> Call {
     let (asked, position, num) = (line.number(), line.number(), line.number());
     let rec = plain_record(line);
     Call {
@@ -108,7 +108,7 @@ fn report(num: u64, min_known: u64) -> Input {
 }
 
 /// A request with the members of its answer.
-fn drawn(line: &mut Line<'_>) -> Call {
+fn drawn(line: &mut TableLine<'_>) -> Call {
     let asked = line.number();
     let issued = issued(line);
     let input = Input::Ask {
@@ -124,7 +124,7 @@ fn drawn(line: &mut Line<'_>) -> Call {
     }
 }
 
-fn refused_ask(line: &mut Line<'_>) -> Call {
+fn refused_ask(line: &mut TableLine<'_>) -> Call {
     let input = Input::Ask {
         num: line.number(),
         processed: 0,
@@ -133,12 +133,12 @@ fn refused_ask(line: &mut Line<'_>) -> Call {
     at_start(input, CallAnswer::Refused(refusal(line)))
 }
 
-fn refused_report(line: &mut Line<'_>) -> Call {
+fn refused_report(line: &mut TableLine<'_>) -> Call {
     let num = line.number();
     at_start(report(num, 0), CallAnswer::Refused(refusal(line)))
 }
 
-fn told(line: &mut Line<'_>) -> Call {
+fn told(line: &mut TableLine<'_>) -> Call {
     let asked = line.number();
     Call {
         input: Input::Tell { to: line.who() },
@@ -159,7 +159,7 @@ fn at_start(input: Input, answer: CallAnswer) -> Call {
 }
 
 /// A record with no lock and no metadata version, and with a minimum where the line tells one.
-fn plain_record(line: &mut Line<'_>) -> Record {
+fn plain_record(line: &mut TableLine<'_>) -> Record {
     let version = line.number();
     Record {
         min_known: line.number_behind("min"),
@@ -179,7 +179,7 @@ pub(crate) fn plain(version: u64) -> Record {
 
 /// A record: its version, `locked` or `unlocked`, its metadata version in hex or `none`, and
 /// perhaps `min` and its minimum.
-pub(crate) fn record(line: &mut Line<'_>) -> Record {
+pub(crate) fn record(line: &mut TableLine<'_>) -> Record {
     Record {
         version: line.number(),
         locked: line.is("locked", "unlocked"),
@@ -189,7 +189,7 @@ pub(crate) fn record(line: &mut Line<'_>) -> Record {
 }
 
 /// An answer or an entry of the chain: its members in their order, the last as `fresh` or `kept`.
-pub(crate) fn issued(line: &mut Line<'_>) -> Issued {
+pub(crate) fn issued(line: &mut TableLine<'_>) -> Issued {
     Issued {
         ordinal: line.number(),
         proxy: line.who(),
@@ -203,7 +203,7 @@ pub(crate) fn issued(line: &mut Line<'_>) -> Issued {
 }
 
 /// A refusal by the name of its variant, and behind `Early` the number that was due.
-fn refusal(line: &mut Line<'_>) -> Refusal {
+fn refusal(line: &mut TableLine<'_>) -> Refusal {
     match line.word() {
         "Early" => Refusal::Early {
             expected: line.number(),
@@ -232,7 +232,11 @@ ProxyClosed;NotIssued;Stranger;TooLarge;MinAbove";
 #[test]
 fn refusals_as_text(rt: HostRuntime) -> Result<(), Fail> {
     for text in REFUSALS.split(';') {
-        says(rt.alloc(), &refusal(&mut Line::new(rt.alloc(), text)), text)?;
+        says(
+            rt.alloc(),
+            &refusal(&mut TableLine::new(rt.alloc(), text)),
+            text,
+        )?;
     }
-    says(rt.alloc(), &AuditFault::Memory, "want of memory")
+    says(rt.alloc(), &AuditFault::Memory, "out of memory")
 }

@@ -1,9 +1,10 @@
 //! Requests for commit versions, by values worked out by hand, and two threads that ask at once.
 
 use crate::chain::{Chain, FromHundred, play_held};
+use crate::in_turn::{InTurn, PROXIES, TURNS, request};
 use fdb_chain::{ChainError, RecentChain, Sequencer};
-use fdb_checks::{plays_all, plays_cases, same, says};
-use fdb_history::{Ask, OpenGate};
+use fdb_checks::{holds, plays_all, plays_cases, same, says};
+use fdb_history::Place;
 use std::alloc::Global;
 use std::sync::Wait;
 use std::test::Fail;
@@ -49,7 +50,7 @@ new 0 9223372036854775808 4 => the recovery version is out of range
 #[test]
 fn requests_for_commit_versions(rt: HostRuntime) -> Result<(), Fail> {
     plays_all(rt.alloc(), &mut Chain::new(&rt), &[ROWS, BOUNDS])?;
-    says(rt.alloc(), &ChainError::Memory, "want of memory")
+    says(rt.alloc(), &ChainError::Memory, "out of memory")
 }
 
 /// Other proxies than the first, each held.
@@ -85,36 +86,31 @@ fn each_of_64_proxies_processes(rt: HostRuntime) -> Result<(), Fail> {
     plays_cases(rt.alloc(), &mut Chain::new(&rt), OF_64)
 }
 
-/// Asks for a proxy's numbers 1 to 100. Answers the last version.
-fn asks_hundred_times<R: Wait>(
-    rt: &R,
-    sequencer: &Sequencer<FromHundred>,
-    proxy: u32,
-) -> Result<u64, ChainError> {
-    let mut version = 0;
-    for num in 1..=100 {
-        let ask = Ask {
-            proxy,
-            num,
-            processed: num - 1,
-            at: 0,
-        };
-        version = sequencer.ask(rt, &OpenGate, ask)?.version;
+/// Has every second turn to ask, from the first one on or from the one after it.
+fn asks_in_turn<R: Wait>(rt: &R, sequencer: &Sequencer<FromHundred>, gate: &InTurn, first: bool) {
+    for place in 0..TURNS / 2 {
+        let turn = if first { 2 * place } else { 2 * place + 1 };
+        gate.waits_until(turn);
+        let proxy = (turn % u64::from(PROXIES)) as u32;
+        let (ask, is_answered) = request(Place::SequencerHeld, turn, proxy);
+        gate.comes_to(Place::SequencerHeld, turn);
+        gate.holds(sequencer.ask(rt, gate, ask).is_ok() == is_answered);
     }
-    Ok(version)
 }
 
-/// Two threads ask 100 times each, for a proxy each. There is a version for each request, since no
-/// time passes.
+/// Two threads ask for each of 64 proxies in 768 turns, a quarter of them for the next version.
 fn two_threads<R: Threads + Wait + Sync>(rt: &R, alloc: Global) -> Result<(), Fail> {
-    let sequencer: Sequencer<FromHundred> = Sequencer::new(RecentChain::new(alloc, 0, 100, 4)?);
-    let (zero, one) = thread::join(
+    let sequencer: Sequencer<FromHundred> = Sequencer::new(RecentChain::new(
+        alloc, 0, 100, PROXIES,
+    )?);
+    let gate = InTurn::new(Place::SequencerHeld);
+    thread::join(
         rt,
-        || asks_hundred_times(rt, &sequencer, 0),
-        || asks_hundred_times(rt, &sequencer, 1),
+        || asks_in_turn(rt, &sequencer, &gate, true),
+        || asks_in_turn(rt, &sequencer, &gate, false),
     );
-    same(&zero?.max(one?), &299, &"the last version")?;
-    same(&sequencer.close().drawn(), &200, &"how many were drawn")
+    holds(gate.was_passed(0), &"one waits for the other")?;
+    same(&sequencer.close().drawn(), &192, &"how many were drawn")
 }
 
 #[test]

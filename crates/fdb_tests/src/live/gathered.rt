@@ -5,7 +5,7 @@ ghost use Rattle.fdb_live.specs.Seen.{origin_of};
 
 use crate::audits::words::plain;
 use crate::live::say_cause;
-use fdb_checks::Line;
+use fdb_checks::TableLine;
 use fdb_history::OpenGate;
 use fdb_live::{Live, LiveRecord, Opened, Seen};
 use std::marker::Brand;
@@ -13,7 +13,7 @@ use std::sync::Wait;
 
 /// Opens a live record for two reporters, who report two versions in turn, and gathers what they
 /// have seen.
-pub(crate) fn gather<R: Wait>(rt: &R, line: &mut Line<'_>) {
+pub(crate) fn gather<R: Wait>(rt: &R, line: &mut TableLine<'_>) {
     match LiveRecord::<Brand>::open(rt, line.alloc, plain(100), 2, None) {
         Ok(opened) => gather_named::<Brand, R>(rt, opened, line),
         Err(cause) => say_cause(line, cause),
@@ -21,7 +21,7 @@ pub(crate) fn gather<R: Wait>(rt: &R, line: &mut Line<'_>) {
 }
 
 /// The same under the name of the service.
-fn gather_named<J: Live, R: Wait>(rt: &R, opened: Opened, line: &mut Line<'_>)
+fn gather_named<J: Live, R: Wait>(rt: &R, opened: Opened, line: &mut TableLine<'_>)
     requires bare { J.chained ≡ false }
     requires opened { opened
         ≡ origin_of J.table J.start J.reporters J.chained J.epoch_end J.recovery }
@@ -38,7 +38,7 @@ fn gather_tokens<J: Live, R: Wait>(
     live: &LiveRecord<J>,
     mut first: Seen<J>,
     mut tokens: Vec<Seen<J>>,
-    line: &mut Line<'_>,
+    line: &mut TableLine<'_>,
 )
     requires bare { J.chained ≡ false }
     requires two { J.reporters ≡ 2 }
@@ -56,7 +56,12 @@ fn gather_tokens<J: Live, R: Wait>(
 }
 
 /// Reports a version, if the token is a reporter's.
-fn report<J: Live, R: Wait>(rt: &R, live: &LiveRecord<J>, token: &mut Seen<J>, line: &mut Line<'_>)
+fn report<J: Live, R: Wait>(
+    rt: &R,
+    live: &LiveRecord<J>,
+    token: &mut Seen<J>,
+    line: &mut TableLine<'_>,
+)
     requires { J.chained ≡ false }
 {
     let Some(who) = token.reporter() else {
@@ -74,7 +79,7 @@ fn gather_both<J: Live, R: Wait>(
     live: &LiveRecord<J>,
     first: &mut Seen<J>,
     tokens: &mut [Seen<J>; 2],
-    line: &mut Line<'_>,
+    line: &mut TableLine<'_>,
 )
     requires two { J.reporters ≡ 2 }
 {

@@ -4,24 +4,22 @@
 //!
 //! - `read` has a token: the record and its position;
 //! - `report` has a token and a record: `raised`, `changed` or `same`, and the position, or why it
-//! is refused; `held` has the number under which the gate is passed behind the token, and the token
-//! of a second one that reports the same behind it, and of a reader beside it;
+//! is refused. The gate is passed once, under a number of its own, and not where it is refused;
 //! - `split` has a token, `learns` and `meets` have two, and `at` one: the number or `nobody`, and
 //! the position, of the new token or of the first;
-//! - `beside` has a call and two tokens, and what reporter 0 reports meanwhile: the position;
 //! - `threads` has how many readers there are beside all reporters and the first one: the last record.
 
 ghost use Rattle.std.specs.Prelude.{◌≡◌, false};
 
 use crate::audits::words::record;
-use crate::live::held::{call_beside, report_held};
 use crate::live::say_cause;
 use crate::live::threads::run_all;
-use fdb_checks::{CaseError, Line, lines_of};
-use fdb_history::OpenGate;
+use fdb_checks::{CaseError, TableLine, lines_of};
+use fdb_history::{Gate, Place};
 use fdb_live::{Ack, Live, LiveError, LiveRecord, Seen};
 use std::alloc::{AllocError, Global};
 use std::sync::Wait;
+use std::sync::atomic::{AtomicU64, Ordering};
 use std::thread::Threads;
 
 /// The live record of a service with no chain.
@@ -29,6 +27,21 @@ use std::thread::Threads;
 pub(crate) struct Bare<J: Live> {
     pub(crate) record: LiveRecord<J>,
     pub(crate) ghost bare: { J.chained ≡ false },
+}
+
+/// Counts how often a reporter passes with the lock of the reports, and twice what else passes.
+#[derive(Drop)]
+struct Passes {
+    who: u32,
+    passes: AtomicU64,
+}
+
+impl Gate for Passes {
+    fn pass(&self, place: Place, who: u32) {
+        let is_own = place == Place::ReportHeld && who == self.who;
+        self.passes
+            .fetch_add(if is_own { 1 } else { 2 }, Ordering::SeqCst);
+    }
 }
 
 /// A live record, and the tokens that nobody calls with just now.
@@ -63,7 +76,7 @@ impl<'a, J: Live, R: Wait> Holders<'a, J, R> {
     }
 
     /// The token at a place, which nobody else has until it is put back.
-    pub(crate) fn take(&mut self, line: &mut Line<'_>, place: u32) -> Option<Seen<J>> {
+    pub(crate) fn take(&mut self, line: &mut TableLine<'_>, place: u32) -> Option<Seen<J>> {
         let token = self.tokens.get_mut(place as usize)?.take();
         line.holds(token.is_some(), "somebody has the token");
         token
@@ -76,7 +89,7 @@ impl<'a, J: Live, R: Wait> Holders<'a, J, R> {
     }
 
     /// Makes a call with the token at a place.
-    fn call(&mut self, call: &str, line: &mut Line<'_>) {
+    fn call(&mut self, call: &str, line: &mut TableLine<'_>) {
         let place = line.who();
         let Some(mut token) = self.take(line, place) else {
             line.fails("no such token");
@@ -94,31 +107,37 @@ impl<'a, J: Live, R: Wait> Holders<'a, J, R> {
         self.put(place, token);
     }
 
-    fn read(&self, token: &mut Seen<J>, line: &mut Line<'_>) {
+    fn read(&self, token: &mut Seen<J>, line: &mut TableLine<'_>) {
         let fetched = self.live.record.read(self.rt, token);
         line.say(fetched.rec);
         line.say(format_args!("at {}", fetched.position));
     }
 
-    fn report(&self, token: &mut Seen<J>, line: &mut Line<'_>) {
+    fn report(&self, token: &mut Seen<J>, line: &mut TableLine<'_>) {
         let rec = record(line);
-        match token.reporter() {
-            Some(who) => say_ack(
-                line,
-                self.live.record.report(self.rt, &OpenGate, who, token, rec),
-            ),
-            None => line.fails("no reporter"),
-        }
+        let Some(number) = token.reporter() else {
+            line.fails("no reporter");
+            return;
+        };
+        let who = u32::MAX - number;
+        let gate = Passes {
+            who,
+            passes: AtomicU64::new(0),
+        };
+        let found = self.live.record.report(self.rt, &gate, who, token, rec);
+        let passes = gate.passes.load(Ordering::SeqCst);
+        line.holds(passes == u64::from(found.is_ok()), "passes of the gate");
+        say_ack(line, found);
     }
 
-    fn split(&mut self, token: &mut Seen<J>, line: &mut Line<'_>) {
+    fn split(&mut self, token: &mut Seen<J>, line: &mut TableLine<'_>) {
         let other = self.live.record.split(token);
         say_token(line, &other);
         line.takes(self.tokens.push(Some(other)));
     }
 
     /// The holder of a token learns what that of another has seen, which the next word names.
-    fn learn(&mut self, token: &mut Seen<J>, line: &mut Line<'_>) {
+    fn learn(&mut self, token: &mut Seen<J>, line: &mut TableLine<'_>) {
         if let Some(Some(teller)) = self.tokens.get_mut(line.who() as usize) {
             let told = self.live.record.split(teller);
             self.live.record.learn(self.rt, token, told);
@@ -126,7 +145,7 @@ impl<'a, J: Live, R: Wait> Holders<'a, J, R> {
         }
     }
 
-    fn meet(&mut self, token: &mut Seen<J>, line: &mut Line<'_>) {
+    fn meet(&mut self, token: &mut Seen<J>, line: &mut TableLine<'_>) {
         if let Some(Some(met)) = self.tokens.get_mut(line.who() as usize) {
             self.live.record.meet(self.rt, token, met);
             say_token(line, token);
@@ -142,8 +161,6 @@ pub(crate) fn play<J: Live + Send + Sync, R: Threads + Wait + Sync>(
 ) -> Result<(), CaseError> {
     for mut line in lines_of(alloc, text, 0)? {
         match line.word() {
-            "held" => report_held(holders, &mut line),
-            "beside" => call_beside(holders, &mut line),
             "threads" => run_all(holders, &mut line),
             call => holders.call(call, &mut line),
         }
@@ -153,7 +170,7 @@ pub(crate) fn play<J: Live + Send + Sync, R: Threads + Wait + Sync>(
 }
 
 /// Says the number and the position of a token.
-fn say_token<J: Live>(line: &mut Line<'_>, token: &Seen<J>) {
+fn say_token<J: Live>(line: &mut TableLine<'_>, token: &Seen<J>) {
     match token.reporter() {
         Some(number) => line.say(number),
         None => line.say("nobody"),
@@ -162,7 +179,7 @@ fn say_token<J: Live>(line: &mut Line<'_>, token: &Seen<J>) {
 }
 
 /// Says what a report is answered.
-pub(crate) fn say_ack(line: &mut Line<'_>, found: Result<Ack, LiveError>) {
+fn say_ack(line: &mut TableLine<'_>, found: Result<Ack, LiveError>) {
     match found {
         Ok(ack) => {
             line.say(word_of(ack));

@@ -4,7 +4,7 @@ ghost use Rattle.std.specs.Prelude.{◌≡◌, true};
 ghost use Rattle.fdb_live.specs.Seen.{origin_of};
 
 use fdb_chain::ChainError;
-use fdb_checks::Line;
+use fdb_checks::TableLine;
 use fdb_history::{Ask, MAX_VERSION, OpenGate, Record};
 use fdb_live::{Epoch, Live, LiveRecord, Master, Opened, Seen};
 use std::alloc::Global;
@@ -13,7 +13,7 @@ use std::sync::Wait;
 
 /// Opens a master for so many commit proxies, and asks it so often for each. Says whether each is
 /// given as many versions.
-pub(crate) fn ask<R: Wait>(rt: &R, line: &mut Line<'_>) {
+pub(crate) fn ask<R: Wait>(rt: &R, line: &mut TableLine<'_>) {
     let (recovery, members, asks) = (line.number(), line.who(), line.number());
     match asked(rt, line.alloc, recovery, members, asks) {
         Ok(true) => line.say("fresh"),

@@ -1,12 +1,11 @@
 //! Reads and reports, by values worked out by hand.
 
+use crate::live::gates::have_turns;
 use crate::live::{Opener, played};
-use fdb_checks::{CaseError, plays, says};
+use fdb_checks::{plays, says};
+use fdb_history::Place;
 use fdb_live::LiveError;
-use std::alloc::Global;
-use std::sync::Wait;
 use std::test::Fail;
-use std::thread::Threads;
 
 /// The reads and reports of two reporters and of the first token, which nobody tells anything.
 const WORKED: &str = "
@@ -25,8 +24,8 @@ const CROSSWISE: &str = "
 report 0 200 unlocked none => raised at 1; split 0 => nobody at 1
 report 1 300 unlocked none => raised at 2; at 0 => 0 at 1; at 1 => 1 at 2; split 1 => nobody at 2
 learns 0 4 => 0 at 2; learns 1 3 => 1 at 2; at 3 => nobody at 1
-# told of less
-learns 0 3 => 0 at 2; meets 0 1 => 0 at 2; meets 3 0 => nobody at 1; at 1 => 1 at 2
+# told of less, by itself as it was, and by one who saw nothing
+learns 0 3 => 0 at 2; learns 0 2 => 0 at 2; meets 0 1 => 0 at 2; meets 3 0 => nobody at 1; at 1 => 1 at 2
 report 0 400 unlocked none => raised at 3; at 2 => nobody at 0; learns 2 0 => nobody at 3
 ";
 
@@ -62,6 +61,8 @@ const OPENED: &str = "
 open 0 unlocked none for 2 => 2; open 9223372036854775807 unlocked none for 2 => 2
 open 9223372036854775808 unlocked none for 2 => the version is out of range
 open 100 unlocked none min 100 for 2 => 2
+# a locked one below the recovery version of any chain
+open 0 locked 0102030405060708090a for 2 => 2; open 99 locked none for 2 => 2
 open 100 unlocked none min 101 for 2 => the minimum known committed version is above the version
 open 9223372036854775808 unlocked none min 9223372036854775809 for 2 => the version is out of range
 ";
@@ -69,92 +70,58 @@ open 9223372036854775808 unlocked none min 9223372036854775809 for 2 => the vers
 #[test]
 fn versions_in_and_out_of_range(rt: HostRuntime) -> Result<(), Fail> {
     plays(rt.alloc(), &mut Opener::new(&rt), OPENED)?;
-    says(rt.alloc(), &LiveError::Memory, "want of memory")
+    says(rt.alloc(), &LiveError::Memory, "out of memory")
 }
 
-/// Reports of each kind by a first one, who passes the gate under a number, with a second one behind
-/// it: those that raise the version, that raise the minimum alone, that do neither, and that are
-/// refused.
+/// Reports of each kind by a reporter, each of which passes the gate once, unless it is refused: those
+/// that raise the version, that raise the minimum alone, that do neither, and that are refused.
 const KINDS: &str = "
-held WHO 200 unlocked none => raised at 1; held WHO 201 locked none => raised at 2
-held WHO 202 unlocked 00000000000000000000 => raised at 3
-held WHO 203 locked 0102030405060708090a => raised at 4
-held WHO 204 unlocked none min 1 => raised at 5; held WHO 205 locked none min 1 => raised at 6
-held WHO 206 unlocked 0102030405060708090a min 2 => raised at 7
-held WHO 207 locked 00000000000000000000 min 3 => raised at 8
-held WHO 207 unlocked none min 4 => changed at 9; held WHO 150 locked none min 5 => changed at 10
-held WHO 150 unlocked 0102030405060708090a min 6 => changed at 11
-held WHO 150 locked 00000000000000000000 min 150 => changed at 12
-held WHO 207 unlocked none => same at 12; held WHO 150 locked none => same at 12
-held WHO 207 unlocked 0102030405060708090a min 150 => same at 12
-held WHO 150 locked 00000000000000000000 min 3 => same at 12
-held WHO 208 unlocked none min 209 => the minimum known committed version is above the version
-held WHO 150 locked 0102030405060708090a min 151 \
+report WHO 200 unlocked none => raised at 1; report WHO 201 locked none => raised at 2
+report WHO 202 unlocked 00000000000000000000 => raised at 3
+report WHO 203 locked 0102030405060708090a => raised at 4
+report WHO 204 unlocked none min 1 => raised at 5; report WHO 205 locked none min 1 => raised at 6
+report WHO 206 unlocked 0102030405060708090a min 2 => raised at 7
+report WHO 207 locked 00000000000000000000 min 3 => raised at 8
+report WHO 207 unlocked none min 4 => changed at 9; report WHO 150 locked none min 5 => changed at 10
+report WHO 150 unlocked 0102030405060708090a min 6 => changed at 11
+report WHO 150 locked 00000000000000000000 min 150 => changed at 12
+report WHO 207 unlocked none => same at 12; report WHO 150 locked none => same at 12
+report WHO 207 unlocked 0102030405060708090a min 150 => same at 12
+report WHO 150 locked 00000000000000000000 min 3 => same at 12
+report WHO 208 unlocked none min 209 => the minimum known committed version is above the version
+report WHO 150 locked 0102030405060708090a min 151 \
 => the minimum known committed version is above the version
-held WHO 9223372036854775808 unlocked none => the version is out of range
-held WHO 9223372036854775808 locked none min 9223372036854775809 => the version is out of range
-held WHO 208 locked 0102030405060708090a min 208 => raised at 13
-held WHO 9223372036854775807 unlocked none min 9223372036854775807 => raised at 14
+report WHO 9223372036854775808 unlocked none => the version is out of range
+report WHO 9223372036854775808 locked none min 9223372036854775809 => the version is out of range
+report WHO 208 locked 0102030405060708090a min 208 => raised at 13
+report WHO 9223372036854775807 unlocked none min 9223372036854775807 => raised at 14
 ";
 
-/// The token of the first, the number under which it passes, and the tokens of the second and of a
-/// reader.
-const WHO: [&str; 5] = [
-    "0 0 8 64",
-    "8 8 31 64",
-    "31 31 63 64",
-    "63 63 0 64",
-    "8 4294967295 0 64",
-];
-
+/// Each of 64 reporters makes each kind of report.
 #[test]
 fn each_kind_of_report_passes_the_gate(rt: HostRuntime) -> Result<(), Fail> {
-    for who in WHO {
-        let text = KINDS.replace(rt.alloc(), "WHO", who)?;
-        played(&rt, rt.alloc(), 64, &text)?;
+    for who in 0..64 {
+        let who = format!(in rt.alloc(); "{who}")?;
+        played(
+            &rt,
+            rt.alloc(),
+            64,
+            &KINDS.replace(rt.alloc(), "WHO", &who)?,
+        )?;
     }
     Ok(())
 }
 
-/// Reporter 0 reports, and some read that: of the first token (5) four are split off (6 to 9).
-const FIRST: &str = "report 0 200 unlocked none => raised at 1
-split 5 => nobody at 0; split 5 => nobody at 0; split 5 => nobody at 0; split 5 => nobody at 0
-read 7 => 200 unlocked none at 1; read 9 => 200 unlocked none at 1
-read 2 => 200 unlocked none at 1; read 4 => 200 unlocked none at 1
-";
-
-/// The tokens that a call is then made with, and their positions: nobody's and a reporter's.
-const ONE: [(u32, u64); 4] = [(6, 0), (7, 1), (1, 0), (2, 1)];
-
-const OTHER: [(u32, u64); 4] = [(8, 0), (9, 1), (3, 0), (4, 1)];
-
-/// Makes a call with each two of these tokens while reporter 0 reports once more. It sees nothing of
-/// that.
-fn calls_beside<R: Threads + Wait + Sync>(
-    rt: &R,
-    alloc: Global,
-    call: &str,
-) -> Result<(), CaseError> {
-    for (one, at) in ONE {
-        for (other, place) in OTHER {
-            let wanted = match call {
-                "read" => 1,
-                "learn" => at.max(place),
-                _ => at,
-            };
-            let line = format!(in alloc; "{FIRST}beside {call} {one} {other} 300 => {wanted}")?;
-            played(rt, alloc, 5, &line)?;
-        }
-    }
-    Ok(())
-}
-
+/// Each of 64 reporters is held in its lock in 768 turns, while the next one makes each other call.
 #[test]
 fn no_call_but_a_report_waits_for_one(rt: HostRuntime) -> Result<(), Fail> {
-    for call in ["read", "split", "learn", "meet"] {
-        calls_beside(&rt, rt.alloc(), call)?;
-    }
-    Ok(())
+    Ok(have_turns(&rt, rt.alloc(), Place::ReportHeld)?)
+}
+
+/// The same of those who ask, with fresh numbers and others, and number 0.
+#[test]
+fn no_call_but_an_ask_waits_for_one(rt: HostRuntime) -> Result<(), Fail> {
+    Ok(have_turns(&rt, rt.alloc(), Place::SequencerHeld)?)
 }
 
 /// Two reporters and two readers, and eight and five: the greatest of 500 versions of each.

@@ -4,7 +4,7 @@ ghost use Rattle.std.specs.Prelude.{◌≡◌, Some};
 
 use crate::audits::words::plain;
 use crate::live::holders::{Bare, Holders};
-use fdb_checks::{Line, stays_away};
+use fdb_checks::{TableLine, stays_away};
 use fdb_history::{Gate, Place};
 use fdb_live::{Live, Seen};
 use std::sync::Wait;
@@ -16,7 +16,7 @@ use std::thread::Threads;
 const TURNS: u64 = 500;
 
 /// How often one looks whether another comes while it is at the gate.
-const GLANCES: u32 = 20;
+const LOOKS: u32 = 20;
 
 /// A gate that each passes alone, since whoever is at it has the lock until its report is done.
 #[derive(Drop)]
@@ -30,7 +30,7 @@ struct OneByOne {
 
 impl OneByOne {
     /// Checks that each of so many reporters has passed as often as it should, and alone.
-    fn was_passed(&self, line: &mut Line<'_>, reporters: u64) {
+    fn was_passed(&self, line: &mut TableLine<'_>, reporters: u64) {
         let sum = reporters.saturating_mul(reporters.saturating_add(1));
         let passed = self.numbers.load(Ordering::SeqCst);
         line.holds(passed == sum.saturating_mul(TURNS / 2), "who passed");
@@ -42,7 +42,7 @@ impl Gate for OneByOne {
     fn pass(&self, place: Place, who: u32) {
         self.numbers.fetch_add(u64::from(who) + 1, Ordering::SeqCst);
         let alone = self.passed.fetch_add(1, Ordering::SeqCst).saturating_add(1);
-        let nobody = stays_away(GLANCES, || self.passed.load(Ordering::SeqCst) != alone);
+        let nobody = stays_away(LOOKS, || self.passed.load(Ordering::SeqCst) != alone);
         if !nobody || place != Place::ReportHeld {
             self.failed.store(true, Ordering::SeqCst);
         }
@@ -99,7 +99,7 @@ impl<J: Live> Worker<J> {
 /// A worker for each token, and for so many readers beside that of the last one.
 fn workers_of<J: Live, R: Wait>(
     holders: &mut Holders<'_, J, R>,
-    line: &mut Line<'_>,
+    line: &mut TableLine<'_>,
     readers: u64,
 ) -> Vec<Worker<J>> {
     let mut workers = Vec::new(line.alloc);
@@ -117,7 +117,7 @@ fn workers_of<J: Live, R: Wait>(
     workers
 }
 
-fn add_worker<J: Live>(workers: &mut Vec<Worker<J>>, line: &mut Line<'_>, token: Seen<J>) {
+fn add_worker<J: Live>(workers: &mut Vec<Worker<J>>, line: &mut TableLine<'_>, token: Seen<J>) {
     line.takes(workers.push(Worker {
         token,
         version: 0,
@@ -131,7 +131,7 @@ fn add_worker<J: Live>(workers: &mut Vec<Worker<J>>, line: &mut Line<'_>, token:
 /// raises.
 pub(crate) fn run_all<J: Live + Send + Sync, R: Threads + Wait + Sync>(
     holders: &mut Holders<'_, J, R>,
-    line: &mut Line<'_>,
+    line: &mut TableLine<'_>,
 ) {
     let reporters = (holders.tokens.len() as u64).saturating_sub(1);
     let readers = line.number();
@@ -171,7 +171,7 @@ fn work_all<J: Live + Send + Sync, R: Threads + Wait + Sync>(
 }
 
 /// How many reports raised the record. No worker failed.
-fn raises_of<J: Live>(line: &mut Line<'_>, workers: &[Worker<J>]) -> u64 {
+fn raises_of<J: Live>(line: &mut TableLine<'_>, workers: &[Worker<J>]) -> u64 {
     let mut raises = 0u64;
     for worker in workers {
         line.holds(!worker.failed, "what was seen fell, or was refused");

@@ -124,5 +124,5 @@ const TEXTS: &[&str] = &[RATES, OFFERS, RANGES, LIMITS, WAITS, NEW_RATES, FORGOT
 #[test]
 fn offers_windows_and_throttles(rt: HostRuntime) -> Result<(), Fail> {
     plays_all(rt.alloc(), &mut Queue::new(rt.alloc())?, TEXTS)?;
-    says(rt.alloc(), &QueueError::Memory, "want of memory")
+    says(rt.alloc(), &QueueError::Memory, "out of memory")
 }

@@ -13,7 +13,7 @@ loop-member-init c = λ rest are.
 pub loop-member-preserved : goal.loop-member-preserved
 loop-member-preserved c = λ rest are.
     let first = c.in_ok-push_most-2.ensures in
-    let members = c.args.view.beside.now in
+    let members = c.args.printer.beside.now in
     let i = c.loop-member.member-index in
     let item = c.member-item.result in
     let left : drop i members ≡ item ∷ drop (i + 1) members =
@@ -24,7 +24,7 @@ loop-member-preserved c = λ rest are.
 
 pub returns : goal.returns
 returns c =
-    let members = c.args.view.beside.now in
+    let members = c.args.printer.beside.now in
     let left : drop c.loop-member.member-index members ≡ [] = drop_all _ members (let test = c.loop-member-test.false in omega arith) in
     let all = c.loop-member.invariant []
     (subst (λ l. AreMostOfEach c.args.json (map by_member (map beside_of l)) c.args.found.now []) (sym left) refl) in

@@ -1,4 +1,4 @@
-use Rattle.std.proofs.Common.{◌≡◌, ◌++◌, codes, drop, map, string_bytes}
+use Rattle.std.proofs.Common.{◌≡◌, ◌++◌, codes, drop, string_bytes}
 use Rattle.std.specs.List.{flat_map}
 use Rattle.fdb_audit.specs.Following.{listed}
 use Rattle.fdb_audit.specs.private.Followed.{members_of}

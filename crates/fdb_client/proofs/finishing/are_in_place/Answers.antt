@@ -1,5 +1,5 @@
-use Rattle.std.proofs.Common.{◌≡◌, refl, arith, rules}
-use Rattle.std.proofs.lemmas.Option.{slice_get_read, slice_get_within}
+use Rattle.std.proofs.Common.{◌≡◌, refl, rules}
+use Rattle.std.proofs.lemmas.Option.{slice_get_read}
 use Rattle.fdb_client.proofs.Left.{one_in_place}
 use Rattle.fdb_client.proofs.finishing.are_in_place.Goals as goal
 
@@ -8,6 +8,3 @@ loop-place-preserved g c =
     let at = slice_get_read c.args.clients.now _ c.loop-place.place c.index-clients-place.result refl c.loop-place-test.true c.index-clients-place.is in
     let own : c.index-clients-place.result.number ≡ c.loop-place.place = search rules in
     one_in_place c.args.clients.now c.loop-place.place c.index-clients-place.result at own c.loop-place.invariant
-
-pub returns-clause-in_place : goal.returns-clause-in_place
-returns-clause-in_place g c _ = λ k client at. c.loop-place.invariant k client (omega (arith, c.loop-place-test.false, slice_get_within c.args.clients.now k client at)) at

@@ -3,7 +3,8 @@ use Rattle.std.proofs.lemmas.List.{length-map, map-append}
 use Rattle.fdb_client.specs.Account.{sight}
 use Rattle.fdb_client.specs.Settling.{AllAgree, AllAgreeWithChain, HaveNumbers, logs_of}
 use Rattle.fdb_live.specs.Gathering.{AreNumbered}
-use Rattle.fdb_client.proofs.Left.{MaySettle, all_agree, all_agree_with_chain, all_yielded, are_numbered, one_more}
+use Rattle.fdb_client.proofs.Left.{MaySettle, all_agree, all_agree_with_chain, all_yielded, are_numbered}
+use Rattle.fdb_client.proofs.Chains.{each-append}
 use Rattle.fdb_client.proofs.finishing.finish_all.Goals as goal
 
 pub loop-client-preserved : goal.loop-client-preserved
@@ -15,7 +16,7 @@ loop-client-preserved g c =
       left = append_assoc yielded (client ∷ []) c.next.new.self.rest.items ∙ (ap (λ rest. yielded ++ rest) (sym c.in-Some.ensures.steps.0) ∙ inv.left);
       logs = rw (c.in_ok-push.ensures.items, c.finish-log.ensures.log, inv.logs) (sym (map-append _ yielded (client ∷ [])));
       tokens = rw (c.in_ok-push-2.ensures.items, c.finish-log.ensures.token, inv.tokens) (sym (map-append _ yielded (client ∷ [])));
-      settled = one_more (MaySettle g.J.Service.epoch_end g.J.Service.recovery g.J.Service.start) yielded client inv.settled (c.finish-log.ensures.settles, c.finish-log.ensures.chain);
+      settled = each-append (MaySettle g.J.Service.epoch_end g.J.Service.recovery g.J.Service.start) yielded (client ∷ []) inv.settled ((c.finish-log.ensures.settles, c.finish-log.ensures.chain), tt);
     }
 
 pub invariant_of-result : goal.invariant_of-result

@@ -1,35 +1,33 @@
+use Rattle.std.proofs.Common.{arith, ap, sym, ◌∙◌}
+use Rattle.std.proofs.lemmas.Option.{same_Some, slice_get_within}
+use Rattle.fdb_live.specs.Seen.{Sight}
 use Rattle.fdb_client.proofs.Settled.{counted, faultless, minima, no_low, settled_by, still_agree, told_all}
 use Rattle.fdb_client.proofs.settling.settle.Goals as goal
 
-pub returns-clause-changes : goal.returns-clause-changes
-returns-clause-changes g c =
-    let settled = settled_by g.J.Service.start g.J.Service.reporters c.args.logs.now c.args.tokens.now c.gather.new.others c.gather.new.first.changes c.requires.logs (told_all g.J.Service.reporters c.gather.new.first c.args.tokens.now c.gather.new.others c.requires.count c.requires.numbered c.gather.ensures.one_list c.gather.ensures.answers_each c.gather.ensures.own_each c.gather.ensures.own_answers_each)
-    c.requires.count c.requires.numbered c.requires.agree c.gather.ensures.log.numbered c.gather.ensures.extends_each in
-    cc (c.gather.ensures.position, counted g.J.Service.start c.args.logs.now c.gather.new.first.changes settled)
-
-pub returns-clause-faultless : goal.returns-clause-faultless
-returns-clause-faultless g c =
-    let settled = settled_by g.J.Service.start g.J.Service.reporters c.args.logs.now c.args.tokens.now c.gather.new.others c.gather.new.first.changes c.requires.logs (told_all g.J.Service.reporters c.gather.new.first c.args.tokens.now c.gather.new.others c.requires.count c.requires.numbered c.gather.ensures.one_list c.gather.ensures.answers_each c.gather.ensures.own_each c.gather.ensures.own_answers_each)
-    c.requires.count c.requires.numbered c.requires.agree c.gather.ensures.log.numbered c.gather.ensures.extends_each in
-    faultless g.J.Service.start c.args.logs.now c.gather.new.first.changes settled
-
-pub returns-clause-minima : goal.returns-clause-minima
-returns-clause-minima g c =
-    let settled = settled_by g.J.Service.start g.J.Service.reporters c.args.logs.now c.args.tokens.now c.gather.new.others c.gather.new.first.changes c.requires.logs (told_all g.J.Service.reporters c.gather.new.first c.args.tokens.now c.gather.new.others c.requires.count c.requires.numbered c.gather.ensures.one_list c.gather.ensures.answers_each c.gather.ensures.own_each c.gather.ensures.own_answers_each)
-    c.requires.count c.requires.numbered c.requires.agree c.gather.ensures.log.numbered c.gather.ensures.extends_each in
-    minima g.J.Service.start c.args.logs.now c.gather.new.first.changes settled
-
-pub returns-clause-above : goal.returns-clause-above
-returns-clause-above g c =
-    let settled = settled_by g.J.Service.start g.J.Service.reporters c.args.logs.now c.args.tokens.now c.gather.new.others c.gather.new.first.changes c.requires.logs (told_all g.J.Service.reporters c.gather.new.first c.args.tokens.now c.gather.new.others c.requires.count c.requires.numbered c.gather.ensures.one_list c.gather.ensures.answers_each c.gather.ensures.own_each c.gather.ensures.own_answers_each)
-    c.requires.count c.requires.numbered c.requires.agree c.gather.ensures.log.numbered c.gather.ensures.extends_each in
-    no_low g.J.Service.start c.args.logs.now c.gather.new.first.changes settled
-
-pub returns-clause-agree : goal.returns-clause-agree
-returns-clause-agree g c =
-    let settled = settled_by g.J.Service.start g.J.Service.reporters c.args.logs.now c.args.tokens.now c.gather.new.others c.gather.new.first.changes c.requires.logs (told_all g.J.Service.reporters c.gather.new.first c.args.tokens.now c.gather.new.others c.requires.count c.requires.numbered c.gather.ensures.one_list c.gather.ensures.answers_each c.gather.ensures.own_each c.gather.ensures.own_answers_each)
-    c.requires.count c.requires.numbered c.requires.agree c.gather.ensures.log.numbered c.gather.ensures.extends_each in
-    still_agree g.J.Service.start g.J.Service.reporters c.args.logs.now c.args.tokens.now c.gather.new.others c.gather.new.first.changes c.requires.logs (told_all g.J.Service.reporters c.gather.new.first c.args.tokens.now c.gather.new.others c.requires.count c.requires.numbered c.gather.ensures.one_list c.gather.ensures.answers_each c.gather.ensures.own_each c.gather.ensures.own_answers_each) c.requires.count c.gather.ensures.count settled
-
-pub returns-clause-each : goal.returns-clause-each
-returns-clause-each g c = told_all g.J.Service.reporters c.gather.new.first c.args.tokens.now c.gather.new.others c.requires.count c.requires.numbered c.gather.ensures.one_list c.gather.ensures.answers_each c.gather.ensures.own_each c.gather.ensures.own_answers_each
+pub returns : goal.returns
+returns g c =
+    let start = g.J.Service.start in
+    let reporters = g.J.Service.reporters in
+    let logs = c.args.logs.now in
+    let old = c.args.tokens.now in
+    let new = c.gather.new.others in
+    let seen = c.gather.new.first.changes in
+    let known = c.requires in
+    let gathered = c.gather.ensures in
+    let told = told_all reporters c.gather.new.first old new known.count known.numbered gathered.one_list gathered.answers_each gathered.own_each gathered.own_answers_each in
+    let settled = settled_by start reporters logs old new seen known.logs told known.count known.numbered known.agree gathered.log.numbered gathered.extends_each in
+    record {
+      changes = cc (gathered.position, counted start logs seen settled);
+      faultless = faultless start logs seen settled;
+      minima = minima start logs seen settled;
+      above = no_low start logs seen settled;
+      position = gathered.position;
+      extends = gathered.extends;
+      reporter = gathered.reporter;
+      count = gathered.count;
+      each = told;
+      numbered = λ k token at.
+          let is = sym (gathered.one_list k (omega (arith, gathered.count, slice_get_within new k token at))) ∙ at in
+          ap (λ (one : Sight). one.reporter) (sym (same_Some _ token is));
+      agree = still_agree start reporters logs old new seen known.logs told known.count gathered.count settled;
+    }

@@ -1,4 +1,3 @@
-use Rattle.std.proofs.Common.{rules}
 use Rattle.std.proofs.Common.{subst, sym, ◌∙◌}
 use Rattle.fdb_history.proofs.faults.Audited.{no_fault}
 use Rattle.fdb_history.proofs.faultless.Sorted.{changes_by_position}
@@ -15,12 +14,3 @@ returns-clause-faultless c =
     let P : Record → Type 0 = λ start. Nowhere (WronglyAnswered start c.args.logs.now) in
     let r = c.in_ok-registers.ensures in
     no_fault c.args.start c.args.logs.now c.requires.order r.no_clash r.no_gap (subst P r.begins c.in_default.ensures)
-
-pub returns-in_err-registers : goal.returns-in_err-registers
-returns-in_err-registers c = search rules
-
-pub returns-in_err-changes : goal.returns-in_err-changes
-returns-in_err-changes c = search rules
-
-pub returns-in-Some : goal.returns-in-Some
-returns-in-Some c = search rules

@@ -1,5 +1,4 @@
-use Rattle.std.proofs.Common.{◌≡◌, true, false, ◌++◌, length, ap, sym, ◌∙◌, arith, add-one, append-nil, append_assoc}
-use Rattle.fdb_lines.specs.Lines.{line_at}
+use Rattle.std.proofs.Common.{◌≡◌, true, false, length, ap, sym, ◌∙◌, arith, add-one, append-nil, append_assoc}
 use Rattle.fdb_lines.specs.private.Due.{due_at, is_due_by}
 use Rattle.fdb_lines.proofs.Tallies.{item_at}
 use Rattle.fdb_lines.proofs.due.findings_due.Goals as goal
@@ -17,8 +16,8 @@ loop-place-preserved c =
     elim c.if-has.branch [
       | then-has+in_ok-add_finding+in_ok-add_finding-2 w ↦
           let here : due_at (is_due_by c.args.due.now) c.args.numbers.now lines n ≡ true = sym due ∙ w.if-has.true in
-          let one = w.in_ok-add_finding.ensures in
-          let two = w.in_ok-add_finding-2.ensures in
+          let one = rw c.new-tables.ensures at w.in_ok-add_finding.ensures in
+          let two = rw c.new-tables.ensures at w.in_ok-add_finding-2.ensures in
           record {
             told = rw (add-one n, here, w.found-is, two.0, one.0, before.told) (simp append_assoc);
             reasons = rw w.found-is (two.1 (one.1 before.reasons));

@@ -1,5 +1,4 @@
-use Rattle.std.proofs.Common.{◌≡◌, ℕ, ◌++◌, ◌∷◌, [], Bool, List, true, false, length, set, get_or, ap, sym, subst, refl, ◌∙◌, arith}
-use Rattle.std.proofs.lemmas.Grind.{common_steps}
+use Rattle.std.proofs.Common.{◌≡◌, ℕ, ◌++◌, ◌∷◌, [], Bool, List, true, false, set, get_or, ap, sym, subst, refl, ◌∙◌, arith}
 use Rattle.std.proofs.lemmas.List.{get_or_default, get_or-map, length-map, map-set, set-get_or}
 use Rattle.std.proofs.lemmas.Result.{on_ok_weaker, on_err_weaker}
 use Rattle.fdb_lines.specs.declared.key_part.KeyPart.{KeyPart}

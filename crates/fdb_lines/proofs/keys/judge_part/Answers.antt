@@ -27,7 +27,7 @@ loop-at-preserved c =
     let room = inv.room in
     let inside : place < length before = omega arith in
     let was : c.index_mut.result.now.items ≡ [] = sym (items_get before place c.index_mut.result.now inside c.index_mut.ensures.value) ∙ inv.rest at (omega arith) within in
-    let more = subst (λ old. ListsMore part opts old here (faults_at (case_of part opts) at)) c.new-here.ensures.items c.in_ok-add_findings.ensures in
+    let more = subst (λ old. ListsMore part opts old here (faults_at (case_of part opts) at)) c.new-here.ensures.items (rw c.new-tables.ensures at c.in_ok-add_findings.ensures) in
     let told : AreToldAt log opts places at place new.items =
     (here, found_more log part opts places at here c.in_ok-part.ensures more, rw (was, c.deref.ensures.value) at c.in_ok-add_placed.ensures) in
     let others = λ (j : ℕ) (lt : j < length places) (other : j ≢ at).

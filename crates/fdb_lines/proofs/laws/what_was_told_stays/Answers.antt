@@ -1,4 +1,4 @@
-use Rattle.std.proofs.Common.{◌≡◌, ◌<◌, nat_lt, true, Some, arith}
+use Rattle.std.proofs.Common.{nat_lt, Some, arith}
 use Rattle.std.proofs.lemmas.Bool.{and_parts}
 use Rattle.std.proofs.lemmas.Bool.Decides.{nat_tests}
 use Rattle.fdb_lines.specs.Before.{began}

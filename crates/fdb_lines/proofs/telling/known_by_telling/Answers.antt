@@ -24,7 +24,7 @@ loop-place-preserved c =
       known = λ margin.
           rw (c.in_ok-push.ensures.items, c.heard_by.ensures, line)
           (known_more test margin lines k c.loop-place.known.items _ (inv.known margin) (knows_is margin seen lines newest k inv.newest));
-      newest = λ q. rw (c.in_ok-hear.ensures q, line, add-one) (heard_more seen lines newest k q c.loop-place-test.true inv.newest);
+      newest = λ q. rw (c.in_ok-learn.ensures q, line, add-one) (heard_more seen lines newest k q c.loop-place-test.true inv.newest);
     }
 
 pub returns : goal.returns

@@ -5,7 +5,7 @@ use Rattle.fdb_live.proofs.master.look_each.Given as goal
 
 abbrev pub invariant-loop-token : goal.invariant-loop-token
 invariant-loop-token g l =
-    (l.turn ≡ l.initial.turn)
+    (l.drawer ≡ l.initial.drawer)
     × (length l.tokens ≡ length l.initial.tokens)
     × ((k : ℕ) → l.token-index ≤ k → slice_get l.tokens k ≡ slice_get l.initial.tokens k)
-    × ((k : ℕ) (token : Sight) → k < l.token-index → slice_get l.initial.tokens k ≡ Some token → IsClosedWith l.initial.turn.answers token k l.tokens)
+    × ((k : ℕ) (token : Sight) → k < l.token-index → slice_get l.initial.tokens k ≡ Some token → IsClosedWith l.initial.drawer.answers token k l.tokens)

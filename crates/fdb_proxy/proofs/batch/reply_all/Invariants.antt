@@ -14,9 +14,9 @@ invariant-loop-request g l = record {
   limits : (throttles : List Throttle) → l.fn.room.limits.items ≡ map (own_limits throttles) l.fn.requests.items → l.limits.items ≡ map (own_limits throttles) l.requests.items;
   forwards : (throttles : List Throttle) → l.fn.room.limits.items ≡ map (own_limits throttles) l.fn.requests.items → (last : List _)
       → AllZip (Replies throttles l.fn.seen.changes) l.requests.items last
-      → AllZip (Replies throttles l.fn.seen.changes) l.fn.requests.items (l.answers.items ++ last);
+      → AllZip (Replies throttles l.fn.seen.changes) l.fn.requests.items (l.replies.items ++ last);
   pairs : deque_len l.limits ≡ deque_len l.requests;
-  room : vec_len l.answers + deque_len l.requests ≤ vec_capacity l.answers;
+  room : vec_len l.replies + deque_len l.requests ≤ vec_capacity l.replies;
 }
 
 abbrev pub decreases-loop-request : goal.decreases-loop-request

@@ -1,6 +1,6 @@
-use Rattle.std.proofs.Common.{◌≡◌, ℕ, zero, suc, ◌<◌, ◌≤◌, List, [], ◌∷◌, length, drop, refl, sym, subst, ◌∙◌, arith}
+use Rattle.std.proofs.Common.{◌<◌, ◌≤◌, length, refl, sym, subst, ◌∙◌, arith}
 use Rattle.std.specs.List.{FoldsTo}
-use Rattle.std.proofs.Math.Seq.{drop-nil}
+use Rattle.std.proofs.lemmas.List.{drop_all}
 use Rattle.fdb_client.specs.Settling.{logs_of}
 use Rattle.fdb_script.specs.Answering.{AnswersRound}
 use Rattle.fdb_replay.proofs.Runs.{one_round_more}
@@ -22,15 +22,10 @@ loop-commands-preserved g c =
       forwards = λ last rest. so_far.forwards last (one_round_more rounds place commands (logs_of before) (logs_of after) last within c.commands-item.is answered rest);
     }
 
-drop_past : {X : Type 0} (xs : List X) (n : ℕ) → length xs ≤ n → drop n xs ≡ []
-drop_past [] n past = drop-nil n
-drop_past (x ∷ xs) zero past = absurd (omega arith)
-drop_past (x ∷ xs) (suc n) past = drop_past xs n (omega arith)
-
 -- where no round is left, all are played
 pub returns-clause-ok : goal.returns-clause-ok
 returns-clause-ok g c =
     let rounds = c.args.rounds.now in
     let last = logs_of c.loop-commands.clients.items in
     let past : length rounds ≤ c.loop-commands.commands-index = omega (arith, c.loop-commands-test.false, c.loop-commands.auto.commands-index-end) in
-    c.loop-commands.invariant.forwards last (subst (λ left. FoldsTo AnswersRound last left last) (sym (drop_past rounds c.loop-commands.commands-index past)) refl)
+    c.loop-commands.invariant.forwards last (subst (λ left. FoldsTo AnswersRound last left last) (sym (drop_all c.loop-commands.commands-index rounds past)) refl)

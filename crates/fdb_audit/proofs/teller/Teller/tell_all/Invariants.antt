@@ -4,13 +4,13 @@ use Rattle.fdb_lines.specs.KeyWatch.{AreTold}
 use Rattle.fdb_log_reader.specs.LineReader.{line_names}
 use Rattle.fdb_log_reader.specs.ReadLine.{SaidLine}
 use Rattle.fdb_log_reader.specs.declared.error.Why.{Why}
-use Rattle.fdb_audit.specs.Following.{keys_taken, lines_taken}
+use Rattle.fdb_audit.specs.Following.{KeptNumbers, keys_taken, lines_taken}
 use Rattle.fdb_audit.specs.private.Followed.{AreNumbered, TellsOn}
 use Rattle.fdb_audit.proofs.teller.Teller.tell_all.Given as goal
 
 -- what is told so far
 abbrev pub invariant-loop-entry : goal.invariant-loop-entry
 invariant-loop-entry l =
-    (read : List (Result SaidLine Why)) (to : Option ℕ) (parts : List KeyPart) (margin : ℕ) → AreNumbered l.taking read
+    (kept : KeptNumbers) (read : List (Result SaidLine Why)) (to : Option ℕ) (parts : List KeyPart) (margin : ℕ) → AreNumbered kept l.taking read
     → All (λ part. part.watch.margin ≡ margin) parts → AreTold to (lines_taken read) (keys_taken read) parts l.told
-    → TellsOn l.fn.self l.self margin read (line_names l.reader).clients
+    → TellsOn kept l.fn.self l.self margin read (line_names l.reader).clients

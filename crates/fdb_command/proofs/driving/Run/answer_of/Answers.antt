@@ -4,7 +4,7 @@ use Rattle.fdb_command.specs.Driving.{MayFind, MayRefuse}
 use Rattle.fdb_command.specs.Input.{MayBeRead}
 use Rattle.fdb_command.specs.private.Taking.{IsFailure, MayStop}
 use Rattle.fdb_command.specs.Driving.{MayAnswer, TellsOf}
-use Rattle.fdb_command.specs.declared.fault.Fault.TheVariants.{Arguments, Refused, Found}
+use Rattle.fdb_command.specs.declared.failure.Failure.TheVariants.{Arguments, Refused, Found}
 use Rattle.fdb_command.proofs.Answered.{found_early, found_of, named_file, own_early, own_of, printed_of, refused_early, refused_of, told_after, told_early, unsaid_of, untold, unwarned}
 use Rattle.fdb_command.proofs.Pieces.{on_error, passed_on}
 use Rattle.fdb_command.proofs.driving.Run.answer_of.Goals as goal

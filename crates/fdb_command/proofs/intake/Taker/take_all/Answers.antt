@@ -50,13 +50,40 @@ returns-then-count-most-clause-few g c =
 pub returns-then-count-most-clause-quiet : goal.returns-then-count-most-clause-quiet
 returns-then-count-most-clause-quiet g c = c.loop.invariant.quiet
 
+pub returns-in_err-last-clause-stops : goal.returns-in_err-last-clause-stops
+returns-in_err-last-clause-stops g c =
+    let fault = c.in_err-last.field-0.0 in
+    passed_on c.from_residual-in_err-last.result fault (λ fault. IsFailure fault ⊎ MayStop g.P.Program.promise c.args.self.now.options.now None (g.I.Read.remaining c.args.input.now) fault) c.from_residual-in_err-last.ensures.1
+    (stops_telling g.P.Program.promise c.args.self.now.options.now (g.I.Read.remaining c.args.input.now) fault c.in_err-last.ensures.stops)
+
+pub returns-in_err-last-clause-begun : goal.returns-in_err-last-clause-begun
+returns-in_err-last-clause-begun g c =
+    let (bytes, told, counted, gone, taken, put) = c.loop.invariant.taken in
+    let (short, on) = c.in_ok-piece.ensures.taken in
+    on_error c.from_residual-in_err-last.result
+    (told_last g.P.Program.promise c.args.self.now.options.now (g.I.Read.remaining c.args.input.now) (g.I.Read.remaining c.take_piece.new.input) g.O.Write.contents c.args.out.now c.loop.out c.write_told.new.out c.in_ok-piece.piece.intake (bytes ++ on.bytes) told
+    (omega (arith, length-append bytes on.bytes, counted, on.counted, c.most-most.ensures))
+    (Consumes-trans (g.I.Read.remaining c.args.input.now) (g.I.Read.remaining c.loop.input) (g.I.Read.remaining c.take_piece.new.input) bytes on.bytes gone on.gone) (on.taken c.args.self.now.options.now bytes told taken) put c.in_err-last.ensures.begun)
+
+pub returns-in_err-last-clause-few : goal.returns-in_err-last-clause-few
+returns-in_err-last-clause-few g c =
+    let (bytes, told, counted, gone, taken, put) = c.loop.invariant.taken in
+    let (short, on) = c.in_ok-piece.ensures.taken in
+    takes_more (g.I.Read.remaining c.args.input.now) (g.I.Read.remaining c.loop.input) (g.I.Read.remaining c.take_piece.new.input) bytes c.in_ok-piece.piece.count (g.P.Program.promise.most + 1) (omega (arith, counted, c.most-most.ensures, c.room_at-asked.ensures.few, short, length-take c.room_at-asked.result c.loop.room)) gone (on.bytes, omega (arith, on.counted), on.gone)
+
+pub returns-in_err-last-clause-quiet : goal.returns-in_err-last-clause-quiet
+returns-in_err-last-clause-quiet g c = λ arguments asks tells warns. c.write_told.ensures.quiet arguments asks warns ∙ (c.tell_end.ensures arguments asks tells ∙ c.loop.invariant.quiet arguments asks tells warns)
+
 pub returns-then-piece-clause-all : goal.returns-then-piece-clause-all
 returns-then-piece-clause-all g c =
     let (bytes, told, counted, gone, taken, put) = c.loop.invariant.taken in
     let (short, on) = c.in_ok-piece.ensures.taken in
-    taken_whole g.P.Program.promise c.args.self.now.options.now (g.I.Read.remaining c.args.input.now) (g.I.Read.remaining c.take_piece.new.input) g.O.Write.contents c.args.out.now c.loop.out c.in_ok-piece.piece.intake (bytes ++ on.bytes) told
+    let more = c.in_ok-last.ensures.told in
+    taken_whole g.P.Program.promise c.args.self.now.options.now (g.I.Read.remaining c.args.input.now) (g.I.Read.remaining c.take_piece.new.input) g.O.Write.contents c.args.out.now c.write_told.new.out c.in_ok-last.last (bytes ++ on.bytes) (told ++ more.text)
     (omega (arith, length-append bytes on.bytes, counted, on.counted, c.most-most.ensures))
-    (Consumes-trans (g.I.Read.remaining c.args.input.now) (g.I.Read.remaining c.loop.input) (g.I.Read.remaining c.take_piece.new.input) bytes on.bytes gone on.gone) (c.in_ok-piece.ensures.last c.if-piece.true) (on.taken c.args.self.now.options.now bytes told taken) put
+    (Consumes-trans (g.I.Read.remaining c.args.input.now) (g.I.Read.remaining c.loop.input) (g.I.Read.remaining c.take_piece.new.input) bytes on.bytes gone on.gone) (c.in_ok-piece.ensures.last c.if-piece.true)
+    (more.told (bytes ++ on.bytes) told (on.taken c.args.self.now.options.now bytes told taken))
+    (put_on g.O.Write.contents told more.text c.args.out.now c.loop.out c.write_told.new.out put more.put)
 
 pub returns-then-piece-clause-few : goal.returns-then-piece-clause-few
 returns-then-piece-clause-few g c =
@@ -65,7 +92,7 @@ returns-then-piece-clause-few g c =
     takes_more (g.I.Read.remaining c.args.input.now) (g.I.Read.remaining c.loop.input) (g.I.Read.remaining c.take_piece.new.input) bytes c.in_ok-piece.piece.count (g.P.Program.promise.most + 1) (omega (arith, counted, c.most-most.ensures, c.room_at-asked.ensures.few, short, length-take c.room_at-asked.result c.loop.room)) gone (on.bytes, omega (arith, on.counted), on.gone)
 
 pub returns-then-piece-clause-quiet : goal.returns-then-piece-clause-quiet
-returns-then-piece-clause-quiet g c = λ arguments asks tells warns. c.tell_end.ensures arguments asks tells ∙ c.loop.invariant.quiet arguments asks tells warns
+returns-then-piece-clause-quiet g c = λ arguments asks tells warns. c.write_told.ensures.quiet arguments asks warns ∙ (c.tell_end.ensures arguments asks tells ∙ c.loop.invariant.quiet arguments asks tells warns)
 
 pub returns-in_err-intake-clause-stops : goal.returns-in_err-intake-clause-stops
 returns-in_err-intake-clause-stops g c =

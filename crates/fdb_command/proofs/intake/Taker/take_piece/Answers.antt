@@ -1,5 +1,8 @@
-use Rattle.std.proofs.Common.{rules}
-use Rattle.std.proofs.Common.{◌≡◌, ℕ, ◌≤◌, List, [], inr, length, refl, take, arith}
+use Rattle.std.proofs.Common.{◌≡◌, ℕ, ◌≤◌, List, [], ◌++◌, ◌⊎◌, inl, inr, length, refl, sym, subst, take, arith}
+use Rattle.clap.specs.Words.{Text}
+use Rattle.fdb_command.specs.Driving.{Promise, Stops}
+use Rattle.fdb_command.specs.declared.failure.Failure.{Failure}
+use Rattle.fdb_command.specs.declared.failure.Failure.TheVariants.{Reading, Memory}
 use Rattle.std.proofs.lemmas.List.{length-take}
 use Rattle.std.proofs.KnownBytes.{Consumes-kept, Consumes-nil}
 use Rattle.fdb_command.proofs.Pieces.{passed_on, takes_nothing}
@@ -38,5 +41,15 @@ returns-in_err-intake-clause-stops g c =
     c.from_residual-in_err-intake.ensures.1
     (record { bytes = take count room; few = omega (arith, counted count room within, c.read_piece.ensures.room, within); gone = gone; stops = inr c.in_err-intake.ensures.stops })
 
-pub returns-in_err-count : goal.returns-in_err-count
-returns-in_err-count g c = search rules
+-- memory may be refused at any bytes
+unread : {O I E F : Type 0} (program : Promise O I E F) (intake : I) (fault : Failure E F) → (fault ≡ Reading) ⊎ (fault ≡ Memory)
+    → (fault ≡ Reading) ⊎ ((arguments : List Text) (options : O) (so_far told rest : List ℕ) → program.asks arguments options → program.taken options intake so_far told → Stops program arguments (so_far ++ ([] ++ rest)) fault)
+unread program intake fault (inl reading) = inl reading
+unread program intake fault (inr memory) = inr (λ arguments options so_far told rest asks taken. subst (Stops program arguments (so_far ++ ([] ++ rest))) (sym memory) tt)
+
+-- where nothing could be read, nothing is gone
+pub returns-in_err-count-clause-stops : goal.returns-in_err-count-clause-stops
+returns-in_err-count-clause-stops g c =
+    passed_on c.from_residual.result c.in_err-count.field-0.0 (StopsAt g.P.Program.promise c.args.intake (length c.args.room.now) (g.I.Read.remaining c.args.input.now) (g.I.Read.remaining c.read_piece.new.input))
+    c.from_residual.ensures.1
+    (record { bytes = []; few = omega arith; gone = Consumes-kept _ _ _ _ (Consumes-nil _) c.in_err-count.ensures.failed; stops = unread g.P.Program.promise c.args.intake _ c.in_err-count.ensures.kinds })

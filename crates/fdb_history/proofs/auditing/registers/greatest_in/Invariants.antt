@@ -1,10 +1,7 @@
-use Rattle.std.proofs.Common.{◌≡◌, ℕ, ◌<◌, ◌≤◌, slice_get, Some}
-use Rattle.fdb_history.specs.declared.log.Call.{Call}
+use Rattle.std.proofs.Common.{◌≡◌, drop}
+use Rattle.fdb_history.specs.private.Auditing.{farthest_in}
 use Rattle.fdb_history.proofs.auditing.registers.greatest_in.Given as goal
 
--- no call so far is above the greatest position, and some call has reached it
+-- the calls that are left go as far as all
 abbrev pub invariant-loop-call : goal.invariant-loop-call
-invariant-loop-call l = record {
-  above : (place : ℕ) (call : Call) → place < l.call-index → slice_get l.calls place ≡ Some call → call.position ≤ l.greatest;
-  reached : 1 ≤ l.greatest → (place : ℕ) × (call : Call) × (slice_get l.calls place ≡ Some call) × (l.greatest ≤ call.position);
-}
+invariant-loop-call l = farthest_in l.greatest (drop l.call-index l.calls) ≡ farthest_in l.far l.calls

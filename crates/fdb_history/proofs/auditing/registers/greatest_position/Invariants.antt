@@ -1,12 +1,7 @@
-use Rattle.std.proofs.Common.{◌≡◌, ℕ, ◌<◌, ◌≤◌, slice_get, Some}
-use Rattle.fdb_history.specs.Faults.{IsReached}
-use Rattle.fdb_history.specs.Log.{calls_of}
-use Rattle.fdb_history.specs.declared.log.Call.{Call}
+use Rattle.std.proofs.Common.{◌≡◌, drop}
+use Rattle.fdb_history.specs.private.Auditing.{farthest}
 use Rattle.fdb_history.proofs.auditing.registers.greatest_position.Given as goal
 
--- no call of the clients so far is above the greatest position, and some call has reached it
+-- the logs that are left go as far as all
 abbrev pub invariant-loop-log : goal.invariant-loop-log
-invariant-loop-log l = record {
-  above : (client place : ℕ) (call : Call) → client < l.log-index → slice_get (calls_of l.logs client) place ≡ Some call → call.position ≤ l.greatest;
-  reached : 1 ≤ l.greatest → IsReached l.logs l.greatest;
-}
+invariant-loop-log l = farthest l.greatest (drop l.log-index l.logs) ≡ farthest 0 l.logs

@@ -1,10 +1,7 @@
-use Rattle.std.proofs.Common.{◌+◌, ◌≤◌, length, vec_capacity}
-use Rattle.fdb_history.proofs.faults.RegisterTable.{IsTableUpTo}
+use Rattle.std.proofs.Common.{◌≡◌, ◌++◌, drop}
+use Rattle.fdb_history.specs.private.Auditing.{table_of}
 use Rattle.fdb_history.proofs.auditing.registers.table_of.Given as goal
 
--- the register after each of the changes so far is in the table, and there is capacity for the others
+-- the table goes on with what the changes that are left make of the current register
 abbrev pub invariant-loop-change : goal.invariant-loop-change
-invariant-loop-change l = record {
-  table : IsTableUpTo l.change-index l.fn.start l.changes l.table.items l.current;
-  capacity : length l.changes + 1 ≤ vec_capacity l.table;
-}
+invariant-loop-change l = l.table.items ++ table_of l.current (drop l.change-index l.changes) ≡ table_of l.fn.start l.changes

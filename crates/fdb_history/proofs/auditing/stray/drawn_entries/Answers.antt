@@ -1,10 +1,7 @@
 use Rattle.std.proofs.Common.{◌≡◌, length, drop, sym, ◌∙◌, arith}
 use Rattle.fdb_history.proofs.faults.FirstCalls.{calls-at}
-use Rattle.fdb_history.proofs.chains.Marks.{drawn_below, marks-none, marks-more, marks-all, written_back}
+use Rattle.fdb_history.proofs.chains.Marks.{drawn_below, marks-more, marks-all, written_back}
 use Rattle.fdb_history.proofs.auditing.stray.drawn_entries.Goals as goal
-
-pub loop-client-init : goal.loop-client-init
-loop-client-init c = rw (c.in_ok-drawn.ensures.items_if_clones_equal (λ y same. same)) (marks-none c.args.chain.now c.args.logs.now)
 
 pub loop-client-preserved : goal.loop-client-preserved
 loop-client-preserved c =

@@ -4,17 +4,8 @@ use Rattle.std.proofs.lemmas.Option.{slice_get_read, slice_get_within}
 use Rattle.fdb_history.specs.Strays.{is_justified}
 use Rattle.fdb_history.proofs.faults.FirstCalls.{call_more}
 use Rattle.fdb_history.proofs.Lists.{take-push}
-use Rattle.fdb_history.proofs.chains.Own.{OwnAfter-none, OwnAfter-call, justified-same}
+use Rattle.fdb_history.proofs.chains.Own.{OwnAfter-call, justified-same}
 use Rattle.fdb_history.proofs.auditing.stray.first_of.Goals as goal
-
-pub loop-place-init : goal.loop-place-init
-loop-place-init c = record { own = rw c.new-own.ensures (OwnAfter-none _ _); justified = λ p call below. absurd (omega arith) }
-
-pub returns-then-not-is_justified_by : goal.returns-then-not-is_justified_by
-returns-then-not-is_justified_by c =
-    let at = slice_get_read c.args.calls.now _ c.loop-place.place c.index-calls-place.result refl c.loop-place-test.true c.index-calls-place.is in
-    let same = justified-same c.args.chain.now c.args.client (take c.loop-place.place c.args.calls.now) c.loop-place.own c.index-calls-place.result c.loop-place.invariant.own in
-    ((c.index-calls-place.result, at, same ∙ (sym c.is_justified_by.ensures ∙ c.if-not-is_justified_by.true)), c.loop-place.invariant.justified)
 
 pub loop-place-preserved : goal.loop-place-preserved
 loop-place-preserved c =

@@ -2,12 +2,9 @@ use Rattle.std.proofs.Common.{◌∙◌, ap, sym}
 use Rattle.std.proofs.lemmas.List.{take_all}
 use Rattle.fdb_history.specs.Log.{answer_in}
 use Rattle.fdb_history.specs.declared.log.Call.{Call}
-use Rattle.fdb_history.proofs.chains.Marks.{drawn_too-none, drawn_too-answered, drawn_too-other, no_answer}
+use Rattle.fdb_history.proofs.chains.Marks.{drawn_too-answered, drawn_too-other, no_answer}
 use Rattle.fdb_history.proofs.auditing.stray.mark_drawn.Goals as goal
 use Rattle.fdb_history.proofs.auditing.stray.mark_drawn.Goals.{in-Answered, in_default}
-
-pub loop-call-init : goal.loop-call-init
-loop-call-init c = λ was are. drawn_too-none c.args.chain.now c.args.drawn.now was c.args.client are
 
 pub loop-call-preserved : goal.loop-call-preserved
 loop-call-preserved c =

@@ -2,7 +2,7 @@ use Rattle.std.proofs.Common.{◌≡◌, Some, length, cond, rules, arith, add-o
 use Rattle.std.proofs.lemmas.List.Sorted.{sum_by-IsPermutation, IsNonDecreasingBy-from_sort_by}
 use Rattle.fdb_lines.specs.declared.end.End.{End}
 use Rattle.fdb_lines.specs.private.Ended.{stands_before}
-use Rattle.fdb_lines.specs.private.Ends.{end_key}
+use Rattle.fdb_lines.specs.private.EndTable.{end_key}
 use Rattle.fdb_lines.proofs.Tallies.{item_at}
 use Rattle.fdb_lines.proofs.ended.Ended.new.Goals as goal
 

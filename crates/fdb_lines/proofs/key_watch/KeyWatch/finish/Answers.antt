@@ -1,5 +1,5 @@
-use Rattle.std.proofs.Common.{◌≡◌, ◌<◌, List, Option, None, ℕ, length, ap, sym, subst, refl, ◌∙◌, arith}
-use Rattle.std.specs.List.{All, AllPairs}
+use Rattle.std.proofs.Common.{◌<◌, None, length, sym, subst}
+use Rattle.std.specs.List.{All}
 use Rattle.fdb_lines.specs.private.KeyParts.{AreEntries}
 use Rattle.fdb_lines.proofs.Opened.{open_within}
 use Rattle.fdb_lines.proofs.SettledByKey.{rest_by_key, told_by_key}

@@ -1,12 +1,11 @@
-use Rattle.std.proofs.Common.{◌≡◌, ◌++◌, ◌∷◌, [], Bool, true, List, Option, ℕ, length, ap, sym, subst, refl, ◌∙◌, arith, length-append}
-use Rattle.std.proofs.lemmas.Grind.{common_steps}
+use Rattle.std.proofs.Common.{◌≡◌, ◌++◌, ◌∷◌, [], Bool, true, List, length, ap, sym, subst, ◌∙◌, arith, length-append}
 use Rattle.std.proofs.lemmas.List.{length-map, map_push}
 use Rattle.std.specs.BTreeMap.{get}
 use Rattle.std.specs.List.{All}
 use Rattle.std.specs.Ordering.{nat_cmp}
 use Rattle.fdb_lines.specs.declared.key_part.KeyPart.{KeyPart}
 use Rattle.fdb_lines.specs.KeyParts.{names_of, HasSeenOne}
-use Rattle.fdb_lines.specs.private.Keys.{number_of, AreNumbered}
+use Rattle.fdb_lines.specs.private.Keys.{AreNumbered}
 use Rattle.fdb_lines.specs.private.KeyParts.{flags_of, AreOpen, IsAlike, IsFirst}
 use Rattle.fdb_lines.proofs.Opened.{opened_first}
 use Rattle.fdb_lines.proofs.Parted.{numbered_more}

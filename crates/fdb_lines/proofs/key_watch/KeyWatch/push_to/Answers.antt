@@ -1,4 +1,4 @@
-use Rattle.std.proofs.Common.{◌≡◌, ◌++◌, ◌∷◌, [], List, Option, ℕ, length, ap, sym, subst, refl, ◌∙◌, arith, length-append}
+use Rattle.std.proofs.Common.{◌∷◌, [], length, sym, subst, refl, ◌∙◌, arith, length-append}
 use Rattle.std.specs.BTreeMap.{get}
 use Rattle.std.specs.Ordering.{nat_cmp}
 use Rattle.fdb_lines.specs.KeyParts.{names_of}

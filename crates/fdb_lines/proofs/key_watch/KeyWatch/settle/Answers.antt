@@ -1,12 +1,11 @@
-use Rattle.std.proofs.Common.{◌≡◌, ◌<◌, ◌≤◌, get_or, List, Option, Some, ℕ, length, max, ap, sym, subst, refl, ◌∙◌, arith}
+use Rattle.std.proofs.Common.{◌≡◌, ◌<◌, ◌≤◌, get_or, List, Some, ℕ, length, max, ap, sym, subst, ◌∙◌, arith}
 use Rattle.std.specs.BTreeMap.{get}
 use Rattle.std.specs.List.{All, filter}
 use Rattle.std.specs.Ordering.{nat_cmp}
 use Rattle.fdb_lines.specs.declared.key_part.KeyPart.{KeyPart}
-use Rattle.fdb_lines.specs.KeyParts.{names_of}
 use Rattle.fdb_lines.specs.KeyWatch.{AreTold, GoesOn}
 use Rattle.fdb_lines.specs.private.Keys.{AreNumbered}
-use Rattle.fdb_lines.specs.private.KeyParts.{flag_at, flags_of, AreEntries, AreNext, AreOpen, ArePut, IsAlike}
+use Rattle.fdb_lines.specs.private.KeyParts.{flag_at, flags_of, AreNext, AreOpen, ArePut}
 use Rattle.fdb_lines.proofs.Opened.{open_within, opened_kept}
 use Rattle.fdb_lines.proofs.SettledByKey.{alike_on, entries_on, flags_on, goes_on, names_on, nothing, seen_on, told_by_key}
 use Rattle.fdb_lines.proofs.key_watch.KeyWatch.settle.Goals as goal

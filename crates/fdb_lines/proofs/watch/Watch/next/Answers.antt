@@ -1,9 +1,8 @@
-use Rattle.std.proofs.Common.{◌≡◌, ℕ, ◌-◌, ◌≤◌, List, length, map, slice_index, ap, sym, subst, ◌∙◌, arith}
+use Rattle.std.proofs.Common.{◌≡◌, ℕ, ◌-◌, List, length, map, slice_index, ap, sym, subst, ◌∙◌, arith}
 use Rattle.std.proofs.lemmas.List.{length-map}
 use Rattle.fdb_lines.specs.declared.line.Line.{Line}
 use Rattle.fdb_lines.specs.Carried.{StandFor}
 use Rattle.fdb_lines.specs.Lines.{Lines, line_at, lines_in}
-use Rattle.fdb_lines.specs.Log.{lines_of}
 use Rattle.fdb_lines.specs.Watch.{judged_from}
 use Rattle.fdb_lines.proofs.Carried.{few_places, fewer_are, later, of_a_part}
 use Rattle.fdb_lines.proofs.watch.Watch.next.Goals as goal

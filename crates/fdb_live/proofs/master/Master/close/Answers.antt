@@ -5,11 +5,11 @@ use Rattle.fdb_live.proofs.master.Master.close.Goals as goal
 
 pub returns : goal.returns
 returns g c =
-    let turn : Chain = c.look_each.new.turn in
+    let drawer : Chain = c.look_each.new.drawer in
     let after = c.count.ensures in
     record {
       closed = (
-        turn.answers,
+        drawer.answers,
         record {
           one_chain = after.one_chain;
           asked = after.asked;

@@ -1,8 +1,7 @@
-use Rattle.std.proofs.Common.{rules}
 use Rattle.std.proofs.Common.{sym, ◌∙◌, ap}
 use Rattle.std.specs.Option.{option_copied}
-use Rattle.fdb_queue.proofs.Skipping.{batch_grants, system_goes, default_held, batch_held}
-use Rattle.fdb_queue.proofs.Turning.{count_of}
+use Rattle.fdb_queue.proofs.Skipping.{batch_grants, system_goes, batch_held}
+use Rattle.fdb_queue.proofs.Turning.{count_of, default_held}
 use Rattle.fdb_queue.proofs.queue.GrvQueue.idle_windows.Goals as goal
 
 pub windows_held-normal-requires-clause-transactions : goal.windows_held-normal-requires-clause-transactions
@@ -29,6 +28,3 @@ returns-in-Batch-clause-exact g c =
     let head = sym c.head.ensures ∙ ap option_copied c.in-Some.is in
     rw (← c.self.view_is) (rw head (batch_held _ c.in-Some.head.now c.args.elapsed c.windows_held-normal.result c.windows_held-batch.result c.max.result c.self.invariant c.requires.some head c.in-Batch.is
     c.windows_held-normal.ensures c.windows_held-batch.ensures c.max.ensures))
-
-pub returns-in_default : goal.returns-in_default
-returns-in_default g c = search rules

@@ -1,8 +1,7 @@
-use Rattle.std.proofs.Common.{arith, length-drop, rules, sym, ◌∙◌, ◌≡◌, ◌<◌, length, true, false}
+use Rattle.std.proofs.Common.{rules, sym, ◌∙◌, ◌≡◌, ◌<◌, length, true, false}
 use Rattle.fdb_queue.specs.Queue.{Queue}
 use Rattle.fdb_queue.specs.Window.{window}
-use Rattle.fdb_queue.proofs.Leaving.{after_is, few_wait, IsQueue-left, IsReach-throttled, some_started}
-use Rattle.fdb_queue.proofs.Lawful.{bounded}
+use Rattle.fdb_queue.proofs.Leaving.{after_is, IsQueue-left, IsReach-throttled, some_started}
 use Rattle.fdb_queue.proofs.queue.GrvQueue.window.Goals as goal
 
 pub invariant_of-self-2 : goal.invariant_of-self-2
@@ -23,25 +22,5 @@ returns-in_err-started-clause-else_memory g c time =
     let some : 0 < length (window c.args.self.now) = rw (← c.self.view_is) some_of in
     search rules
 
-pub returns-clause-bounded : goal.returns-clause-bounded
-returns-clause-bounded g c =
-    let queue : Queue g.row.T.Denot = record { config = c.self.inside.config; waiting = c.self.inside.waiting; budgets = c.self.inside.budgets; throttles = c.self.inside.throttles } in
-    rw (c.in_ok-started.ensures.taken ∙ sym c.reach-reach.ensures.started) (bounded queue c.self.invariant)
-
 pub returns-clause-started : goal.returns-clause-started
 returns-clause-started g c = rw (← c.self.view_is) (c.in_ok-started.ensures.taken ∙ sym c.reach-reach.ensures.started)
-
-pub overflow_add-unbatched : goal.overflow_add-unbatched
-overflow_add-unbatched g c =
-    let few = few_wait _ c.self.invariant in
-    let lengths = c.lengths-left.ensures in
-    omega (arith, few, rw c.in_ok-started.ensures.left at lengths.system, rw c.in_ok-started.ensures.left at lengths.default_, length-drop c.reach-reach.result.counts.system c.self.inside.waiting.system, length-drop c.reach-reach.result.counts.default_ c.self.inside.waiting.default_)
-
-pub overflow_add-unbatched-2 : goal.overflow_add-unbatched-2
-overflow_add-unbatched-2 g c =
-    let few = few_wait _ c.self.invariant in
-    let lengths = c.lengths-left.ensures in
-    omega (arith, few, rw c.in_ok-started.ensures.left at lengths.system, rw c.in_ok-started.ensures.left at lengths.default_, length-drop c.reach-reach.result.counts.system c.self.inside.waiting.system, length-drop c.reach-reach.result.counts.default_ c.self.inside.waiting.default_, rw c.in_ok-started.ensures.left at lengths.batch, length-drop c.reach-reach.result.counts.batch c.self.inside.waiting.batch)
-
-pub returns-then-not-is_elapsed : goal.returns-then-not-is_elapsed
-returns-then-not-is_elapsed g c = search rules

@@ -2,7 +2,7 @@ use Rattle.std.proofs.Common.{◌≡◌, ℕ, ◌<◌, ◌+◌, List, [], ◌∷
 use Rattle.std.specs.Prelude.{OnErr}
 use Rattle.std.specs.List.{flat_map}
 use Rattle.std.proofs.lemmas.Grind.{flat_map-append}
-use Rattle.std.proofs.lemmas.List.{take_all, take_more}
+use Rattle.std.proofs.lemmas.List.{take_more}
 use Rattle.std.proofs.lemmas.List.Folds.{length-flat_map-take}
 use Rattle.fdb_history.specs.declared.grv.Priority.{Priority}
 use Rattle.fdb_queue.specs.declared.throttles.Throttle.{Throttle}
@@ -36,20 +36,3 @@ limits_more : (throttles : List Throttle) (priority : Priority) (at : ℕ) (tags
 limits_more throttles priority at tags place tag less is =
     let of_tag = λ (it : List ℕ). unexpired at (last_set throttles priority it) in
     ap (flat_map of_tag) (take_more tags place tag less ∙ ap (λ it. take place tags ++ it ∷ []) (sym is)) ∙ flat_map-append of_tag (take place tags) (tag ∷ []) ∙ ap (λ rest. flat_map of_tag (take place tags) ++ rest) (append-nil (of_tag tag))
-
-pub loop-tag-preserved : goal.loop-tag-preserved
-loop-tag-preserved c =
-    let so_far = limits_of c.args.self.now c.args.priority c.args.at (take c.loop-tag.tag-index c.args.tags.now) in
-    let one = rw c.in-Some.is at c.in_ok-limit.ensures.ok in
-    let more = limits_more c.args.self.now c.args.priority c.args.at c.args.tags.now c.loop-tag.tag-index c.tag-item.result c.loop-tag-test.true c.tag-item.is in
-    c.in_ok-push.ensures.items ∙ ap (λ front. front ++ c.in-Some.limit ∷ []) c.loop-tag.invariant ∙ ap (λ last. so_far ++ last) one ∙ sym more
-
-pub loop-tag-preserved-in_default : goal.loop-tag-preserved-in_default
-loop-tag-preserved-in_default c =
-    let so_far = limits_of c.args.self.now c.args.priority c.args.at (take c.loop-tag.tag-index c.args.tags.now) in
-    let none = rw c.in_default.is at c.in_ok-limit.ensures.ok in
-    let more = limits_more c.args.self.now c.args.priority c.args.at c.args.tags.now c.loop-tag.tag-index c.tag-item.result c.loop-tag-test.true c.tag-item.is in
-    c.loop-tag.invariant ∙ sym (append-nil so_far) ∙ ap (λ last. so_far ++ last) none ∙ sym more
-
-pub returns-clause-ok : goal.returns-clause-ok
-returns-clause-ok c = c.loop-tag.invariant ∙ ap (limits_of c.args.self.now c.args.priority c.args.at) (take_all c.loop-tag.tag-index c.args.tags.now c.loop-tag-test.false)

@@ -13,12 +13,3 @@ returns-in_ok-insert-in-Default-clause-ok c =
 pub returns-in_ok-insert-in-Batch-clause-ok : goal.returns-in_ok-insert-in-Batch-clause-ok
 returns-in_ok-insert-in-Batch-clause-ok c =
     rw (c.in-Batch.is, ← c.self.view_is, ← c.into_vec-tag.ensures) (set_batch c.self.inside.system.entries c.self.inside.default_.entries c.self.inside.batch.entries _ c.into_vec-tag.result (record { rate = c.args.throttle.rate; expires = c.args.throttle.expires }) c.in_ok-insert-in-Batch.ensures.entries)
-
-pub returns-in_err-insert-in-System : goal.returns-in_err-insert-in-System
-returns-in_err-insert-in-System c = search rules
-
-pub returns-in_err-insert-in-Default : goal.returns-in_err-insert-in-Default
-returns-in_err-insert-in-Default c = search rules
-
-pub returns-in_err-insert-in-Batch : goal.returns-in_err-insert-in-Batch
-returns-in_err-insert-in-Batch c = search rules

@@ -1,0 +1,93 @@
+"""The watch of a log of calls that grows."""
+from __future__ import annotations
+
+import json as written_json
+from ctypes import byref, c_uint8
+from typing import Any, List, Tuple
+
+from ._handle import Handle, written
+from ._library import RawRefused, RawWatchOptions, library
+from ._status import Refused, Status
+from ._values import Text, flag, number, octets
+from .log import verdict
+
+
+class Watch(Handle):
+    """A watch of JSON Lines that come piece by piece: what `fdb_audit --follow` is.
+
+    A line begins at most so far `behind` the newest end, and the clocks of two clients are at most
+    `margin` apart, both in the unit of the times. `key` names the member that has a line's key, and
+    each key is then watched by itself; where it is empty there are no keys. With `totals` the end
+    tells how much was read, and how many faults of each kind; with `json` objects are told, and not
+    sentences. `Refused` says MEMORY.
+
+    Threads may share one: their calls wait for one another. It is freed by `close`, at the end of a
+    `with`, or when nobody has it any more, and can be neither copied nor pickled.
+    """
+
+    _free = library.fdb_watch_free
+
+    def __init__(
+        self,
+        behind: int,
+        *,
+        margin: int = 0,
+        key: Text = "",
+        totals: bool = False,
+        json: bool = False,
+    ) -> None:
+        options = RawWatchOptions(
+            number("behind", behind),
+            number("margin", margin),
+            flag("totals", totals),
+            flag("json", json),
+        )
+        name = octets("key", key)
+        self._open(library.fdb_watch_new, byref(options), name, len(name))
+
+    def push(self, piece: Text) -> None:
+        """Takes the next bytes of the log, cut anywhere; a line that is refused is left out.
+
+        `Refused` says MEMORY, which ends the watch, or OVER where it was over before.
+        """
+        given = octets("a piece", piece)
+        self._asked(library.fdb_watch_push, given, len(given))
+
+    def tell(self, idle: bool = True) -> str:
+        """Says what has become certain since it said so last, each fault once: as `text` from then.
+
+        It looks for that where `idle` says that no more may come for a while, else only once 8,192
+        lines have come. It is refused as `push` is; what was said last then stays.
+        """
+        is_idle = flag("idle", idle)
+
+        def told(handle: Any) -> Tuple[int, Any]:
+            status = library.fdb_watch_tell(handle, is_idle)
+            return status, None if status else written(handle, library.fdb_watch_text, c_uint8)
+
+        status, text = self._call(told)
+        if status:
+            raise Refused(status)
+        return str(text, "utf-8")
+
+    def end(self) -> Status:
+        """Says, as `text`, what is left where the log ends here: the watch is then over.
+
+        FAULT where a fault was told, at any time, else OK. Where none was, and lines were left out,
+        `LogRefused` has the last of them, or EMPTY where no line came; the text is there all the
+        same. `Refused` is raised as by `push`.
+        """
+        refused = RawRefused()
+        return verdict(self._call(library.fdb_watch_end, byref(refused)), refused)
+
+    def text(self) -> str:
+        """What was said last, by `tell` or `end`: a line for each sentence or object."""
+        return str(self._call(written, library.fdb_watch_text, c_uint8), "utf-8")
+
+    def objects(self) -> List[Any]:
+        """What was said last with `json`, as values of Python."""
+        return [written_json.loads(it) for it in self.text().split("\n")[:-1]]
+
+    def warnings(self) -> str:
+        """What came with that: a line for each line that was left out, with its number and why."""
+        return str(self._call(written, library.fdb_watch_warnings, c_uint8), "utf-8")

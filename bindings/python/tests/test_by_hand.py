@@ -1,0 +1,499 @@
+"""What each function answers, in each field, as it was worked out by hand from the header's text."""
+import ctypes
+import subprocess
+import sys
+import tempfile
+import unittest
+from pathlib import Path
+
+from fdb_read_version import *
+
+SYSTEM, DEFAULT, BATCH = Priority
+LAST = 2**63 - 1
+
+
+class Cases(unittest.TestCase):
+    def refused(self, status, call, *given, expected=0):
+        with self.assertRaises(Refused) as caught:
+            call(*given)
+        self.assertEqual(caught.exception, Refused(status, expected))
+
+
+class OfTheChain(Cases):
+    # Two proxies; the second asks first.
+    ASKED = [
+        (Ask(1, 1, 50), Issued(0, 1, 1, 0, 100, 200, 50, True)),
+        (Ask(1, 1, 99, 7), Issued(0, 1, 1, 0, 100, 200, 50, False)),
+        (Ask(0, 1, 80), Issued(1, 0, 1, 0, 200, 230, 80, True)),
+        (Ask(1, 2, 81, 1), Issued(2, 1, 2, 1, 230, 231, 81, True)),
+        (Ask(1, 1, 82), Refused(Status.FORGOTTEN)),
+        (Ask(1, 9, 82), Refused(Status.EARLY, 3)),
+        (Ask(2, 1, 82), Refused(Status.UNKNOWN_PROXY)),
+        # A moment that goes back counts as none, and 5,000,000 is the most.
+        (Ask(0, 2, 81), Issued(3, 0, 2, 0, 231, 232, 81, True)),
+        (Ask(0, 3, 9_000_000), Issued(4, 0, 3, 0, 232, 5_000_232, 9_000_000, True)),
+    ]
+
+    def test_requests(self):
+        asks = [ask for ask, _ in self.ASKED]
+        self.assertEqual(answers(100, 200, 2, asks), [answer for _, answer in self.ASKED])
+        self.assertEqual(answers(100, 200, 2, iter(())), [])
+        with Chain(100, 200, 2) as chain:
+            for ask, answer in self.ASKED:
+                given = (ask.proxy, ask.num, ask.at, ask.processed)
+                if isinstance(answer, Refused):
+                    self.refused(answer.status, chain.ask, *given, expected=answer.expected)
+                else:
+                    self.assertEqual(chain.ask(*given), answer)
+
+    def test_ends(self):
+        for status, epoch in (
+            (Status.BAD_EPOCH, (100, 100, 1)),
+            (Status.BAD_EPOCH, (0, LAST + 1, 1)),
+            (Status.BAD_EPOCH, (100, 100, 0)),
+            (Status.NO_PROXY, (100, 200, 0)),
+            (Status.NO_PROXY, (100, 200, 65)),
+        ):
+            self.refused(status, Chain, *epoch)
+            self.refused(status, answers, *epoch, [])
+        chain = Chain(LAST - 1, LAST, 64)
+        self.assertEqual(chain.ask(63, 1, 0), Issued(0, 63, 1, 0, LAST - 1, LAST, 0, True))
+        self.refused(Status.EXHAUSTED, chain.ask, 0, 1, 0)
+
+
+class OfTheRegister(unittest.TestCase):
+    def test_reports(self):
+        first, zeros = Record(100), Record(150, False, bytes(10), 7)
+        metadata = b"0123456789"
+        second = Record(200, True, metadata, 150)
+        self.assertEqual((first.locked, first.metadata, first.min_known), (False, None, 0))
+        self.assertEqual(first.after_report(second), second)
+        self.assertEqual(second.after_report(Record(150, min_known=180)),
+                         Record(200, True, metadata, 180))
+        self.assertEqual(first.after_report(zeros), zeros)
+        self.assertEqual(zeros.after_report(Record(151)), Record(151, False, None, 7))
+        self.assertEqual((second.version_for(), second.version_for(True)), (200, 150))
+
+
+class OfTheQueue(Cases):
+    def queue(self, normal=10, batch=5, room=3):
+        queue = GrvQueue(QueueConfig(normal, batch, room))
+        self.addCleanup(queue.close)
+        return queue
+
+    def test_offers_and_windows(self):
+        queue = self.queue()
+        self.assertEqual(queue.offer(3, 1), Outcome(0, 0, (0, 1, 0)))
+        self.assertEqual(queue.offer(2, 2, BATCH), Outcome(0, 0, (0, 1, 1)))
+        self.assertEqual(queue.offer(payload=3, priority=SYSTEM), Outcome(0, 0, (1, 1, 1)))
+        pushed = Outcome(0, 0, (2, 1, 0), out=Request(2, 2, BATCH))
+        self.assertEqual(queue.offer(1, 4, SYSTEM), pushed)
+        for status, given in (
+            (Status.FULL, (1, 5, BATCH)),
+            (Status.BAD_COUNT, (0,)),
+            (Status.BAD_COUNT, (100_001, 0, SYSTEM)),
+            (Status.BAD_COUNT, (21, 0, BATCH)),
+        ):
+            self.refused(status, queue.offer, *given)
+        # Of 10 transactions in two seconds 5 start, and of 5 as many.
+        row = (Request(1, 3, SYSTEM), Request(1, 4, SYSTEM), Request(3, 1, DEFAULT))
+        self.assertEqual(queue.window(1_000_000), Outcome(5_000_000, 0, (0, 0, 0), row))
+        for elapsed in (0, 10_000_001):
+            self.refused(Status.BAD_CONFIG, queue.window, elapsed)
+        # Nothing waits, so that the budgets are 10 transactions at most.
+        self.assertEqual(queue.window(10_000_000), Outcome(20_000_000, 20_000_000, (0, 0, 0)))
+        queue.offer(2**16, 2**64 - 1)
+        taken = Outcome(20_000_000, 20_000_000, (0, 0, 0), out=Request(2**16, 2**64 - 1, DEFAULT))
+        self.assertEqual(queue.pop(), taken)
+        self.assertEqual(queue.pop().out, None)
+        self.refused(Status.BATCH_THROTTLED, self.queue(batch=0).offer, 1, 0, BATCH)
+        for config in ((0, 5, 3), (100_001, 5, 3), (10, 100_001, 3), (10, 5, 0), (10, 5, 100_001)):
+            self.refused(Status.BAD_CONFIG, self.queue, *config)
+
+    def test_a_window_starts_10_000_at_most(self):
+        queue = self.queue(room=10_001)
+        for payload in range(10_001):
+            queue.offer(payload=payload, priority=SYSTEM)
+        started = queue.window(1000).started
+        self.assertEqual([it.payload for it in started], list(range(10_000)))
+        self.assertEqual(queue.pop().out, Request(1, 10_000, SYSTEM))
+
+    def test_waits(self):
+        queue = self.queue()
+        self.assertIsNone(queue.waits(1_000_000))
+        queue.offer(30)
+        # A window lets 10 start, and each second grants 5 to the budget.
+        self.assertEqual([queue.waits(it) for it in (1_000_000, 2_000_000, 10_000_000)], [4, 2, 1])
+        self.assertIsNone(queue.waits(0))
+        soon = self.queue(30)
+        soon.offer(30)
+        self.assertEqual(soon.waits(1), 0)
+
+    def test_rates(self):
+        queue = self.queue(20, 5, 9)
+        for payload, count in enumerate((30, 5, 21)):
+            queue.offer(count, payload, BATCH)
+        self.refused(Status.BAD_CONFIG, queue.set_rates, 0, 5)
+        self.assertEqual(queue.set_rates(20, 1), [])
+        two = [TurnedAway(Status.BAD_COUNT, Request(30, 0, BATCH)),
+               TurnedAway(Status.BAD_COUNT, Request(21, 2, BATCH))]
+        self.assertEqual(queue.set_rates(10, 1), two)
+        one = [TurnedAway(Status.BATCH_THROTTLED, Request(5, 1, BATCH))]
+        self.assertEqual(queue.set_rates(10, 0), one)
+        queue.offer(30)
+        self.assertEqual(queue.waits(1_000_000), 4)
+        queue.set_rates(20, 0)
+        self.assertEqual(queue.waits(1_000_000), 1)
+
+    def test_throttles(self):
+        queue = self.queue()
+        queue.set_throttle(DEFAULT, "é", 9, 50)
+        queue.set_throttle(BATCH, b"\xff", 2**40, 51)
+        for tag in ("é", "é".encode(), bytearray("é", "utf-8"), memoryview("é".encode())):
+            self.assertEqual(queue.throttle(DEFAULT, tag, 49), Limit(rate=9, expires=50))
+        self.assertIsNone(queue.throttle(DEFAULT, "é", 50))
+        self.assertIsNone(queue.throttle(BATCH, "é", 49))
+        queue.set_throttle(DEFAULT, "é" * 8, 1, 2)
+        self.refused(Status.TAG_TOO_LONG, queue.set_throttle, DEFAULT, "é" * 9, 1, 2)
+        queue.forget_throttles(50)
+        self.assertIsNone(queue.throttle(DEFAULT, "é", 49))
+        self.assertEqual(queue.throttle(BATCH, b"\xff", 50), Limit(2**40, 51))
+
+    def test_all_at_once(self):
+        ops = [Offer(Request(10, 1)), Offer(Request(2, 2)), Offer(Request(0, 3)), Window(1000),
+               Window(2_000_000), Offer(Request(1, 4, SYSTEM)), Window(0), Pop()]
+        # 10 start, which the rate pays for; then 2, and 8 remain of the 10 of two seconds.
+        self.assertEqual(outcomes(QueueConfig(10, 5, 3), ops), [
+            Outcome(0, 0, (0, 1, 0)),
+            Outcome(0, 0, (0, 2, 0)),
+            Outcome(0, 0, (0, 2, 0), status=Status.BAD_COUNT),
+            Outcome(0, 0, (0, 1, 0), (Request(10, 1),)),
+            Outcome(16_000_000, 6_000_000, (0, 0, 0), (Request(2, 2),)),
+            Outcome(16_000_000, 6_000_000, (1, 0, 0)),
+            Outcome(16_000_000, 6_000_000, (1, 0, 0), status=Status.BAD_CONFIG),
+            Outcome(16_000_000, 6_000_000, (0, 0, 0), out=Request(1, 4, SYSTEM)),
+        ])
+        self.assertEqual(outcomes(QueueConfig(10, 5, 3), iter(())), [])
+        self.refused(Status.BAD_CONFIG, outcomes, QueueConfig(0, 5, 3), ops)
+
+
+class OfHandles(unittest.TestCase):
+    def test_closed(self):
+        chain, queue = Chain(100, 200, 1), GrvQueue(QueueConfig(10, 5, 3))
+        found, watch = Audit(), Watch(5)
+        handles = [chain, queue, found, watch]
+        self.assertFalse(any(it.closed for it in handles))
+        with chain, queue, found, watch:
+            pass
+        chain.close()
+        self.assertTrue(all(it.closed for it in handles))
+        for call, given in (
+            (chain.ask, (0, 1, 0)),
+            (queue.offer, ()),
+            (queue.window, (1,)),
+            (queue.pop, ()),
+            (queue.set_rates, (1, 1)),
+            (queue.waits, (1,)),
+            (queue.set_throttle, (BATCH, b"", 1, 1)),
+            (queue.throttle, (BATCH, b"", 1)),
+            (queue.forget_throttles, (1,)),
+            (found.push, (b"",)),
+            (found.end, ()),
+            (found.text, ()),
+            (found.faults, ()),
+            (watch.push, (b"",)),
+            (watch.tell, ()),
+            (watch.end, ()),
+            (watch.text, ()),
+            (watch.objects, ()),
+            (watch.warnings, ()),
+            (Chain.__new__(Chain).ask, (0, 1, 0)),
+        ):
+            with self.assertRaisesRegex(ValueError, "is closed"):
+                call(*given)
+        # One that is opened again is a new one.
+        chain.__init__(7, 8, 1)
+        self.assertEqual(chain.ask(0, 1, 0).version, 8)
+
+    def test_what_is_closed_is_freed(self):
+        library = ctypes.CDLL(None)
+        if not hasattr(library, "mallinfo2"):
+            self.skipTest("this C library does not count its memory")
+
+        class Counts(ctypes.Structure):
+            _fields_ = [(str(it), ctypes.c_size_t) for it in range(10)]
+
+        library.mallinfo2.restype = Counts
+        config = QueueConfig(1, 1, 1)
+        for kind, given, again in (
+            (Chain, (100, 200, 64), (0, 1, 1)),
+            (GrvQueue, (config,), (config,)),
+            (Audit, (), ()),
+            (Watch, (5,), (6,)),
+        ):
+            for end in (lambda it: it.close(), lambda it: it.__init__(*again), lambda it: None):
+                kept, before = [], library.mallinfo2()
+                for _ in range(1000):
+                    made = kind(*given)
+                    end(made)
+                    made.close()
+                    kept.append(made._raw)
+                    del made
+                grown = getattr(library.mallinfo2(), "7") - getattr(before, "7")
+                self.assertLess(grown, 1000 * 40, "bytes that are not freed")
+
+
+def timed(kind, version, client, began, ended):
+    return Call(kind, version, client, began, ended)
+
+
+class OfLogs(unittest.TestCase):
+    def test_each_reason(self):
+        calls = [
+            Call(Member.ASK, 7, 5),
+            Call(Member.LEARN, client=6, teller=5),
+            Call(Member.ASK, 7, 6),  # not above 7, and drawn by line 0
+            Call(Member.REPORT, 8, 6),  # nobody drew 8
+            Call(Member.READ, 9, 5),  # nobody reported 9
+            Call(Member.READ, 5, 5),  # it had read 9, line 4
+            Call(Member.READ, 1, 7),  # all began with 2
+            Call(Member.REPORT, 7, 8),  # line 0 drew 7
+            Call(Member.COMMIT, 6, 5),  # it had read 9, line 4
+            Call(Member.READ, 6, 5),  # so too; line 8 knew 9 when it reported 6
+        ]
+        nine = Known(9, Means.OWN, 4)
+        wanted = {
+            Fault(0, FaultKind.TWICE, Reason.DRAWN, 2),
+            Fault(2, FaultKind.NOT_ABOVE, Reason.KNOWN, None, Known(7, Means.LEARNT, 0, 1)),
+            Fault(2, FaultKind.TWICE, Reason.DRAWN, 0),
+            Fault(3, FaultKind.STRAY, Reason.UNDRAWN),
+            Fault(4, FaultKind.WRONG, Reason.UNREPORTED),
+            Fault(5, FaultKind.ORDER, Reason.KNOWN, None, nine),
+            Fault(5, FaultKind.WRONG, Reason.UNREPORTED),
+            Fault(6, FaultKind.ORDER, Reason.KNOWN, None, Known(2, Means.START)),
+            Fault(6, FaultKind.WRONG, Reason.UNREPORTED),
+            Fault(7, FaultKind.STRAY, Reason.DRAWN, 0),
+            Fault(8, FaultKind.NOT_ABOVE, Reason.KNOWN, None, nine),
+            Fault(9, FaultKind.ORDER, Reason.KNOWN, None, nine),
+            Fault(9, FaultKind.WRONG, Reason.REPORTED, 8, nine),
+        }
+        found = audit(iter(calls), complete=2)
+        self.assertEqual([it.line for it in found], sorted(it.line for it in wanted))
+        self.assertEqual(set(found), wanted)
+
+    def test_times(self):
+        # Above 32 bits, so that nothing may be cut off.
+        far, version = 2**33, 2**63 + 2**40
+        calls = [timed(Member.COMMIT, version, 1, 0, far), timed(Member.READ, 1, 2, 2 * far, None)]
+        known = Fault(1, FaultKind.ORDER, Reason.KNOWN, None, Known(version, Means.ENDED, 0))
+        self.assertEqual(audit(calls), [known])
+        self.assertEqual(audit(calls, margin=far - 1), [known])
+        self.assertEqual(audit(calls, margin=far), [])
+        # The end of the first is not known.
+        self.assertEqual(audit([Call(Member.COMMIT, 2, began=0), calls[1]]), [])
+        self.assertEqual(audit([Call(Member.READ, 7, 1)]), [])
+        self.assertEqual(len(audit([Call(Member.READ, 7, 1)], complete=0)), 1)
+        self.assertEqual(audit([]), [])
+
+    def test_texts(self):
+        fine = '{"client":"é","commit":1}\n{"client":"é","read":1}'
+        ok = ("audit ok lines 2 timed 0 reads 1 commits 1 asks 0 reports 0 learns 0 "
+              "unreported 0\n")
+        history = ("history 0 ask 1 line 1 client \"é\"\nhistory 1 report 1 line 1 client \"é\"\n"
+                   "history 2 read 1 line 2 client \"é\"\n")
+        stale = '{"client":"é","read":2}\n{"client":"é","read":1}\n{"client":"é","read":0}'
+        faults = ['audit fault: Order 2: client "é" read 1, but 2 was known: line 1 '
+                  '(client "é", read 2) is an earlier call of its client\n',
+                  'audit fault: Order 3: client "é" read 0, but 2 was known: line 1 '
+                  '(client "é", read 2) is an earlier call of its client\n']
+        for wanted, said, found in (
+            ({}, ok, faults[0]),
+            ({"all": True}, ok, "".join(faults)),
+            ({"history": True}, ok + history, faults[0]),
+            ({"all": True, "history": True}, ok + history, "".join(faults)),
+        ):
+            for given in (str, str.encode, lambda it: bytearray(it, "utf-8"),
+                          lambda it: memoryview(it.encode())):
+                self.assertEqual(audit_text(given(fine), **wanted), said)
+                self.assertEqual(audit_text(given(stale), **wanted), found)
+        self.assertTrue(audit_text([Call(Member.READ, 1, 7), Call(Member.READ, 0, 7)])
+                        .startswith("audit fault: Order 2: client 7 read 0, but 1 was known: "))
+        # More than the first guess of how long a text is.
+        lines = "\n".join('{"client":"a","read":%d}' % it for it in range(1000, 0, -1))
+        self.assertEqual(audit_text(lines, all=True).count("\n"), 999)
+        self.assertEqual([it.line for it in audit(lines)], list(range(1, 1000)))
+
+    def test_refusals(self):
+        line = b'{"client":"a","read":1}\n'
+        for log, wanted in (
+            (b"", LogRefused(Status.EMPTY, 0)),
+            (line + b" " * 1_048_577, LogRefused(Status.TOO_LONG, 2)),
+            (line + b"[", LogRefused(Status.NOT_JSON, 2)),
+            (line * 2 + b"{}", LogRefused(Status.NO_CALL, 3)),
+            (b'{"read":1,"ask":1}', LogRefused(Status.TWO_CALLS, 1)),
+            (line + b'{"read":1,"began":1,"ended":2}', LogRefused(Status.SOME_TIMES, 2)),
+            (b'{"read":1}', LogRefused(Status.BAD_MEMBER, 1, Member.CLIENT)),
+            (b'{"client":"a","read":""}', LogRefused(Status.BAD_MEMBER, 1, Member.READ)),
+            (b'{"client":"a","commit":-1}', LogRefused(Status.BAD_MEMBER, 1, Member.COMMIT)),
+            (b'{"client":"a","ask":null}', LogRefused(Status.BAD_MEMBER, 1, Member.ASK)),
+            (b'{"client":"a","report":[]}', LogRefused(Status.BAD_MEMBER, 1, Member.REPORT)),
+            (b'{"client":"a","learn":"b"}', LogRefused(Status.BAD_MEMBER, 1, Member.LEARN)),
+            (b'{"read":1,"ended":1}', LogRefused(Status.BAD_MEMBER, 1, Member.BEGAN)),
+            (b'{"read":1,"began":2,"ended":1}', LogRefused(Status.BAD_MEMBER, 1, Member.ENDED)),
+            ([Call(Member.READ, 1)], LogRefused(Status.BAD_MEMBER, 1, Member.CLIENT)),
+            ([Call(Member.BEGAN, 1, 1)], LogRefused(Status.NO_CALL, 1)),
+            ([Call(Member.READ, 1, 1), Call(Member.LEARN, client=2, teller=2)],
+             LogRefused(Status.BAD_MEMBER, 2, Member.LEARN)),
+            ([timed(Member.READ, 1, 1, 2, 1)], LogRefused(Status.BAD_MEMBER, 1, Member.ENDED)),
+            ([timed(Member.READ, 1, 1, 2, 3), Call(Member.READ, 1, 1)],
+             LogRefused(Status.SOME_TIMES, 2)),
+        ):
+            for call in (audit, audit_text):
+                with self.assertRaises(LogRefused, msg=log[-30:]) as caught:
+                    call(log)
+                self.assertEqual(caught.exception, wanted)
+        self.assertEqual(str(wanted), "SOME_TIMES 2")
+        self.assertEqual(str(LogRefused(Status.BAD_MEMBER, 1, 8)), "BAD_MEMBER 1 ended")
+
+    def test_pieces(self):
+        fine = '{"client":"é","commit":1}\n{"client":"é","read":1}\n'.encode()
+        for log, asked, verdict in (
+            (fine, {"history": True}, Status.OK),
+            (fine + b'{"client":"a","read":0}', {"complete": 1}, Status.FAULT),
+            (fine + '{"client":"é","read":0}'.encode(), {"all": True}, Status.FAULT),
+            (b'{"client":"a","read":0,"began":1,"ended":2}', {"margin": 2**40}, Status.OK),
+        ):
+            told = {key: it for key, it in asked.items() if key in ("complete", "margin")}
+            for size in (1, 7, len(log)):
+                with Audit(**asked) as found:
+                    for at in range(0, len(log), size):
+                        found.push(bytearray(log[at:at + size]))
+                    self.assertEqual((found.text(), found.faults()), ("", []))
+                    self.assertEqual(found.end(), verdict)
+                    for _ in range(2):
+                        self.assertEqual(found.text(), audit_text(log, **asked))
+                        self.assertEqual(found.faults(), audit(log, **told))
+                    for call, given in ((found.push, (b"",)), (found.end, ())):
+                        with self.assertRaises(Refused) as caught:
+                            call(*given)
+                        self.assertEqual(caught.exception, Refused(Status.OVER))
+                    self.assertEqual(found.text(), audit_text(log, **asked))
+
+    def test_refused_pieces(self):
+        found = Audit()
+        found.push('{"client":"a","read":1}\n{"read":')
+        with self.assertRaises(LogRefused) as caught:
+            found.push("1}\n{")
+        self.assertEqual(caught.exception, LogRefused(Status.BAD_MEMBER, 2, Member.CLIENT))
+        with self.assertRaises(Refused) as caught:
+            found.push("{}")
+        self.assertEqual(caught.exception, Refused(Status.OVER))
+        self.assertEqual((found.text(), found.faults()), ("", []))
+        for piece, status in (("", Status.EMPTY), ("[", Status.NOT_JSON)):
+            found, wanted = Audit(), LogRefused(status, len(piece))
+            found.push(piece)
+            with self.assertRaises(LogRefused) as caught:
+                found.end()
+            self.assertEqual(caught.exception, wanted)
+
+    def test_program(self):
+        stale = b'{"client":"a","read":2}\n{"client":"a","read":1}\n{"client":"a","read":1}\n'
+        with tempfile.TemporaryDirectory() as room:
+            log = Path(room, "log")
+            log.write_bytes(stale)
+            for words, given, status, out, err in (
+                ([log], b"", 4, audit_text(stale), ""),
+                (["--all", "-"], stale, 4, audit_text(stale, all=True), ""),
+                (["-"], stale[:24], 0, audit_text(stale[:24]), ""),
+                (["--history", "-"], stale[:24], 0, audit_text(stale[:24], history=True), ""),
+                (["--complete=3", "-"], stale[:24], 4, audit_text(stale[:24], complete=3), ""),
+                (["-"], b"[", 1, "", "fdb_read_version: NOT_JSON 1\n"),
+                (["--margin=-1", "-"], stale, 2, "", "margin is out of range: -1\n"),
+                ([f"{room}/none"], b"", 5, "", f"No such file or directory: '{room}/none'\n"),
+            ):
+                words = [sys.executable, "-m", "fdb_read_version", *words]
+                ran = subprocess.run(words, input=given, capture_output=True)
+                self.assertEqual((ran.returncode, ran.stdout.decode()), (status, out))
+                self.assertTrue(ran.stderr.decode().endswith(err), ran.stderr)
+
+
+COMMIT = '{"client":"a","commit":200,"began":10,"ended":14%s}\n'
+READ = '{"client":"é","read":100,"began":15,"ended":16%s}\n'
+STALE = (COMMIT + READ).replace("%s", "")
+SAID = ('audit fault: Order %d: client "é" read 100, but 200 was known: line 1 '
+        '(client "a", commit 200) had ended 1 before line %d began\n')
+ALL_FINE = "audit ok lines %d reads %d commits 1 asks 0 reports 0 refused %d early 0\n"
+
+
+class OfWatches(unittest.TestCase):
+    def refused(self, wanted, call, *given):
+        with self.assertRaises(Refused) as caught:
+            call(*given)
+        self.assertEqual(caught.exception, wanted)
+
+    def test_a_fault_is_told_once(self):
+        log = STALE.encode()
+        for size in (1, 9, len(log)):
+            with Watch(0) as watch:
+                for at in range(0, len(log), size):
+                    watch.push(memoryview(log)[at:at + size])
+                self.assertEqual((watch.text(), watch.tell(idle=False), watch.text()), ("",) * 3)
+                self.assertEqual((watch.tell(), watch.text()), (SAID % (2, 2),) * 2)
+                self.assertEqual((watch.tell(), watch.text(), watch.warnings()), ("",) * 3)
+                self.assertEqual((watch.end(), watch.text()), (Status.FAULT, ""))
+
+    def test_what_waits(self):
+        watch = Watch(5, totals=True)
+        watch.push(STALE)
+        self.assertEqual(watch.tell(), "")
+        watch.push('{"client":"b","report":200,"began":16,"ended":null}')
+        self.assertEqual(watch.end(), Status.FAULT)
+        said = SAID % (2, 2) + (
+            "audit total lines 3 reads 1 commits 1 asks 0 reports 1 refused 0 early 0\n"
+            "audit total faults 1 Order 1 Wrong 0 NotAbove 0 Twice 0 Stray 0\n"
+            'audit total client "é" faults 1 Order 1 Wrong 0 NotAbove 0 Twice 0 Stray 0\n')
+        self.assertEqual(watch.text(), said)
+        for call, given in ((watch.push, (b"",)), (watch.tell, ()), (watch.end, ())):
+            self.refused(Refused(Status.OVER), call, *given)
+        self.assertEqual(watch.text(), said)
+
+    def test_what_is_asked(self):
+        watch = Watch(5, margin=1)
+        watch.push(STALE)
+        self.assertEqual((watch.end(), watch.text()), (Status.OK, ALL_FINE % (2, 1, 0)))
+        for key, second, fault in (("é", "x", 1), ("é".encode(), "y", 0), ("", "y", 1)):
+            watch = Watch(2**40, key=key, totals=True, json=True)
+            watch.push(COMMIT % ',"é":"x"' + READ % f',"é":"{second}"')
+            self.assertEqual(watch.end(), Status.FAULT if fault else Status.OK)
+            objects = watch.objects()
+            self.assertEqual([it["fault"] for it in objects if "fault" in it], ["Order"] * fault)
+            total = next(it for it in objects if "total" in it)
+            self.assertEqual(total["arguments"], {
+                "follow": 2**40, "margin": 0, "by_key": bool(key), "members": ["é"] if key else []})
+
+    def test_what_is_left_out(self):
+        commit = COMMIT.replace("%s", "")
+        watch = Watch(5)
+        watch.push(commit + "{}\n[\n")
+        self.assertEqual(watch.tell(), "")
+        self.assertRegex(watch.warnings(), r"\Afdb_audit: logs refused: NoCall 2: .*\n"
+                                           r"fdb_audit: logs refused: NotJson 3: .*\n\Z")
+        self.refused(LogRefused(Status.NOT_JSON, 3), watch.end)
+        self.assertEqual((watch.text(), watch.warnings()), (ALL_FINE % (1, 0, 2), ""))
+        watch = Watch(5)
+        wrong = '{"client":"b","read":true,"began":10}\n'
+        watch.push(commit + wrong + READ.replace("%s", "") + "{")
+        self.assertEqual((watch.end(), watch.text()), (Status.FAULT, SAID % (3, 3)))
+        self.assertEqual(watch.warnings().count("\n"), 2)
+        watch = Watch(5)
+        watch.push(wrong)
+        self.refused(LogRefused(Status.BAD_MEMBER, 1, Member.READ), watch.end)
+        watch = Watch(5, key="k")
+        watch.push(COMMIT % ',"k":[]')
+        self.refused(LogRefused(Status.BAD_MEMBER, 1), watch.end)
+        self.refused(LogRefused(Status.EMPTY, 0), Watch(5).end)
+        self.refused(Refused(Status.BAD_MEMBER), lambda: Watch(5, key=b"\xff"))
+
+
+if __name__ == "__main__":
+    unittest.main()

@@ -1,0 +1,129 @@
+//! The watch of a log that grows.
+
+use crate::handle::has_handle;
+use crate::log::{done, ended, text};
+use crate::LogError;
+use fdb_read_version_sys as sys;
+
+/// How a log is watched, and what is told of it.
+///
+/// ```
+/// use fdb_read_version::{LogError, Watch, WatchOptions};
+///
+/// let options = WatchOptions { totals: true, json: true, ..WatchOptions::default() };
+/// let mut watch = Watch::new(&options, "")?;
+/// watch.push(b"{\"read\":7,\"began\":1,\"ended\":2}\n")?;
+/// assert!(!watch.end()?, "it has no fault");
+/// assert!(watch.text().starts_with("{\"total\":{\"lines\":1,\"reads\":1,"));
+/// # Ok::<(), LogError>(())
+/// ```
+#[derive(Clone, Copy, Debug, Default, PartialEq, Eq, Hash, PartialOrd, Ord)]
+pub struct WatchOptions {
+    /// How far behind the newest end a line may begin, in the unit of the times.
+    pub behind: u64,
+    /// How far the clocks of two clients may be apart, in that unit.
+    pub margin: u64,
+    /// Whether the end tells how much was read, and how many faults of each kind.
+    pub totals: bool,
+    /// Whether JSON objects are told, and not sentences.
+    pub json: bool,
+}
+
+/// A watch of JSON Lines that come piece by piece: what `fdb_audit --follow` is. It keeps the lines
+/// that may yet come to matter, and no others.
+///
+/// ```
+/// use fdb_read_version::{LogError, Watch, WatchOptions};
+///
+/// let mut watch = Watch::new(&WatchOptions::default(), "")?;
+/// watch.push(b"{\"client\":\"a\",\"commit\":200,\"began\":10,\"ended\":14}\n{}\n")?;
+/// assert_eq!(watch.tell(true)?, "");
+/// assert!(watch.warnings().starts_with("fdb_audit: logs refused: NoCall 2: "));
+/// watch.push(b"{\"client\":\"b\",\"read\":100,\"began\":15,\"ended\":16}\n")?;
+/// assert!(watch.tell(true)?.starts_with("audit fault: Order 3: client \"b\" read 100, but 200 "));
+/// assert_eq!(watch.tell(true)?, "");
+/// assert!(watch.end()?, "a fault was told");
+/// assert_eq!(watch.push(b"\n"), Err(LogError::Over));
+/// # Ok::<(), LogError>(())
+/// ```
+pub struct Watch {
+    handle: sys::fdb_watch,
+}
+
+has_handle!(Watch, sys::fdb_watch_free);
+
+fn raw_options(options: &WatchOptions) -> sys::fdb_watch_options {
+    sys::fdb_watch_options {
+        behind: options.behind,
+        margin: options.margin,
+        totals: options.totals,
+        json: options.json,
+    }
+}
+
+/// What a call answers that refuses no line.
+fn taken(status: u8) -> Result<(), LogError> {
+    done(status, &sys::fdb_refused::default())
+}
+
+impl Watch {
+    /// A watch of a log of which nothing has come. `key` names the member that has a line's key,
+    /// and each key is then watched by itself; where it is empty there are no keys.
+    ///
+    /// # Errors
+    /// `Memory`.
+    pub fn new(options: &WatchOptions, key: &str) -> Result<Watch, LogError> {
+        let (options, mut handle) = (raw_options(options), sys::FDB_WATCH_NONE);
+        // SAFETY: the handle is none, and the length that of the key.
+        let status = unsafe { sys::fdb_watch_new(&options, key.as_ptr(), key.len(), &mut handle) };
+        taken(status).map(|()| Watch { handle })
+    }
+
+    /// Takes the next bytes of the log, cut anywhere; a line that is refused is left out.
+    ///
+    /// # Errors
+    /// `Memory`, which ends the watch; `Over` where it was over before.
+    pub fn push(&mut self, bytes: &[u8]) -> Result<(), LogError> {
+        // SAFETY: the handle is a watch, from `new` to `drop`; the length is that of the bytes.
+        taken(unsafe { sys::fdb_watch_push(&mut self.handle, bytes.as_ptr(), bytes.len()) })
+    }
+
+    /// Says what has become certain since it said so last, each fault once; that is the text from
+    /// then on. It looks for it where no more may come for a while (`is_idle`), else only once 8,192
+    /// lines have come.
+    ///
+    /// # Errors
+    /// As [`push`](Watch::push); what was said last then stays.
+    pub fn tell(&mut self, is_idle: bool) -> Result<String, LogError> {
+        // SAFETY: the handle is a watch.
+        taken(unsafe { sys::fdb_watch_tell(&mut self.handle, is_idle) })?;
+        Ok(self.text())
+    }
+
+    /// Says, as the text, what is left where the log ends here, and says whether a fault was told,
+    /// at any time. The watch is then over.
+    ///
+    /// # Errors
+    /// `Refused`, where no fault was told and lines were left out, with the last of them, or where
+    /// no line came: the text is there all the same. Else as [`push`](Watch::push).
+    pub fn end(&mut self) -> Result<bool, LogError> {
+        // SAFETY: the handle is a watch.
+        ended(|refused| unsafe { sys::fdb_watch_end(&mut self.handle, refused) })
+    }
+
+    /// What was said last: a line for each sentence or object.
+    #[must_use]
+    pub fn text(&mut self) -> String {
+        // SAFETY: the handle is a watch, and the length that of the array.
+        text(|at, length, size| unsafe { sys::fdb_watch_text(&mut self.handle, at, length, size) })
+    }
+
+    /// What came with that: a line for each line that was left out, with its number and why.
+    #[must_use]
+    pub fn warnings(&mut self) -> String {
+        // SAFETY: the handle is a watch, and the length that of the array.
+        text(|at, length, size| unsafe {
+            sys::fdb_watch_warnings(&mut self.handle, at, length, size)
+        })
+    }
+}

@@ -1,0 +1,102 @@
+//! What watches tell, as it was worked out by hand.
+
+use fdb_read_version::{LogError, Member, Watch, WatchOptions, Wrong};
+
+const COMMIT: &str = "{\"client\":\"a\",\"commit\":200,\"began\":10,\"ended\":14}\n";
+const READ: &str = "{\"client\":\"b\",\"read\":100,\"began\":15,\"ended\":16}\n";
+
+fn said(line: u32) -> String {
+    format!(
+        "audit fault: Order {line}: client \"b\" read 100, but 200 was known: line 1 \
+         (client \"a\", commit 200) had ended 1 before line {line} began\n"
+    )
+}
+
+fn opened(behind: u64, key: &str) -> Watch {
+    Watch::new(&WatchOptions { behind, ..WatchOptions::default() }, key).unwrap()
+}
+
+#[test]
+fn a_fault_is_told_once() {
+    let log = format!("{COMMIT}{READ}");
+    for size in [1, 9, log.len()] {
+        let mut watch = opened(0, "");
+        for piece in log.as_bytes().chunks(size) {
+            watch.push(piece).unwrap();
+        }
+        assert_eq!((watch.text(), watch.tell(false)), (String::new(), Ok(String::new())));
+        // Any thread may use it.
+        let told = std::thread::spawn(move || (watch.tell(true), watch));
+        let (told, mut watch) = told.join().unwrap();
+        assert_eq!((told, watch.text()), (Ok(said(2)), said(2)));
+        assert_eq!((watch.tell(true), watch.text()), (Ok(String::new()), String::new()));
+        assert_eq!((watch.end(), watch.text()), (Ok(true), String::new()));
+    }
+}
+
+#[test]
+fn what_waits() {
+    let options = WatchOptions { behind: 5, totals: true, ..WatchOptions::default() };
+    let mut watch = Watch::new(&options, "").unwrap();
+    watch.push(format!("{COMMIT}{READ}").as_bytes()).unwrap();
+    assert_eq!(watch.tell(true), Ok(String::new()));
+    watch.push(b"{\"client\":\"b\",\"report\":200,\"began\":16,\"ended\":null}").unwrap();
+    assert_eq!(watch.end(), Ok(true));
+    let totals = "\
+        audit total lines 3 reads 1 commits 1 asks 0 reports 1 refused 0 early 0\n\
+        audit total faults 1 Order 1 Wrong 0 NotAbove 0 Twice 0 Stray 0\n\
+        audit total client \"b\" faults 1 Order 1 Wrong 0 NotAbove 0 Twice 0 Stray 0\n";
+    let wanted = format!("{}{totals}", said(2));
+    assert_eq!((watch.push(b""), watch.end()), (Err(LogError::Over), Err(LogError::Over)));
+    assert_eq!((watch.tell(true), watch.text()), (Err(LogError::Over), wanted));
+}
+
+#[test]
+fn what_is_asked() {
+    let options = WatchOptions { behind: 5, margin: 1, ..WatchOptions::default() };
+    let mut watch = Watch::new(&options, "").unwrap();
+    watch.push(format!("{COMMIT}{READ}").as_bytes()).unwrap();
+    assert_eq!(watch.end(), Ok(false));
+    let fine = "audit ok lines 2 reads 1 commits 1 asks 0 reports 0 refused 0 early 0\n";
+    assert_eq!(watch.text(), fine);
+    let options = WatchOptions { behind: 1 << 40, margin: 0, totals: true, json: true };
+    for (second, is_fault) in [("x", true), ("y", false)] {
+        let mut watch = Watch::new(&options, "\u{e9}").unwrap();
+        let of_key = |line: &str, key: &str| line.replace('}', &format!(",\"\u{e9}\":\"{key}\"}}"));
+        watch.push(of_key(COMMIT, "x").as_bytes()).unwrap();
+        watch.push(of_key(READ, second).as_bytes()).unwrap();
+        assert_eq!(watch.end(), Ok(is_fault));
+        let (text, by) = (watch.text(), "\"follow\":1099511627776,\"margin\":0,\"by_key\":true");
+        assert!(text.starts_with(if is_fault { "{\"fault\":\"Order\"," } else { "{\"total\":" }));
+        assert!(text.contains(by), "{text}");
+    }
+}
+
+#[test]
+fn what_is_left_out() {
+    let refused = |line, wrong| Err(LogError::Refused { line, wrong });
+    let mut watch = opened(5, "");
+    watch.push(format!("{COMMIT}{{}}\n[\n").as_bytes()).unwrap();
+    assert_eq!(watch.tell(true), Ok(String::new()));
+    let warnings = watch.warnings();
+    let mut lines = warnings.lines();
+    for said in ["NoCall 2: ", "NotJson 3: "] {
+        let line = lines.next().unwrap();
+        assert!(line.starts_with(&format!("fdb_audit: logs refused: {said}")), "{line}");
+    }
+    assert_eq!(lines.next(), None);
+    assert_eq!(watch.end(), refused(3, Wrong::NotJson));
+    let fine = "audit ok lines 1 reads 0 commits 1 asks 0 reports 0 refused 2 early 0\n";
+    assert_eq!((watch.text(), watch.warnings()), (fine.to_string(), String::new()));
+    let mut watch = opened(5, "");
+    let wrong = "{\"client\":\"b\",\"read\":true,\"began\":10}\n";
+    watch.push(format!("{COMMIT}{wrong}{READ}{{").as_bytes()).unwrap();
+    assert_eq!((watch.end(), watch.text()), (Ok(true), said(3)));
+    let mut watch = opened(5, "");
+    watch.push(wrong.as_bytes()).unwrap();
+    assert_eq!(watch.end(), refused(1, Wrong::BadMember(Member::Read)));
+    let mut watch = opened(5, "k");
+    watch.push(COMMIT.replace('}', ",\"k\":[]}").as_bytes()).unwrap();
+    assert_eq!(watch.end(), refused(1, Wrong::BadKey));
+    assert_eq!(opened(5, "").end(), refused(0, Wrong::Empty));
+}

@@ -1,0 +1,56 @@
+use Rattle.std.proofs.Common.{◌≡◌, ◌∙◌, ◌⊎◌, ◌++◌, ℕ, List, [], MatchResult, None, Ok, Err, Result, ap, inl, inr, is_some, subst, sym, true}
+use Rattle.std.proofs.lemmas.Bool.{false≢true}
+use Rattle.std.specs.Prelude.{IfErr, IfOk}
+use Rattle.clap.specs.Words.{Text}
+use Rattle.fdb_command.specs.Driving.{Stops}
+use Rattle.fdb_command.specs.declared.failure.Failure.{Failure}
+use Rattle.fdb_command.specs.declared.failure.Failure.TheVariants.{Memory, Writing}
+use Rattle.fdb_command.specs.declared.program.Output.{Output}
+use Rattle.fdb_audit.specs.Following.{KeptNumbers}
+use Rattle.fdb_audit.specs.Program.{AreLeftBy, HasTaken, IsAsked, Prints, PrintsBy, audit}
+use Rattle.fdb_audit.specs.Watched.{HasFollowed, IsFollowed}
+use Rattle.fdb_audit.specs.declared.arguments.AuditArguments.{AuditArguments}
+use Rattle.fdb_audit.specs.declared.fault.LogFault.{LogFault}
+use Rattle.fdb_audit.specs.declared.followed_log.FollowedLog.{FollowedLog}
+use Rattle.fdb_audit.specs.declared.audit_program.AuditIntake.{AuditIntake}
+use Rattle.fdb_audit.specs.declared.audit_program.AuditIntake.TheVariants.{Followed}
+use Rattle.fdb_audit.specs.declared.refused.LogsRefused.{LogsRefused}
+use Rattle.fdb_audit.proofs.Refusing.{keeps_asked}
+use Rattle.fdb_audit.proofs.audit_program.fn.drive.body.Goals as goal
+
+-- a log of which nothing was told is printed whole
+whole_printed : (arguments : List Text) (asked : AuditArguments) (bytes told : List ℕ) (made : Result (Output LogsRefused LogFault) (Failure LogsRefused LogFault))
+    → asked.follow ≡ None → told ≡ []
+    → MatchResult made (λ answer. Prints asked bytes answer.text.items answer.found × (answer.refused ≡ None) × (answer.warnings.items ≡ [])) (Stops audit arguments bytes)
+    → MatchResult made (λ answer. PrintsBy asked.follow asked bytes (told ++ answer.text.items) answer.found answer.refused × (asked.follow ≡ None → answer.warnings.items ≡ [])) (Stops audit arguments bytes)
+whole_printed arguments asked bytes told (Ok answer) whole none judged = (
+  subst (λ follow. PrintsBy follow asked bytes (told ++ answer.text.items) answer.found answer.refused) (sym whole)
+      (subst (λ told. Prints asked bytes (told ++ answer.text.items) answer.found) (sym none) judged.0, judged.1),
+  λ _. judged.2,
+)
+whole_printed arguments asked bytes told (Err fault) whole none stops = stops
+
+-- of a log that is followed is printed what was told and what was left to be said
+followed_printed : (arguments : List Text) (asked : AuditArguments) (log : FollowedLog) (bytes told : List ℕ) (made : Result (Output LogsRefused LogFault) (Failure LogsRefused LogFault))
+    → IsAsked arguments asked → HasTaken asked (Followed log) bytes told
+    → IfOk made (λ it. (kept : KeptNumbers) (bytes told : List ℕ) → HasFollowed asked kept log.follower bytes told → IsFollowed asked kept bytes (told ++ it.text.items) it.found × AreLeftBy it.refused asked bytes)
+    → IfErr made (λ fault. (fault ≡ Memory) ⊎ ((fault ≡ Writing) × (is_some asked.keep ≡ true)))
+    → MatchResult made (λ answer. PrintsBy asked.follow asked bytes (told ++ answer.text.items) answer.found answer.refused × (asked.follow ≡ None → answer.warnings.items ≡ [])) (Stops audit arguments bytes)
+followed_printed arguments asked log bytes told (Ok answer) is (behind, follows, kept, for, has) says stops =
+    let all = says kept.numbers (kept.text ++ bytes) told has in (
+      subst (λ follow. PrintsBy follow asked bytes (told ++ answer.text.items) answer.found answer.refused) (sym follows) (kept, for, all.0, all.1),
+      λ none. absurd (false≢true (sym (ap is_some none) ∙ ap is_some follows)),
+    )
+followed_printed arguments asked log bytes told (Err fault) is has says (inl memory) = subst (Stops audit arguments bytes) (sym memory) tt
+followed_printed arguments asked log bytes told (Err fault) is has says (inr (writing, keeps)) = subst (Stops audit arguments bytes) (sym writing) (keeps_asked arguments asked is keeps)
+
+pub returns : goal.returns
+returns g c = λ arguments bytes told is has.
+    let asked = c.args.asked in
+    followed_printed arguments asked c.in-Followed.log bytes told c.followed.result is (subst (λ (it : AuditIntake). HasTaken asked it bytes told) c.in-Followed.is has) c.followed.ensures.told c.followed.ensures.stops
+
+pub returns-in-Whole : goal.returns-in-Whole
+returns-in-Whole g c = λ arguments bytes told is has.
+    let asked = c.args.asked in
+    let whole = subst (λ (it : AuditIntake). HasTaken asked it bytes told) c.in-Whole.is has in
+    whole_printed arguments asked bytes told c.judged.result whole.0 whole.2 (c.judged.ensures arguments bytes is whole.0 whole.1)

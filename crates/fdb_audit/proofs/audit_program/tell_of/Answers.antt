@@ -1,0 +1,14 @@
+use Rattle.std.proofs.Common.{◌≡◌, ◌++◌, ℕ, Global, Vec, ap, string_bytes, subst, sym}
+use Rattle.fdb_audit.specs.Watched.{HasFollowed}
+use Rattle.fdb_audit.proofs.audit_program.tell_of.Goals as goal
+
+pub returns-clause-told : goal.returns-clause-told
+returns-clause-told c = λ asked bytes told (behind, follows, kept, for, has).
+    let same : c.into_bytes.result.items ≡ string_bytes c.in_ok-text.field-0.text = ap (λ (v : Vec ℕ Global). v.items) c.into_bytes.ensures.value in (
+      behind,
+      follows,
+      kept,
+      for,
+      subst (λ text. HasFollowed asked kept.numbers c.tell.new.self (kept.text ++ bytes) (told ++ text)) (sym same)
+          (c.in_ok-text.ensures asked kept.numbers (kept.text ++ bytes) told has),
+    )

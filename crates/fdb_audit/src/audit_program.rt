@@ -1,0 +1,336 @@
+//! The program: its command, and what it prints of a log.
+
+ghost use Rattle.std.specs.Prelude.{◌≡◌, ◌≢◌, ◌++◌, ℕ, [], IfErr, IfOk, List, MatchResult};
+ghost use Rattle.std.specs.Prelude.{◌⊎◌, ◌&&◌, ◌||◌, is_some, map, string_bytes, IsOkAnd};
+ghost use Rattle.std.specs.Prelude.{None, not, option_map, true};
+ghost use Rattle.std.specs.Thread.{IsSync};
+ghost use Rattle.clap.specs.Words.{Text};
+ghost use Rattle.fdb_audit.specs.Program.{audit, HasRead, HasTaken, IsAsked, IsWhole, Prints};
+ghost use Rattle.fdb_audit.specs.Following.{KeptNumbers};
+ghost use Rattle.fdb_audit.specs.Program.{AreLeftBy, PrintsBy};
+ghost use Rattle.fdb_audit.specs.Watched.{HasFollowed, IsFollowed};
+ghost use Rattle.fdb_command.specs.Driving.{IsBegun, IsDriven, Stops};
+
+use crate::arguments::{AuditArguments, command, members, owned, text, wanted_of};
+use crate::fault::{LogFault, told};
+use crate::followed_log::FollowedLog;
+use crate::follower::{Followed, Said};
+use crate::judged::{Judgement, Wanted, judge_named_by};
+use crate::refused::LogsRefused;
+use clap::{ArgMatches, Command};
+use fdb_command::{ArgumentsFault, Failure, Output, Program, Told, is_given, number};
+use fdb_lines::AuditOpts;
+use fdb_log_reader::{LogReader, ReadError, Why};
+use std::alloc::{AllocError, Global};
+use std::fs::Files;
+use std::io;
+use std::io::{Read, Write};
+use std::thread::Threads;
+use std::time::Clock;
+
+/// The most bytes of a log: as many lines as it may have, each as long as it may be.
+pub const MAX_LOG_BYTES: u64 = 4_503_603_921_289_215;
+
+/// The program that audits a log, and prints what it finds. It keeps the calls of a log and not its
+/// text.
+#[derive(Clone, Copy, Debug)]
+pub struct Audit;
+
+impl Program for Audit {
+    ghost use Rattle.std.specs.Prelude.{refl};
+    ghost use Rattle.fdb_audit.specs.Program.{audit};
+
+    type Options = AuditArguments;
+
+    type Intake = AuditIntake;
+
+    type Refusal = LogsRefused;
+
+    type Finding = LogFault;
+
+    const NAME: &'static str = "fdb_audit";
+
+    ghost promise = { audit };
+
+    fn most(&self) -> u64 {
+        MAX_LOG_BYTES
+    }
+
+    fn command<'a>(&self, alloc: Global) -> Result<Command<'a>, AllocError> {
+        command(alloc)
+    }
+
+    fn options(
+        &self,
+        alloc: Global,
+        matches: &ArgMatches<'_>,
+    ) -> Result<AuditArguments, ArgumentsFault> {
+        let complete = number(matches, "complete");
+        let follow = number(matches, "follow");
+        let wanted = wanted_of(matches);
+        let keep = text(matches, "keep");
+        if is_unfit(follow, complete, wanted, keep.is_some()) {
+            return Err(ArgumentsFault::Refused);
+        }
+        Ok(AuditArguments {
+            opts: AuditOpts {
+                complete,
+                margin: number(matches, "margin").unwrap_or(0),
+            },
+            follow,
+            wanted,
+            keep: owned(alloc, keep)?,
+            key: owned(alloc, text(matches, "key"))?,
+            shown: members(alloc, text(matches, "show"))?,
+            progress: is_given(matches, "progress"),
+        })
+    }
+
+    fn begin<R: Files>(
+        &self,
+        rt: &R,
+        alloc: Global,
+        asked: &AuditArguments,
+    ) -> Result<AuditIntake, Failure<LogsRefused, LogFault>> {
+        match asked.follow {
+            Some(behind) => {
+                let log = FollowedLog::begin(rt, alloc, asked, behind)?;
+                Ok(AuditIntake::Followed(log))
+            }
+            None => {
+                let key = asked.key.as_deref();
+                Ok(AuditIntake::Whole(LogReader::with_columns(alloc, key, &asked.shown)?))
+            }
+        }
+    }
+
+    fn take(
+        &self,
+        intake: AuditIntake,
+        bytes: &[u8],
+    ) -> Result<AuditIntake, Failure<LogsRefused, LogFault>> {
+        match intake {
+            AuditIntake::Whole(reader) => match reader.feed(bytes) {
+                Ok(reader) => Ok(AuditIntake::Whole(reader)),
+                Err(error) => Err(refusal(error)),
+            },
+            AuditIntake::Followed(mut log) => {
+                log.follower.feed(bytes)?;
+                Ok(AuditIntake::Followed(log))
+            }
+        }
+    }
+
+    fn tell<R: Files + Clock>(
+        &self,
+        _rt: &R,
+        alloc: Global,
+        asked: &AuditArguments,
+        intake: AuditIntake,
+        is_idle: bool,
+    ) -> Result<Told<AuditIntake>, Failure<LogsRefused, LogFault>> {
+        match intake {
+            AuditIntake::Followed(log) if asked.follow.is_some() => tell_of(log, is_idle),
+            intake => Ok(Told {
+                intake,
+                text: Vec::new(alloc),
+                warnings: Vec::new(alloc),
+            }),
+        }
+    }
+
+    fn keep<R: Files + Clock>(
+        &self,
+        rt: &R,
+        _alloc: Global,
+        asked: &AuditArguments,
+        intake: AuditIntake,
+    ) -> Result<AuditIntake, Failure<LogsRefused, LogFault>> {
+        match intake {
+            AuditIntake::Followed(log) => {
+                let next = log.keep(rt, asked.keep.is_some())?;
+                Ok(AuditIntake::Followed(next))
+            }
+            intake => Ok(intake),
+        }
+    }
+
+    fn progress(&self, asked: &AuditArguments, intake: &AuditIntake) -> Option<u64> {
+        if asked.progress {
+            Some(intake.line_count())
+        } else {
+            None
+        }
+    }
+
+    ghost simple = { refl };
+}
+
+/// What is kept of a log: its calls, or of one that is followed those that may yet come to matter.
+#[derive(Drop)]
+pub enum AuditIntake {
+    Whole(LogReader),
+    Followed(FollowedLog),
+}
+
+impl AuditIntake {
+    /// How many lines have been read and were not refused.
+    fn line_count(&self) -> u64 {
+        match self {
+            AuditIntake::Whole(reader) => reader.line_count() as u64,
+            AuditIntake::Followed(log) => log.line_count(),
+        }
+    }
+}
+
+/// Whether a log is to be followed and what needs all of it is asked for; or is not to be followed,
+/// and lines of it are to be kept.
+fn is_unfit(follow: Option<u64>, complete: Option<u64>, wanted: Wanted, keeps: bool) -> bool
+    ensures { result ≡ (is_some follow && (is_some complete || wanted.history)
+        || (keeps && not (is_some follow))) }
+{
+    follow.is_some() && (complete.is_some() || wanted.history) || (keeps && !follow.is_some())
+}
+
+/// Tells what has become certain of a log that is followed.
+fn tell_of(
+    mut log: FollowedLog,
+    is_idle: bool,
+) -> Result<Told<AuditIntake>, Failure<LogsRefused, LogFault>>
+    ensures told { IfOk result (λ it. (asked : AuditArguments) → (bytes told : List ℕ)
+        → HasTaken asked (AuditIntake.Followed log) bytes told
+        → HasTaken asked it.intake bytes (told ++ it.text.items)) }
+    ensures stops { IfErr result (λ fault. fault ≡ Failure.Memory) }
+{
+    let Said { text, warnings } = log.follower.tell(is_idle)?;
+    Ok(Told {
+        intake: AuditIntake::Followed(log),
+        text: text.into_bytes(),
+        warnings: warnings.into_bytes(),
+    })
+}
+
+/// What is left to be said of a log that was followed, or, where its lines are to be kept, is followed
+/// on later.
+fn followed<R: Files>(
+    rt: &R,
+    asked: &AuditArguments,
+    log: FollowedLog,
+) -> Result<Output<LogsRefused, LogFault>, Failure<LogsRefused, LogFault>>
+    ensures told { IfOk result (λ it. (kept : KeptNumbers) → (bytes told : List ℕ)
+        → HasFollowed asked.now kept log.follower bytes told
+        → IsFollowed asked.now kept bytes (told ++ it.text.items) it.found
+        × AreLeftBy it.refused asked.now bytes) }
+    ensures stops { IfErr result (λ fault. (fault ≡ Failure.Memory)
+        ⊎ ((fault ≡ Failure.Writing) × (is_some asked.now.keep ≡ true))) }
+{
+    let it = if asked.keep.is_some() {
+        log.stop(rt)?
+    } else {
+        log.finish()?
+    };
+    Ok(answered(it))
+}
+
+/// What is left to be said as an answer.
+fn answered(it: Followed) -> Output<LogsRefused, LogFault>
+    ensures text { result.text.items ≡ string_bytes it.said.text }
+    ensures found { result.found ≡ it.found }
+    ensures refused { result.refused ≡ option_map LogsRefused.Log it.refused }
+{
+    Output {
+        text: it.said.text.into_bytes(),
+        warnings: it.said.warnings.into_bytes(),
+        found: it.found,
+        refused: refused_part(it.refused),
+    }
+}
+
+/// Why a part of a log is refused.
+fn refused_part(refused: Option<ReadError>) -> Option<LogsRefused>
+    ensures { result ≡ option_map LogsRefused.Log refused }
+{
+    match refused {
+        Some(error) => Some(LogsRefused::Log(error)),
+        None => None,
+    }
+}
+
+/// What is found of a log of which all has been read.
+fn judged<R: Threads + Sync>(
+    rt: &R,
+    alloc: Global,
+    asked: &AuditArguments,
+    reader: LogReader,
+) -> Result<Output<LogsRefused, LogFault>, Failure<LogsRefused, LogFault>>
+    requires { IsSync R.row }
+    ensures { (arguments : List Text) → (bytes : List ℕ) → IsAsked arguments asked.now
+        → asked.now.follow ≡ None → HasRead asked.now reader bytes → MatchResult result
+        (λ answer. Prints asked.now bytes answer.text.items answer.found
+        × (answer.refused ≡ None) × (answer.warnings.items ≡ []))
+        (Stops audit arguments bytes) }
+{
+    let named = match reader.finish() {
+        Ok(named) => named,
+        Err(error) => return Err(refusal(error)),
+    };
+    match judge_named_by(rt, alloc, &named, &asked.opts, asked.wanted) {
+        Ok(Judgement { fault, text }) => Ok(Output {
+            text: text.into_bytes(),
+            warnings: Vec::new(alloc),
+            found: told(fault),
+            refused: None,
+        }),
+        Err(_) => Err(Failure::Memory),
+    }
+}
+
+/// Audits the log of the file that the arguments name or else of the input, and writes what is
+/// found to `out`; or writes the help there. Answers the status of the program, as
+/// [`fdb_command::drive`] says. Unless the log is followed, nothing is written where it is refused.
+pub fn drive<R: Files + Clock + Threads + Sync, I: Read, O: Write, E: Write>(
+    rt: &R,
+    alloc: Global,
+    arguments: io::Result<Vec<String>>,
+    input: &mut I,
+    out: &mut O,
+    err: &mut E,
+) -> u8
+    ensures driven { IsDriven audit I.remaining O.contents arguments
+        input.old input.new out.old out.new err.old err.new result }
+    ensures unwritten { IfOk arguments (λ list. IsWhole (map string_bytes list.items))
+        → (result ≡ 1) ⊎ ((result ≡ 2) ⊎ (result ≡ 3)) → out.new ≡ out.old }
+    ensures begun { IfOk arguments (λ list. IsWhole (map string_bytes list.items))
+        → result ≡ 5 → (out.new ≡ out.old) ⊎ IsOkAnd arguments (λ list.
+        IsBegun audit (map string_bytes list.items) (I.remaining input.old)
+        (O.contents out.old) (O.contents out.new)) }
+{
+    let body = move |asked: AuditArguments, intake: AuditIntake| -> Result<
+        Output<LogsRefused, LogFault>,
+        Failure<LogsRefused, LogFault>,
+    >
+        requires { IsSync R.row }
+        ensures { (arguments : List Text) → (bytes told : List ℕ) → IsAsked arguments asked
+            → HasTaken asked intake bytes told → MatchResult result
+            (λ answer. PrintsBy asked.follow asked bytes (told ++ answer.text.items) answer.found
+            answer.refused × (asked.follow ≡ None → answer.warnings.items ≡ []))
+            (Stops audit arguments bytes) }
+    {
+        match intake {
+            AuditIntake::Whole(reader) => judged(rt, alloc, &asked, reader),
+            AuditIntake::Followed(log) => followed(rt, &asked, log),
+        }
+    };
+    fdb_command::drive(&Audit, rt, alloc, arguments, input, out, err, body)
+}
+
+/// The fault that a program ends with whose log is refused.
+fn refusal(error: ReadError) -> Failure<LogsRefused, LogFault>
+    ensures memory { error.why ≡ Why.Memory → result ≡ Failure.Memory }
+    ensures refused { error.why ≢ Why.Memory → result ≡ Failure.Refused (LogsRefused.Log error) }
+{
+    match error.why {
+        Why::Memory => Failure::Memory,
+        _ => Failure::Refused(LogsRefused::Log(error)),
+    }
+}

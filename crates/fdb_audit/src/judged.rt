@@ -1,0 +1,257 @@
+//! From a log to what is said of it.
+
+ghost use Rattle.std.specs.Prelude.{◌≡◌, ◌⊎◌, ◌↔◌, IfOk, IfErr, IfSome, Err, None, Some, map};
+ghost use Rattle.std.specs.Prelude.{option_map};
+ghost use Rattle.std.specs.Prelude.{slice_get, string_bytes};
+ghost use Rattle.std.specs.Thread.{IsSync};
+ghost use Rattle.fdb_lines.specs.Late.{HasLate};
+ghost use Rattle.fdb_lines.specs.Listing.{faults_of};
+ghost use Rattle.fdb_lines.specs.Reasons.{found_of, HasReason};
+ghost use Rattle.fdb_lines.specs.Audit.{AreExplained, case_of};
+ghost use Rattle.fdb_lines.specs.Log.{lines_of};
+ghost use Rattle.fdb_log_reader.specs.Reading.{reading_in, reading_of, ReadsAs};
+ghost use Rattle.fdb_audit.specs.Judged.{IsJudgement, IsSummary, IsText, IsTextOf};
+ghost use Rattle.fdb_audit.specs.Judged.{keys_of_lines, IsTextOfReading};
+ghost use Rattle.fdb_audit.specs.private.{keys_in, log_in, shown_in, HasKeys, HasOwnKeys};
+
+use crate::asked::Asked;
+use crate::beside::members_beside;
+use crate::listing::{listed, one_fault};
+use crate::passing::{explained, passed};
+use crate::printer::Printer;
+use fdb_lines::{AuditOpts, Finding, Found, Log, Summary, first_finding_by, summary_by};
+use fdb_log_reader::{LogReader, NamedLog, ReadError, Why};
+use std::alloc::{AllocError, Global};
+use std::thread::{Threads, join};
+
+/// What an audit prints besides its verdict. Whether a fault stands decides which of these counts.
+#[derive(Clone, Copy, Debug, PartialEq, Eq)]
+pub struct Wanted {
+    /// An order that explains the lines, where no fault stands; one for each key, where they have
+    /// keys.
+    pub history: bool,
+    /// All faults, where one stands, and not the first alone.
+    pub all: bool,
+    /// Where a fault stands, at the end how much was judged and how many faults there are of each
+    /// kind; without [`Wanted::all`] these alone.
+    pub totals: bool,
+    /// JSON objects, one a line, in place of sentences: docs/FORMATS.md has their members.
+    pub json: bool,
+}
+
+/// What an audit of a log found.
+#[derive(Debug, Drop)]
+pub struct Judgement {
+    /// The first fault, if there is one.
+    pub fault: Option<Found>,
+    /// What is printed: how much the verdict stands on, with an order that explains the lines where
+    /// that is wanted; or the first fault, or all, each with why it stands, and totals.
+    pub text: String,
+}
+
+/// Audits a log. Its clients are printed by these names, and those beyond them by their numbers. It
+/// fails only where memory is refused.
+///
+/// `n log n` in how many lines there are, and linear in what is printed.
+pub fn judge<'x>(
+    alloc: Global,
+    log: &'x Log,
+    names: &'x [String],
+    opts: &'x AuditOpts,
+    wanted: Wanted,
+) -> Result<Judgement, AllocError>
+    ensures { IfOk result (λ found. IsText (lines_of log.now) (map string_bytes names.now)
+        opts.now wanted found.fault (string_bytes found.text)) }
+{
+    let printer = Printer::of(log, names);
+    let keys = None;
+    judge_asked(
+        alloc,
+        Asked {
+            printer,
+            keys,
+            opts,
+        },
+        wanted,
+    )
+}
+
+/// Audits what is asked.
+pub(crate) fn judge_asked(
+    alloc: Global,
+    asked: Asked<'_>,
+    wanted: Wanted,
+) -> Result<Judgement, AllocError>
+    requires { HasKeys asked }
+    ensures { IfOk result (λ found. IsTextOf (log_in asked.entry) (shown_in asked.entry.printer)
+        (keys_in asked.entry) asked.entry.opts.now wanted found.fault (string_bytes found.text)) }
+{
+    if wanted.history {
+        return match asked.order(alloc)? {
+            Ok(order) => explained(alloc, asked, &order, wanted),
+            Err(_) if wanted.all || wanted.totals => {
+                let found = asked.findings(alloc)?;
+                listed(alloc, asked, &found, wanted)
+            }
+            Err(first) => one_fault(alloc, asked, first, wanted),
+        };
+    }
+    if wanted.all || wanted.totals {
+        let found = asked.findings(alloc)?;
+        if found.is_empty() {
+            return passed(alloc, asked, asked.summary(alloc)?, wanted);
+        }
+        return listed(alloc, asked, &found, wanted);
+    }
+    match asked.first(alloc)? {
+        Some(first) => one_fault(alloc, asked, first, wanted),
+        None => passed(alloc, asked, asked.summary(alloc)?, wanted),
+    }
+}
+
+/// Audits what is asked as [`judge_asked`] does. Where the first fault alone is wanted, and lines
+/// have no keys, it is looked for in threads, beside one that counts what a verdict stands on.
+pub(crate) fn judge_asked_by<R: Threads + Sync>(
+    rt: &R,
+    alloc: Global,
+    asked: Asked<'_>,
+    wanted: Wanted,
+) -> Result<Judgement, AllocError>
+    requires { HasKeys asked }
+    ensures { IfOk result (λ found. IsTextOf (log_in asked.entry) (shown_in asked.entry.printer)
+        (keys_in asked.entry) asked.entry.opts.now wanted found.fault (string_bytes found.text)) }
+{
+    if wanted.all || wanted.totals || wanted.history || asked.keys.is_some() {
+        return judge_asked(alloc, asked, wanted);
+    }
+    let (log, opts) = (asked.printer.log, asked.opts);
+    let (first, counts) = join(
+        rt,
+        || -> Result<Option<Finding>, AllocError>
+            requires { IsSync R.row }
+            ensures first { IfOk result (λ first. option_map found_of first
+                ≡ slice_get (faults_of (case_of (lines_of log.entry.now) opts.entry.now)) 0) }
+            ensures explained { IfOk result (λ first. first ≡ None
+                ↔ AreExplained (case_of (lines_of log.entry.now) opts.entry.now)) }
+            ensures reason { IfOk result
+                (λ first. IfSome first (HasReason (lines_of log.entry.now) opts.entry.now)) }
+            ensures late { IfOk result
+                (λ first. IfSome first (HasLate (lines_of log.entry.now) opts.entry.now)) }
+        { first_finding_by(rt, alloc, log, opts) },
+        || -> Result<Summary, AllocError>
+            requires { IsSync R.row }
+            ensures { IfOk result (IsSummary (lines_of log.entry.now) None opts.entry.now) }
+        { summary_by(rt, alloc, log, opts) },
+    );
+    match first? {
+        Some(first) => one_fault(alloc, asked, first, wanted),
+        None => passed(alloc, asked, counts?, wanted),
+    }
+}
+
+/// Audits the log that a text of JSON Lines stands for. Its clients are printed as JSON strings, as
+/// [`fdb_log_reader::Names::printed`] has them. It is refused as [`fdb_log_reader::read_log`] refuses it; an error
+/// of memory says nothing of the text.
+///
+/// `n log n` in how many lines there are, and linear in the text and in what is printed.
+pub fn judge_text(
+    alloc: Global,
+    bytes: &[u8],
+    opts: &AuditOpts,
+    wanted: Wanted,
+) -> Result<Judgement, ReadError>
+    ensures ok { IfOk result
+        (λ found. IsJudgement bytes.now opts.now wanted found.fault (string_bytes found.text)) }
+    ensures err { IfErr result
+        (λ error. (error.why ≡ Why.Memory) ⊎ (reading_in bytes.now ≡ Err error)) }
+{
+    let named = read(alloc, bytes)?;
+    judge_named(alloc, &named, opts, wanted).map_err(|_| ReadError {
+        line: 0,
+        why: Why::Memory,
+    })
+}
+
+/// Reads a log as [`fdb_log_reader::read_log`] does.
+fn read(alloc: Global, bytes: &[u8]) -> Result<NamedLog, ReadError>
+    ensures read { ReadsAs bytes.now result }
+    ensures keys { IfOk result (λ named. HasOwnKeys (reading_of named)) }
+{
+    let reader = LogReader::new(alloc).feed(bytes)?;
+    reader.finish()
+}
+
+/// Audits a log that was read: by key, where the keys of its lines were kept. Clients and keys are
+/// printed as JSON strings, and what is shown of lines as JSON.
+fn judge_named<'x>(
+    alloc: Global,
+    named: &'x NamedLog,
+    opts: &'x AuditOpts,
+    wanted: Wanted,
+) -> Result<Judgement, AllocError>
+    requires { HasOwnKeys (reading_of named.now) }
+    ensures { IfOk result (λ found. IsTextOfReading (reading_of named.entry.now) opts.entry.now wanted
+        found.fault (string_bytes found.text)) }
+{
+    let names = named.names.printed(alloc)?;
+    let beside = members_beside(alloc, named)?;
+    let keys = numbers_of(named);
+    let printer = Printer {
+        log: &named.log,
+        names: &names,
+        numbers: &[],
+        beside: &beside,
+    };
+    judge_asked(
+        alloc,
+        Asked {
+            printer,
+            keys,
+            opts,
+        },
+        wanted,
+    )
+}
+
+/// The same, by threads.
+pub(crate) fn judge_named_by<'x, R: Threads + Sync>(
+    rt: &R,
+    alloc: Global,
+    named: &'x NamedLog,
+    opts: &'x AuditOpts,
+    wanted: Wanted,
+) -> Result<Judgement, AllocError>
+    requires { HasOwnKeys (reading_of named.now) }
+    ensures { IfOk result (λ found. IsTextOfReading (reading_of named.entry.now) opts.entry.now wanted
+        found.fault (string_bytes found.text)) }
+{
+    let names = named.names.printed(alloc)?;
+    let beside = members_beside(alloc, named)?;
+    let keys = numbers_of(named);
+    let printer = Printer {
+        log: &named.log,
+        names: &names,
+        numbers: &[],
+        beside: &beside,
+    };
+    judge_asked_by(
+        rt,
+        alloc,
+        Asked {
+            printer,
+            keys,
+            opts,
+        },
+        wanted,
+    )
+}
+
+/// For each line the number of its key, where keys were kept.
+fn numbers_of(named: &NamedLog) -> Option<&[Option<u32>]>
+    ensures { option_map (λ keys. keys.now) result ≡ keys_of_lines (reading_of named.now).keys }
+{
+    match &named.keys {
+        Some(keys) => Some(keys.numbers()),
+        None => None,
+    }
+}

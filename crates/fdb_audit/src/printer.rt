@@ -1,0 +1,163 @@
+//! The lines that are printed, and the names of their clients as they are printed.
+
+ghost use Rattle.std.specs.Prelude.{◌≡◌, ◌++◌, [], OnOk, map, option_map, slice_get, string_bytes};
+ghost use Rattle.fdb_lines.specs.Lines.{line_at};
+ghost use Rattle.fdb_lines.specs.Log.{lines_of};
+ghost use Rattle.fdb_audit.specs.Text.{call_text, client_text, fault_of, members_text, mention};
+ghost use Rattle.fdb_audit.specs.Text.{number_at, number_text, whose_text};
+ghost use Rattle.fdb_audit.specs.private.{shown_in};
+
+use crate::beside::MemberBeside;
+use crate::fault::LogFault;
+use fdb_lines::{Found, Line, Log, Operation};
+use std::alloc::AllocError;
+use std::fmt::Write;
+
+/// What stands past the last line: nothing.
+const NOBODY: Line = Line {
+    client: None,
+    call: Operation::Learn(0),
+    times: None,
+};
+
+/// What is printed of a log: its lines, the names of their clients, by the clients' numbers, the
+/// numbers of the lines, counted from 1, by their places, and the members that are printed beside
+/// the calls. A client beyond the names is printed by its number, and a line beyond the numbers by
+/// its place, counted from 1.
+#[derive(Clone, Copy)]
+pub(crate) struct Printer<'a> {
+    pub log: &'a Log,
+    pub names: &'a [String],
+    pub numbers: &'a [u64],
+    pub beside: &'a [MemberBeside<'a>],
+}
+
+impl<'a> Printer<'a> {
+    /// A log whose clients have these names, whose lines have no other numbers than their places,
+    /// and of which no member is printed beside the calls.
+    pub(crate) fn of(log: &'a Log, names: &'a [String]) -> Self
+        ensures shown { shown_in result ≡ record {
+          lines = (lines_of log.now).lines;
+          names = map string_bytes names.now;
+          numbers = [];
+          beside = [];
+        } }
+        ensures log { lines_of result.log.now ≡ lines_of log.now }
+    {
+        Printer {
+            log,
+            names,
+            numbers: &[],
+            beside: &[],
+        }
+    }
+}
+
+impl Printer<'_> {
+    /// The line at a place, counted from 0; [`NOBODY`] past the last.
+    pub(crate) fn line(self, place: u32) -> Line
+        ensures { result ≡ line_at (shown_in self.entry).lines place }
+    {
+        let line = self.log.lines().get(place as usize);
+        line.copied().unwrap_or(NOBODY)
+    }
+
+    /// The number under which the line at a place is printed, counted from 1.
+    pub(crate) fn number(self, place: u32) -> u64
+        ensures { result ≡ number_at (shown_in self.entry).numbers place }
+    {
+        let number = self.numbers.get(place as usize);
+        number.copied().unwrap_or(place as u64 + 1)
+    }
+
+    /// A fault, by the number of its line.
+    pub(crate) fn fault(self, found: Found) -> LogFault
+        ensures { result ≡ fault_of (shown_in self.entry).numbers found }
+    {
+        LogFault {
+            fault: found.fault,
+            number: self.number(found.line),
+        }
+    }
+
+    /// The name of a client; none where its number is beyond the names.
+    pub(crate) fn name(&self, client: u32) -> Option<&str>
+        ensures { option_map (λ name. name.now) result
+            ≡ slice_get (shown_in self.now).names client }
+    {
+        let name = self.names.get(client as usize)?;
+        Some(name.as_str())
+    }
+
+    /// Writes a client: by its name, or by its number where it has none.
+    pub(crate) fn push_client(self, out: &mut String, number: u32) -> Result<(), AllocError>
+        ensures { OnOk result (string_bytes out.new
+            ≡ string_bytes out.old ++ client_text (shown_in self.entry).names number) }
+    {
+        match self.name(number) {
+            Some(name) => write!(out, "client {name}"),
+            None => write!(out, "client {number}"),
+        }
+    }
+
+    /// Writes a line by its number, with whose it is, what was done, and what is printed beside it.
+    pub(crate) fn push_mention(self, out: &mut String, place: u32) -> Result<(), AllocError>
+        ensures { OnOk result
+            (string_bytes out.new ≡ string_bytes out.old ++ mention (shown_in self.entry) place) }
+    {
+        let line = self.line(place);
+        self.push_number(out, place)?;
+        write!(out, " (")?;
+        self.push_whose(out, line.client)?;
+        push_call(out, line.call)?;
+        self.push_members(out, place)?;
+        write!(out, ")")
+    }
+
+    /// Writes the line at a place by its number.
+    pub(crate) fn push_number(self, out: &mut String, place: u32) -> Result<(), AllocError>
+        ensures { OnOk result (string_bytes out.new
+            ≡ string_bytes out.old ++ number_text (shown_in self.entry).numbers place) }
+    {
+        let number = self.number(place);
+        write!(out, "line {number}")
+    }
+
+    /// Writes what is printed beside a line.
+    pub(crate) fn push_members(self, out: &mut String, place: u32) -> Result<(), AllocError>
+        ensures { OnOk result (string_bytes out.new
+            ≡ string_bytes out.old ++ members_text (shown_in self.entry).beside place) }
+    {
+        for member in self.beside {
+            member.push(out, place)?;
+        }
+        Ok(())
+    }
+
+    /// Writes whose a line is, in front of what was done.
+    fn push_whose(self, out: &mut String, client: Option<u32>) -> Result<(), AllocError>
+        ensures { OnOk result (string_bytes out.new
+            ≡ string_bytes out.old ++ whose_text (shown_in self.entry).names client) }
+    {
+        match client {
+            Some(number) => {
+                self.push_client(out, number)?;
+                write!(out, ", ")
+            }
+            None => Ok(()),
+        }
+    }
+}
+
+/// Writes what a line says that was done, with the version, or of whom it has learnt, by number.
+fn push_call(out: &mut String, call: Operation) -> Result<(), AllocError>
+    ensures { OnOk result (string_bytes out.new ≡ string_bytes out.old ++ call_text call) }
+{
+    match call {
+        Operation::Read(version) => write!(out, "read {version}"),
+        Operation::Commit(version) => write!(out, "commit {version}"),
+        Operation::Ask(version) => write!(out, "ask {version}"),
+        Operation::Report(version) => write!(out, "report {version}"),
+        Operation::Learn(client) => write!(out, "learn {client}"),
+    }
+}

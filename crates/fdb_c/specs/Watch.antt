@@ -1,0 +1,117 @@
+-- How C asks for a watch, what a watch is, and what it has told. (this product's own)
+use Rattle.std.specs.Prelude.{◌≡◌, ℕ, ◌++◌, Bool, true, false, List, [], ◌∷◌, Option, None, Some, map, option_map, string_bytes}
+use Rattle.fdb_lines.specs.declared.opts.AuditOpts.{AuditOpts}
+use Rattle.fdb_audit.specs.Following.{none_kept}
+use Rattle.fdb_audit.specs.Watched.{AreAllTaken, AreLeftOut, HasFollowed, IsFollowed}
+use Rattle.fdb_audit.specs.declared.arguments.AuditArguments.{AuditArguments}
+use Rattle.fdb_audit.specs.declared.fault.LogFault.{LogFault}
+use Rattle.fdb_audit.specs.declared.follower.Follower.{Follower}
+use Rattle.fdb_audit.specs.declared.judged.Wanted.{Wanted}
+use Rattle.fdb_c.specs.declared.watch_options.FdbWatchOptions.{FdbWatchOptions}
+
+-- ---- what is asked
+
+-- What the arguments of an audit ask of a log that is followed: the margin, what is printed, the member that has the keys, and
+-- those that are printed beside the lines.
+pub record Asked : Type 0 where
+  pub opts : AuditOpts
+  pub wanted : Wanted
+  pub key : Option (List ℕ)
+  pub shown : List (List ℕ)
+
+abbrev pub asked_in : AuditArguments → Asked
+asked_in arguments = record {
+  opts = arguments.opts;
+  wanted = arguments.wanted;
+  key = option_map string_bytes arguments.key;
+  shown = map string_bytes arguments.shown.items;
+}
+
+-- the member that has the keys: none where its name is empty
+abbrev pub key_in : List ℕ → Option (List ℕ)
+key_in [] = None
+key_in (byte ∷ bytes) = Some (byte ∷ bytes)
+
+-- What C asks for: all faults are told.
+abbrev pub asked_by : FdbWatchOptions → List ℕ → Asked
+asked_by options key = record {
+  opts = record { complete = None; margin = options.margin };
+  wanted = record { history = false; all = true; totals = options.totals; json = options.json };
+  key = key_in key;
+  shown = [];
+}
+
+-- ---- what a watch is
+
+-- What it was asked for, the bytes that have come, the text that was told of them, what was said last with its warnings, and
+-- whether it is over: its log has ended, or memory was refused.
+pub record Watch : Type 0 where
+  pub asked : Asked
+  pub bytes : List ℕ
+  pub told : List ℕ
+  pub text : List ℕ
+  pub warnings : List ℕ
+  pub is_over : Bool
+
+abbrev pub new_watch : FdbWatchOptions → List ℕ → Watch
+new_watch options key = record {
+  asked = asked_by options key;
+  bytes = [];
+  told = [];
+  text = [];
+  warnings = [];
+  is_over = false;
+}
+
+-- more bytes have come
+abbrev pub with_bytes : Watch → List ℕ → Watch
+with_bytes watch bytes = record watch { bytes = watch.bytes ++ bytes }
+
+-- nothing can come any more
+abbrev pub over : Watch → Watch
+over watch = record watch { is_over = true }
+
+-- What was said last was told besides.
+abbrev pub IsTold : Watch → Watch → Type 0
+IsTold before after =
+    after ≡ record before { told = before.told ++ after.text; text = after.text; warnings = after.warnings; is_over = after.is_over }
+
+-- ---- what it has told
+
+-- a follower that began with no line has followed these bytes, and this was told of them
+abbrev pub Follows : AuditArguments → Follower → List ℕ → List ℕ → Type 0
+Follows arguments follower bytes told = HasFollowed arguments none_kept follower bytes told
+
+-- this is told of a text by its end, with this first fault
+abbrev pub Tells : AuditArguments → List ℕ → List ℕ → Option LogFault → Type 0
+Tells arguments bytes told first = IsFollowed arguments none_kept bytes told first
+
+-- This was told of the bytes that have come, as by an audit that follows the log.
+pub record HasTold (watch : Watch) : Type 0 where
+  pub arguments : AuditArguments
+  pub are : asked_in arguments ≡ watch.asked
+  pub follower : Follower
+  pub followed : Follows arguments follower watch.bytes watch.told
+
+-- It was told of all of them, where the log ends there, with this first fault.
+pub record HasToldAll (watch : Watch) (first : Option LogFault) : Type 0 where
+  pub arguments : AuditArguments
+  pub are : asked_in arguments ≡ watch.asked
+  pub followed : Tells arguments watch.bytes watch.told first
+
+-- A fault was told among that.
+pub record HasToldFault (watch : Watch) : Type 0 where
+  pub first : LogFault
+  pub all : HasToldAll watch (Some first)
+
+-- Each line was taken, and there was one.
+pub record HasTakenAll (watch : Watch) : Type 0 where
+  pub arguments : AuditArguments
+  pub are : asked_in arguments ≡ watch.asked
+  pub taken : AreAllTaken arguments watch.bytes
+
+-- Lines were left out, or there was none.
+pub record HasLeftOut (watch : Watch) : Type 0 where
+  pub arguments : AuditArguments
+  pub are : asked_in arguments ≡ watch.asked
+  pub left_out : AreLeftOut arguments watch.bytes

@@ -1,0 +1,186 @@
+//! A log that is watched as it grows, and what was said of it last.
+
+ghost use Rattle.std.specs.Prelude.{◌≡◌, ◌≢◌, ◌++◌, ◌↔◌, ◌⊎◌, IfOk, None, Some, false, true};
+ghost use Rattle.fdb_log_reader.specs.declared.error.ReadError.{ReadError};
+ghost use Rattle.fdb_audit.specs.declared.fault.LogFault.{LogFault};
+ghost use Rattle.fdb_c.specs.Audit.{IsRefusal, refused_of, status_of};
+ghost use Rattle.fdb_c.specs.Watch.{HasLeftOut, HasTakenAll, HasTold, HasToldAll, IsTold};
+ghost use Rattle.fdb_c.specs.Watch.{HasToldFault, new_watch, over, with_bytes};
+
+use crate::audit::{FdbRefused, refuse};
+use crate::status::{FDB_FAULT, FDB_MEMORY, FDB_OK, FDB_OVER};
+use crate::story::Story;
+use crate::watch_options::{FdbWatchOptions, asked_of};
+use fdb_audit::{AuditArguments, Follower, LogFault, Said};
+use fdb_log_reader::ReadError;
+use std::alloc::{AllocError, Global};
+use std::marker::Model;
+use std::mem;
+
+/// A watch, and what it said last.
+#[derive(Drop)]
+pub struct Watched {
+    asked: AuditArguments,
+    /// None once the log has ended, or memory was refused.
+    follower: Option<Follower>,
+    /// What was said last.
+    text: String,
+    /// A line for each line that was refused by then.
+    warnings: String,
+    story: Story,
+}
+
+impl Model for Watched {
+    ghost use Rattle.std.specs.Prelude.{IfSome, is_none, string_bytes};
+    ghost use Rattle.fdb_c.specs.Watch.{Follows, Watch, asked_in};
+
+    ghost Value = { Watch };
+
+    ghost view = { λ it.
+        record {
+          asked = asked_in it.asked;
+          bytes = it.story.bytes;
+          told = it.story.told;
+          text = string_bytes it.text;
+          warnings = string_bytes it.warnings;
+          is_over = is_none it.follower;
+        } };
+
+    ghost invariant = { λ it. IfSome it.follower
+        (λ follower. Follows it.asked follower it.story.bytes it.story.told) };
+}
+
+impl Watched {
+    ghost use Rattle.std.specs.Prelude.{string_bytes};
+
+    /// A watch of a log of which nothing has come.
+    pub(crate) fn new(
+        alloc: Global,
+        options: FdbWatchOptions,
+        key: &str,
+    ) -> Result<Self, AllocError>
+        ensures { IfOk result (λ watched. watched ≡ new_watch options key.now) }
+    {
+        let asked = asked_of(alloc, options, key)?;
+        let follower = Follower::new(alloc, &asked, options.behind)?;
+        Ok(Watched {
+            asked,
+            follower: Some(follower),
+            text: String::new(alloc),
+            warnings: String::new(alloc),
+            story: Story::new(),
+        })
+    }
+
+    /// What was said last.
+    pub(crate) fn text(&self) -> &str
+        ensures { result.now ≡ self.now.text }
+    {
+        self.text.as_str()
+    }
+
+    /// A line for each line that was refused by then.
+    pub(crate) fn warnings(&self) -> &str
+        ensures { result.now ≡ self.now.warnings }
+    {
+        self.warnings.as_str()
+    }
+
+    /// Reads on. Where memory is refused, the watch is over.
+    pub(crate) fn push(&mut self, bytes: &[u8]) -> u8
+        ensures ok { (result ≡ FDB_OK) → self.new ≡ with_bytes self.old bytes.now }
+        ensures told { (result ≡ FDB_OK) → HasTold self.new }
+        ensures over { (result ≡ FDB_OVER) ↔ (self.old.is_over ≡ true) }
+        ensures ends { (result ≢ FDB_OK) → self.new ≡ over self.old }
+        ensures statuses { (result ≡ FDB_OK) ⊎ (result ≡ FDB_OVER) ⊎ (result ≡ FDB_MEMORY) }
+    {
+        let Some(mut follower) = mem::replace(&mut self.follower, None) else {
+            return FDB_OVER;
+        };
+        match follower.feed(bytes) {
+            Ok(()) => {
+                self.story = Story::with_bytes(&self.story, &bytes);
+                self.follower = Some(follower);
+                FDB_OK
+            }
+            Err(_) => FDB_MEMORY,
+        }
+    }
+
+    /// Says what has become certain. Where memory is refused, the watch is over.
+    pub(crate) fn tell(&mut self, is_idle: bool) -> u8
+        ensures ok { (result ≡ FDB_OK) → IsTold self.old self.new × (self.new.is_over ≡ false) }
+        ensures told { (result ≡ FDB_OK) → HasTold self.new }
+        ensures over { (result ≡ FDB_OVER) ↔ (self.old.is_over ≡ true) }
+        ensures ends { (result ≢ FDB_OK) → self.new ≡ over self.old }
+        ensures statuses { (result ≡ FDB_OK) ⊎ (result ≡ FDB_OVER) ⊎ (result ≡ FDB_MEMORY) }
+    {
+        let Some(mut follower) = mem::replace(&mut self.follower, None) else {
+            return FDB_OVER;
+        };
+        match follower.tell(is_idle) {
+            Ok(said) => {
+                self.story = Story::with_text(&self.story, &said.text);
+                self.follower = Some(follower);
+                self.text = said.text;
+                self.warnings = said.warnings;
+                FDB_OK
+            }
+            Err(_) => FDB_MEMORY,
+        }
+    }
+
+    /// Says what is left, where the log ends here: the watch is then over. The status is the verdict,
+    /// or why the last line was refused that was.
+    pub(crate) fn end(&mut self, refused: &mut FdbRefused) -> u8
+        ensures said { (result ≢ FDB_OVER) → (result ≢ FDB_MEMORY) → IsTold self.old self.new }
+        ensures ok { (result ≡ FDB_OK) → HasToldAll self.new None × HasTakenAll self.new }
+        ensures fault { (result ≡ FDB_FAULT) → HasToldFault self.new }
+        ensures left_out { IsRefusal result → (result ≢ FDB_OVER)
+            → HasToldAll self.new None × HasLeftOut self.new }
+        ensures refused { IsRefusal result → (result ≢ FDB_OVER) → (error : ReadError)
+            × (result ≡ status_of error.why) × (refused.new ≡ refused_of error) }
+        ensures untold { ¬ IsRefusal result → refused.new ≡ refused.old }
+        ensures over { (result ≡ FDB_OVER) ↔ (self.old.is_over ≡ true) }
+        ensures not_told { (result ≡ FDB_OVER) → refused.new ≡ refused.old }
+        ensures unchanged { (result ≡ FDB_OVER) → self.new ≡ self.old }
+        ensures ends { self.new.is_over ≡ true }
+    {
+        let Some(follower) = mem::replace(&mut self.follower, None) else {
+            return FDB_OVER;
+        };
+        match follower.finish() {
+            Ok(end) => {
+                self.story = Story::with_text(&self.story, &end.said.text);
+                self.text = end.said.text;
+                self.warnings = end.said.warnings;
+                status_at_end(end.found, end.refused, refused)
+            }
+            Err(_) => FDB_MEMORY,
+        }
+    }
+}
+
+/// The verdict of a log that was watched, or why the last line was refused that was: a fault goes
+/// first.
+fn status_at_end(
+    found: Option<LogFault>,
+    left_out: Option<ReadError>,
+    refused: &mut FdbRefused,
+) -> u8
+    ensures ok { (result ≡ FDB_OK) → (found ≡ None) × (left_out ≡ None) }
+    ensures fault { (result ≡ FDB_FAULT) → (first : LogFault) × (found ≡ Some first) }
+    ensures refused { IsRefusal result → (found ≡ None) × (error : ReadError)
+        × (left_out ≡ Some error) × (result ≡ status_of error.why)
+        × (refused.new ≡ refused_of error) }
+    ensures untold { ¬ IsRefusal result → refused.new ≡ refused.old }
+    ensures not_over { result ≢ FDB_OVER }
+{
+    if found.is_some() {
+        return FDB_FAULT;
+    }
+    match left_out {
+        Some(error) => refuse(error, refused),
+        None => FDB_OK,
+    }
+}

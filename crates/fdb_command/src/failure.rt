@@ -1,0 +1,108 @@
+//! Why a program ends with another status than 0.
+
+ghost use Rattle.std.specs.Prelude.{◌≡◌, ◌⊎◌, ◌<◌, ◌≤◌};
+ghost use Rattle.fdb_command.specs.Input.{IsCauseOf};
+
+use crate::arguments::ArgumentsFault;
+use std::alloc::AllocError;
+use std::error::Error;
+use std::fmt::{Debug, Display};
+use std::io::ErrorKind;
+use std::{fmt, io};
+
+/// Why a program ends with another status than 0. Its text
+/// is the line that the program writes, behind its name.
+#[derive(Debug, Drop)]
+pub enum Failure<E: Debug + Display + Drop, F: Debug + Display + Drop> {
+    /// The input is refused, whole or in part, and why, with what the input is called.
+    Refused(E),
+    /// The arguments are refused, by clap or by the program, or could not be had.
+    Arguments,
+    /// Memory was refused, before anything was written to the output but what was told.
+    Memory,
+    /// A fault was found in what the input stands for.
+    Found(F),
+    /// The input could not be read, or has too many bytes.
+    Reading,
+    /// What is printed could not be written, or not flushed.
+    Writing,
+}
+
+impl<E: Debug + Display + Drop, F: Debug + Display + Drop> Failure<E, F> {
+    /// The status that the program ends with: 1 to 5 in the order of [`Failure`], 5 also for writing.
+    pub fn status(&self) -> u8
+        ensures range { (0 < result) × (result ≤ 5) }
+        ensures refused { (error : E) → self.now ≡ Failure.Refused error → result ≡ 1 }
+        ensures only_refused { result ≡ 1 → (error : E) × (self.now ≡ Failure.Refused error) }
+        ensures arguments { self.now ≡ Failure.Arguments → result ≡ 2 }
+        ensures only_arguments { result ≡ 2 → self.now ≡ Failure.Arguments }
+        ensures memory { self.now ≡ Failure.Memory → result ≡ 3 }
+        ensures only_memory { result ≡ 3 → self.now ≡ Failure.Memory }
+        ensures found { (found : F) → self.now ≡ Failure.Found found → result ≡ 4 }
+        ensures only_found { result ≡ 4 → (found : F) × (self.now ≡ Failure.Found found) }
+        ensures reading { self.now ≡ Failure.Reading → result ≡ 5 }
+        ensures writing { self.now ≡ Failure.Writing → result ≡ 5 }
+        ensures only_failed { result ≡ 5 → (self.now ≡ Failure.Reading) ⊎ (self.now ≡ Failure.Writing) }
+    {
+        match self {
+            Failure::Refused(_) => 1,
+            Failure::Arguments => 2,
+            Failure::Memory => 3,
+            Failure::Found(_) => 4,
+            Failure::Reading | Failure::Writing => 5,
+        }
+    }
+}
+
+impl<E: Debug + Display + Drop, F: Debug + Display + Drop> Display for Failure<E, F> {
+    fn fmt<W: fmt::Write>(&self, f: &mut fmt::Formatter<W>) -> fmt::Result {
+        f.write_str(match self {
+            Failure::Refused(error) => return write!(f, "{error}"),
+            Failure::Arguments => "words refused",
+            Failure::Memory => "want of memory",
+            Failure::Found(found) => return write!(f, "audit fault: {found}"),
+            Failure::Reading => "reading failed",
+            Failure::Writing => "writing failed",
+        })
+    }
+}
+
+impl<E: Debug + Display + Drop, F: Debug + Display + Drop> Error for Failure<E, F> {}
+
+impl<E: Debug + Display + Drop, F: Debug + Display + Drop> From<AllocError> for Failure<E, F> {
+    ghost use Rattle.fdb_command.specs.declared.failure.Failure.TheVariants.{Memory};
+
+    ghost from_gives = { λ _ fault. fault ≡ Memory };
+
+    fn from(_refused: AllocError) -> Self {
+        Failure::Memory
+    }
+}
+
+impl<E: Debug + Display + Drop, F: Debug + Display + Drop> From<ArgumentsFault> for Failure<E, F> {
+    ghost use Rattle.fdb_command.specs.declared.failure.Failure.TheVariants as made;
+    ghost use Rattle.fdb_command.specs.declared.arguments.ArgumentsFault.TheVariants as cause;
+
+    ghost from_gives = { λ fault result. (fault ≡ cause.Refused → result ≡ made.Arguments)
+        × (fault ≡ cause.Memory → result ≡ made.Memory) };
+
+    fn from(fault: ArgumentsFault) -> Self {
+        match fault {
+            ArgumentsFault::Refused => Failure::Arguments,
+            ArgumentsFault::Memory => Failure::Memory,
+        }
+    }
+}
+
+/// Why a program ends whose input, or a file, answers this error.
+pub(crate) fn unread<E: Debug + Display + Drop, F: Debug + Display + Drop>(
+    error: io::Error,
+) -> Failure<E, F>
+    ensures cause { IsCauseOf error result }
+    ensures kinds { (result ≡ Failure.Reading) ⊎ (result ≡ Failure.Memory) }
+{
+    match error.kind() {
+        ErrorKind::OutOfMemory => Failure::Memory,
+        _ => Failure::Reading,
+    }
+}

@@ -1,0 +1,14 @@
+use Rattle.std.proofs.Common.{rules}
+use Rattle.std.proofs.lemmas.List.Sorted.{IsNonDecreasingBy-from_sort_by}
+use Rattle.fdb_lines.specs.private.EndTable.{end_key}
+use Rattle.fdb_lines.proofs.end_table.EndTable.new.Goals as goal
+
+pub newest_of-requires-clause-sorted : goal.newest_of-requires-clause-sorted
+newest_of-requires-clause-sorted c =
+    rw c.deref.ensures.value (IsNonDecreasingBy-from_sort_by end_key _ c.sort_unstable_by.ensures.sorted (λ a r f k. search rules))
+
+pub returns-clause-settled : goal.returns-clause-settled
+returns-clause-settled c = (
+  IsNonDecreasingBy-from_sort_by end_key _ c.sort_unstable_by.ensures.sorted (λ a r f k. search rules),
+  rw c.deref.ensures.value at c.in_ok-newest.ensures,
+)

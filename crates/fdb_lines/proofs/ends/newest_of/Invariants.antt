@@ -1,9 +1,0 @@
-use Rattle.std.proofs.Common.{◌≡◌, ℕ, ◌<◌, length, slice_index}
-use Rattle.fdb_lines.specs.private.Ends.{IsNewestAt}
-use Rattle.fdb_lines.proofs.ends.newest_of.Given as goal
-
-abbrev pub invariant-loop-i : goal.invariant-loop-i
-invariant-loop-i l = record {
-  as_many : length l.newest.items ≡ l.i;
-  newest : (k : ℕ) → k < l.i → IsNewestAt l.ends k (slice_index l.newest.items k);
-}

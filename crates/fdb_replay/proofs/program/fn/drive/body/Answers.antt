@@ -1,4 +1,0 @@
-use Rattle.fdb_replay.proofs.program.fn.drive.body.Goals as goal
-
-pub returns : goal.returns
-returns g c = λ arguments. rw c.deref.ensures.value at (c.answer_of.ensures arguments)

@@ -1,0 +1,228 @@
+"""Watches with ample memory: no number of lines that are kept, told or left out is refused for it.
+
+The rows are as those of audits of whole logs.
+"""
+import tempfile
+
+from ample_audits import CHEAP, DEAR, FEW, LINES, MARGINS, NUMBERS, PROGRAM, Row
+from ample_audits import all_stale, at_moment, by_model, calls, clients, ends, keyed, line
+from ample_audits import long_names, rising, rows, stale, stale_and_shown, worked
+from follow import lines_kept
+from harness import apart, fault_of, grouped, run
+
+# How far behind the newest end lines may begin where none is settled before the end.
+FAR = 2**40
+
+
+# ---- lines, and what is said of them
+
+
+def watched(lines, early=0, refused=0, **kinds):
+    named = {"reads": 0, "commits": 0, "asks": 0, "reports": 0, **kinds}
+    return (f"lines {lines} {' '.join(f'{it} {n}' for it, n in named.items())} refused {refused} "
+            f"early {early}")
+
+
+def all_open(count):
+    """Commits of which none is settled before the end."""
+    _, log, _ = rising(count)
+    return ["--follow", str(FAR)], log, [f"audit ok {watched(count, commits=count)}"]
+
+
+def all_settled(count):
+    """Commits that are settled as they come."""
+    _, log, _ = rising(count)
+    return ["--follow", "0"], log, [f"audit ok {watched(count, commits=count)}"]
+
+
+def all_told(count, behind=0):
+    """Stale reads, each of which is told."""
+    _, log, said = all_stale(count)
+    said[-3] = f"audit total {watched(count + 1, reads=count, commits=1)}"
+    return ["--follow", str(behind), "--all"], log, said
+
+
+def all_told_at_the_end(count):
+    """The same, where all is open up to the end."""
+    return all_told(count, FAR)
+
+
+def told_by_key(count):
+    """A commit of each key, and below them a read of the last one, which is stale by that."""
+    log = "".join(line(at, "commit", 5, more=keyed(at)) for at in range(count))
+    log += line(count, "read", 0, "b", keyed(count - 1))
+    return ["--follow", str(FAR), "--key", "k"], log, [
+        f'audit fault: Order {count + 1}: client "b" read 0 "k":"{count - 1}", but 5 was known: '
+        f'line {count} (client "a", commit 5 "k":"{count - 1}") had ended 3 before line '
+        f'{count + 1} began']
+
+
+def told_and_shown(count):
+    """Stale reads, each of which shows another text."""
+    words, log, said = stale_and_shown(count)
+    said[count] = f"audit total {watched(count + 1, reads=count, commits=1)}"
+    return ["--follow", "0", *words], log, said
+
+
+def told_of_long_names(size):
+    words, log, said = long_names(size)
+    return ["--follow", "0", *words], log, said
+
+
+def told_of_clients(count):
+    words, log, said = clients(count)
+    return ["--follow", "3", *words], log, said
+
+
+def behind(most):
+    """A commit that ends at 0 and a read that begins 1 later, where lines may be so far behind."""
+    log = calls(("a", "commit", 5, 0, 0), ("b", "read", 0, 1, 1))
+    return ["--follow", str(most)], log, [
+        'audit fault: Order 2: client "b" read 0, but 5 was known: line 1 (client "a", commit 5) '
+        'had ended 1 before line 2 began']
+
+
+def told_at(moment):
+    """A watch of a read at a moment. All is open, so that its lateness is exact."""
+    _, log, said = at_moment(moment)
+    return ["--follow", str(2**63 - 1)], log, said
+
+
+def settled_at(moment):
+    """The same, where all is settled as it comes."""
+    _, log, said = at_moment(moment)
+    return ["--follow", "0"], log, said
+
+
+FOLLOWED = ("Follower::new, Follower::feed, Follower::tell, Follower::finish, LineReader::new, "
+            "LineReader::feed, LineReader::finish, KeyWatch::push, KeyWatch::settle, "
+            "KeyWatch::finish")
+WATCHES = (
+    Row(FOLLOWED, all_open, CHEAP),
+    Row(FOLLOWED, all_settled, CHEAP),
+    Row(FOLLOWED, all_told, LINES),
+    Row(FOLLOWED, all_told_at_the_end, DEAR),
+    Row(f"{FOLLOWED}, printed_name", told_by_key, DEAR),
+    Row(f"{FOLLOWED}, shown_text", told_and_shown, DEAR),
+    Row(f"{FOLLOWED}, shown_text, printed_name", told_of_long_names, CHEAP),
+    Row(FOLLOWED, told_of_clients, DEAR),
+    Row(FOLLOWED, behind, MARGINS),
+    Row(FOLLOWED, told_at, NUMBERS),
+    Row(FOLLOWED, settled_at, NUMBERS),
+)
+
+
+def all_refused(count):
+    """Lines that are refused below a commit, and a stale read below them."""
+    log = line(0, "commit", 5) + "{}\n" * count + line(1, "read", 0, "b")
+    said = stale(1).replace("Order 2", f"Order {count + 2}").replace(
+        "before line 2 began", f"before line {count + 2} began")
+    return ["--follow", "0"], log, [said]
+
+
+def refused_at(numbers):
+    return "".join(
+        f"fdb_audit: logs refused: NoCall {at}: no read, commit, ask, report or learn\n"
+        for at in numbers).encode()
+
+
+# Of these rows standard error has a line for each of the lines from the second on that is refused.
+WARNED = (Row(FOLLOWED, all_refused, LINES),)
+
+
+def of_lines(_program):
+    """Watches of as many lines as one likes say what was worked out of them."""
+    yield from worked(WATCHES)
+
+
+def of_lines_by_model(_program):
+    """So does the audit's model."""
+    yield from by_model(WATCHES)
+
+
+def of_refused_lines(_program):
+    """So do watches of logs of which as many lines as one likes are refused."""
+    for name, number, words, log, said in rows(WARNED):
+        wanted = ends(said, refused_at(range(2, number + 2)))
+        yield name, fault_of(run([PROGRAM, *words], log.encode(), 60), wanted)
+
+
+# ---- lines that come early, and lines that are kept
+
+
+def early(count):
+    """Lines that begin before what was settled, which was settled as nothing more came for a while.
+
+    They come in the pieces of a pipe that keeps them apart, each of whole lines.
+    """
+    first = line(FAR, "commit", 5)
+    rest = "".join(line(at, "read", at, "b") for at in range(count))
+    return ["--follow", "0"], [first, rest], [
+        f"audit ok {watched(count + 1, early=count, reads=count, commits=1)}"]
+
+
+def kept(count):
+    """Commits that are kept, since each may yet matter, and a stale read that comes later.
+
+    It is told as a line comes that ends so far behind it that none that comes begins before it.
+    """
+    _, log, said = rising(count)
+    late = line(count, "read", count - 1, "b") + line(FAR, "read", count, "c")
+    told = [f'audit fault: Order {count + 1}: client "b" read {count - 1}, but {count} was known: '
+            f'line {count} (client "a", commit {count}) had ended 3 before line {count + 1} began']
+    words = ["--follow", str(FAR)]
+    return words, [log, late], [[f"audit ok {watched(count, commits=count)}"], told]
+
+
+def kept_by_key(count):
+    """The same where each has a key and a shown text, of which the read has the last."""
+    more = lambda at: keyed(at) + keyed(f"note {at}", "x")
+    log = "".join(line(at, "commit", 5, f"c{at}", more(at)) for at in range(count))
+    last = count - 1
+    late = line(count, "read", 0, "b", more(last)) + line(FAR, "read", 5, "b", more(last))
+    beside = f' "k":"{last}" "x":"note {last}"'
+    told = [f'audit fault: Order {count + 1}: client "b" read 0{beside}, but 5 was known: line '
+            f'{count} (client "c{last}", commit 5{beside}) had ended 3 before line {count + 1} '
+            'began']
+    words = ["--follow", str(FAR), "--key", "k", "--show", "x"]
+    return words, [log, late], [[f"audit ok {watched(count, commits=count)}"], told]
+
+
+def kept_behind_refused(count):
+    """A commit is kept and how many lines were refused, among which the later ones are counted."""
+    log, late = line(0, "commit", 5) + "{}\n" * count, line(1, "read", 0, "b")
+    told = [stale(1).replace("Order 2", f"Order {count + 2}").replace(
+        "before line 2 began", f"before line {count + 2} began")]
+    ok = f"audit ok {watched(1, refused=count, commits=1)}"
+    return ["--follow", str(FAR)], [log, late + line(FAR, "read", 5, "c")], [[ok], told]
+
+
+KEPT = f"{FOLLOWED}, Follower::kept, Follower::stop, Follower::restore, KeyWatch::kept"
+EARLY = (Row(FOLLOWED, early, LINES),)
+AGAIN = (
+    Row(KEPT, kept, DEAR),
+    Row(KEPT, kept_by_key, (1, FEW, 65_537)),
+    Row(KEPT, kept_behind_refused, LINES),
+)
+TABLES = (WATCHES, WARNED, EARLY, AGAIN)
+
+
+def of_early_lines(_program):
+    """Lines that come early are counted, however many there are."""
+    for name, _, words, (first, rest), said in rows(EARLY):
+        pieces = [first.encode(), *grouped(rest.encode().splitlines(True))]
+        yield name, fault_of(apart([PROGRAM, *words], pieces), ends(said))
+
+
+def of_kept_lines(_program):
+    """A watch goes on from as many lines as were kept, with the numbers that they had."""
+    for name, _, words, (log, late), (first, then) in rows(AGAIN):
+        count = log.count("\n")
+        with tempfile.TemporaryDirectory() as folder:
+            words = [PROGRAM, *words, "--keep", f"{folder}/kept"]
+            refused = refused_at(range(2, count + 1)) if "{}" in log else b""
+            fault = fault_of(run(words, log.encode(), 60), ends(first, refused))
+            found = lines_kept(f"{folder}/kept")
+            fault = fault or (None if found == count else f"it stands for {found} lines")
+            yield f"{name}, at first", fault
+            yield f"{name}, later", fault_of(run(words, late.encode(), 60), ends(then))

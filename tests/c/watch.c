@@ -1,0 +1,147 @@
+/* What watches tell, worked out by hand in tests/follow_worked.txt. The last line is 'ok'. Random
+ * logs are watched by tests/follow.py. */
+#undef NDEBUG
+#include "fdb_read_version.h"
+#include <assert.h>
+#include <stdio.h>
+#include <stdlib.h>
+#include <string.h>
+
+#define STALE "{\"client\":\"a\",\"commit\":200,\"began\":10,\"ended\":14}\n" \
+              "{\"client\":\"b\",\"read\":100,\"began\":15,\"ended\":16}\n"
+#define SAID(number) "audit fault: Order " number ": client \"b\" read 100, but 200 was known: " \
+                     "line 1 (client \"a\", commit 200) had ended 1 before line " number " began\n"
+
+static fdb_watch opened(fdb_watch_options options, const char *key) {
+    fdb_watch watch = FDB_WATCH_NONE;
+    assert(fdb_watch_new(&options, (const uint8_t *)key, strlen(key), &watch) == FDB_OK);
+    return watch;
+}
+
+static void push(fdb_watch *watch, const char *bytes) {
+    assert(fdb_watch_push(watch, (const uint8_t *)bytes, strlen(bytes)) == FDB_OK);
+}
+
+/* What was said last, in each room that is too small and then in one that is long enough. */
+static void says(fdb_watch *watch, const char *text, const char *warnings) {
+    uint64_t size = 77;
+    for (size_t room = 0; room <= strlen(text); room++) {
+        char *at = malloc(room + 1);
+        assert(at);
+        memset(at, '~', room + 1);
+        uint8_t status = fdb_watch_text(watch, (uint8_t *)at, room, &size);
+        assert(size == strlen(text) && status == (room < size ? FDB_ROOM : FDB_OK));
+        assert(room < size ? at[0] == '~' : !memcmp(at, text, size));
+        free(at);
+    }
+    uint8_t told[1000] = "";
+    assert(fdb_watch_warnings(watch, told, 0, &size) == (*warnings ? FDB_ROOM : FDB_OK));
+    assert(fdb_watch_warnings(watch, told, sizeof told, &size) == FDB_OK);
+    assert(size >= strlen(warnings) && !memcmp(told, warnings, strlen(warnings)));
+    assert(*warnings || size == 0);
+}
+
+/* It is told once, as soon as it is certain, however the text is cut. */
+static void a_stale_read(void) {
+    for (size_t cut = 1; cut <= strlen(STALE); cut++) {
+        fdb_watch watch = opened((fdb_watch_options){.behind = 0}, "");
+        for (size_t at = 0; at < strlen(STALE); at += cut) {
+            size_t length = at + cut <= strlen(STALE) ? cut : strlen(STALE) - at;
+            assert(fdb_watch_push(&watch, (const uint8_t *)STALE + at, length) == FDB_OK);
+        }
+        assert(fdb_watch_tell(&watch, false) == FDB_OK);
+        says(&watch, "", "");
+        assert(fdb_watch_tell(&watch, true) == FDB_OK);
+        says(&watch, SAID("2"), "");
+        says(&watch, SAID("2"), "");
+        assert(fdb_watch_tell(&watch, true) == FDB_OK);
+        says(&watch, "", "");
+        fdb_refused refused = {77, 77};
+        assert(fdb_watch_end(&watch, &refused) == FDB_FAULT);
+        assert(refused.line == 77 && refused.member == 77);
+        says(&watch, "", "");
+        fdb_watch_free(&watch);
+        assert(watch.at == NULL);
+    }
+}
+
+/* What is not certain waits, for lines that may come, or for the end. */
+static void what_waits(void) {
+    fdb_refused refused = {77, 77};
+    fdb_watch watch = opened((fdb_watch_options){.behind = 5, .totals = true}, "");
+    push(&watch, STALE);
+    assert(fdb_watch_tell(&watch, true) == FDB_OK);
+    says(&watch, "", "");
+    push(&watch, "{\"client\":\"b\",\"report\":200,\"began\":16,\"ended\":null}");
+    assert(fdb_watch_end(&watch, &refused) == FDB_FAULT);
+    says(&watch,
+         SAID("2") "audit total lines 3 reads 1 commits 1 asks 0 reports 1 refused 0 early 0\n"
+         "audit total faults 1 Order 1 Wrong 0 NotAbove 0 Twice 0 Stray 0\n"
+         "audit total client \"b\" faults 1 Order 1 Wrong 0 NotAbove 0 Twice 0 Stray 0\n", "");
+    /* it is over, and says so; what was said last can still be had */
+    assert(fdb_watch_push(&watch, (const uint8_t *)"{}\n", 3) == FDB_OVER);
+    assert(fdb_watch_tell(&watch, true) == FDB_OVER);
+    assert(fdb_watch_end(&watch, &refused) == FDB_OVER && refused.line == 77);
+    uint64_t size;
+    uint8_t text;
+    assert(fdb_watch_text(&watch, &text, 0, &size) == FDB_ROOM && size > 200);
+    fdb_watch_free(&watch);
+}
+
+/* The margin, the form and the keys are those that were asked for. */
+static void what_is_asked(void) {
+    fdb_refused refused = {77, 77};
+    fdb_watch watch = opened((fdb_watch_options){.behind = 5, .margin = 1}, "");
+    push(&watch, STALE);
+    assert(fdb_watch_end(&watch, &refused) == FDB_OK);
+    says(&watch, "audit ok lines 2 reads 1 commits 1 asks 0 reports 0 refused 0 early 0\n", "");
+    fdb_watch_free(&watch);
+    watch = opened((fdb_watch_options){.behind = 8, .totals = true, .json = true}, "k");
+    push(&watch, "{\"client\":\"a\",\"commit\":200,\"began\":10,\"ended\":14,\"k\":\"x\"}\n"
+                 "{\"client\":\"b\",\"read\":100,\"began\":15,\"ended\":16,\"k\":\"y\"}\n");
+    assert(fdb_watch_end(&watch, &refused) == FDB_OK && refused.line == 77);
+    says(&watch,
+         "{\"total\":{\"lines\":2,\"reads\":1,\"commits\":1,\"asks\":0,\"reports\":0,\"refused\":0,"
+         "\"early\":0},\"arguments\":{\"follow\":8,\"margin\":0,\"by_key\":true,\"members\":[\"k\"]}}\n"
+         "{\"faults\":0,\"Order\":0,\"Wrong\":0,\"NotAbove\":0,\"Twice\":0,\"Stray\":0}\n", "");
+    fdb_watch_free(&watch);
+    fdb_watch_options options = {0};
+    watch = (fdb_watch)FDB_WATCH_NONE;
+    assert(fdb_watch_new(&options, (const uint8_t *)"\xff", 1, &watch) == FDB_BAD_MEMBER);
+    assert(watch.at == NULL);
+}
+
+/* Lines that are refused are left out, counted, and told; a fault goes first. */
+static void left_out(void) {
+    fdb_refused refused = {77, 77};
+    fdb_watch watch = opened((fdb_watch_options){.behind = 5}, "");
+    push(&watch, "{\"client\":\"a\",\"commit\":200,\"began\":10,\"ended\":14}\n{}\n");
+    assert(fdb_watch_tell(&watch, true) == FDB_OK);
+    says(&watch, "", "fdb_audit: logs refused: NoCall 2: ");
+    assert(fdb_watch_end(&watch, &refused) == FDB_NO_CALL);
+    assert(refused.line == 2 && refused.member == 0);
+    says(&watch, "audit ok lines 1 reads 0 commits 1 asks 0 reports 0 refused 1 early 0\n", "");
+    fdb_watch_free(&watch);
+    refused = (fdb_refused){77, 77};
+    watch = opened((fdb_watch_options){.behind = 5}, "");
+    push(&watch, "{\"client\":\"a\",\"commit\":200,\"began\":10,\"ended\":14}\n"
+                 "{\"client\":\"b\",\"read\":true,\"began\":10}\n"
+                 "{\"client\":\"b\",\"read\":100,\"began\":15,\"ended\":16}\n{");
+    assert(fdb_watch_end(&watch, &refused) == FDB_FAULT && refused.line == 77);
+    says(&watch, SAID("3"), "fdb_audit: logs refused: BadMember 2 read: ");
+    fdb_watch_free(&watch);
+    watch = opened((fdb_watch_options){.behind = 5}, "");
+    assert(fdb_watch_end(&watch, &refused) == FDB_EMPTY && refused.line == 0);
+    fdb_watch_free(&watch);
+    fdb_watch_free(&watch);
+    assert(watch.at == NULL);
+}
+
+int main(void) {
+    a_stale_read();
+    what_waits();
+    what_is_asked();
+    left_out();
+    puts("ok");
+    return 0;
+}
