@@ -185,7 +185,7 @@ def used(_program):
     """
     each, printed = lambda at: at + 1, read(f"{ROOT}/crates/fdb_uses/stdout")
     # The audit of a stale read prints its fault, whichever that is.
-    starved = printed.replace(b"fault: Wrong 1 2\n", b"fault: want of memory\n")
+    starved = printed.replace(b"fault: Wrong 1 2\n", b"fault: out of memory\n")
     statuses = []
 
     def ended(ran):
