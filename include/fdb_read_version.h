@@ -406,6 +406,9 @@ typedef struct fdb_audit_options {
     bool complete;   /* whether the log has all calls; else others may have asked and reported */
     bool all;        /* whether the text has all faults, and not the first alone */
     bool history;    /* whether the text of a log without a fault has an order that explains it */
+    bool totals;     /* whether the text has, where a fault stands, how much was judged and how many
+                        faults there are of each kind; without `all` it has no fault by itself then */
+    bool json;       /* whether the text has JSON objects, one a line, and not sentences */
 } fdb_audit_options;
 
 /* Why a log is refused, beside the status. */
@@ -444,13 +447,17 @@ enum {
  * fdb_refused count them from 1. What a reason does not name is 0. */
 typedef struct fdb_fault {
     uint64_t known;  /* the greatest that was known: of REASON_KNOWN and REASON_REPORTED */
+    uint64_t late;   /* with `has_late`, by how much the call was late, in the times' unit: the fault
+                        stands under each lesser margin; 0 where `first` had not ended by then */
     uint32_t line;   /* the line at which the fault stands */
     uint32_t other;  /* the line that reported or drew: of REASON_REPORTED and REASON_DRAWN */
     uint32_t by;     /* the line that let `known` be known; of several, any */
     uint32_t learnt; /* the line by which the client had learnt of that */
+    uint32_t first;  /* with `has_late`, the line that outdates the call and was the first to end */
     uint8_t kind;    /* FDB_FAULT_ORDER to FDB_FAULT_STRAY */
     uint8_t reason;  /* FDB_REASON_KNOWN to FDB_REASON_UNDRAWN */
     uint8_t means;   /* how `known` was known, FDB_MEANS_START to FDB_MEANS_LEARNT */
+    bool has_late;   /* whether there is such a line: of ORDER and NOT_ABOVE, in a log with times */
 } fdb_fault;
 
 /*
@@ -512,11 +519,16 @@ typedef struct fdb_audit {
 #define FDB_AUDIT_NONE {NULL}
 
 /*
- * Opens an audit of a text of JSON Lines of which nothing has come. `*audit` must be FDB_AUDIT_NONE.
+ * Opens an audit of a text of JSON Lines of which nothing has come. `key` is the name, in UTF-8, of
+ * the member that has a line's key, and each key is then judged by itself, as one register; `shown`
+ * are the names of members that the text has beside each line that it tells, parted by commas. Either
+ * may be empty: then there are no keys, and no member is shown. `*audit` must be FDB_AUDIT_NONE.
  *
- * FDB_OK, or FDB_MEMORY; `*audit` is then still none.
+ * FDB_OK, else FDB_BAD_MEMBER (`key` or `shown` is no UTF-8) or FDB_MEMORY; `*audit` is then still
+ * none.
  */
-uint8_t fdb_audit_new(const fdb_audit_options *options, fdb_audit *audit);
+uint8_t fdb_audit_new(const fdb_audit_options *options, const uint8_t *key, size_t key_length,
+                      const uint8_t *shown, size_t shown_length, fdb_audit *audit);
 
 /*
  * Takes the next bytes of the text, cut anywhere. It keeps the log's lines and not their bytes.
@@ -533,8 +545,8 @@ uint8_t fdb_audit_push(fdb_audit *audit, const uint8_t *bytes, size_t bytes_leng
  * Audits the log, which ends here, with half a line that has come last; what it kept of the log is
  * freed, and what it found stays. The audit is then over. `*audit` must be an audit.
  *
- * FDB_OK, FDB_FAULT or the refusal, as by fdb_audit_log_text for all bytes that have come; FDB_OVER
- * where it was over before. FDB_MEMORY and a refusal find nothing. `n log n` in the lines, twice.
+ * FDB_OK, FDB_FAULT or the refusal, as by fdb_audit_log_text for all bytes that have come (a key that is
+ * no string and no whole number is FDB_BAD_MEMBER, with `member` 0); FDB_OVER where it was over before. FDB_MEMORY and a refusal find nothing. `n log n` in the lines, twice.
  */
 uint8_t fdb_audit_end(fdb_audit *audit, fdb_refused *refused);
 
@@ -574,12 +586,14 @@ typedef struct fdb_watch {
 /*
  * Opens a watch of a log of which nothing has come: what `fdb_audit --follow` is (docs/FORMATS.md).
  * `key` is the name, in UTF-8, of the member that has a line's key, and each key is then watched by
- * itself; where it is empty there are no keys. `*watch` must be FDB_WATCH_NONE.
+ * itself; `shown` are the members that the text has beside each line that it tells, as for
+ * fdb_audit_new. `*watch` must be FDB_WATCH_NONE.
  *
- * FDB_OK, else FDB_BAD_MEMBER (`key` is no UTF-8) or FDB_MEMORY; `*watch` is then still none.
+ * FDB_OK, else FDB_BAD_MEMBER (`key` or `shown` is no UTF-8) or FDB_MEMORY; `*watch` is then still
+ * none.
  */
 uint8_t fdb_watch_new(const fdb_watch_options *options, const uint8_t *key, size_t key_length,
-                      fdb_watch *watch);
+                      const uint8_t *shown, size_t shown_length, fdb_watch *watch);
 
 /*
  * Takes the next bytes of a text of JSON Lines, cut anywhere. A line that is refused is left out,

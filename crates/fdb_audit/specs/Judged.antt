@@ -16,7 +16,7 @@ use Rattle.fdb_lines.specs.Listing.{faults_of}
 use Rattle.fdb_lines.specs.Reasons.{HasReason, found_of}
 use Rattle.fdb_lines.specs.Summary.{how_many, ordered, ordered_by_key, unreported, unreported_by_key}
 use Rattle.fdb_lines.specs.OrderSteps.{IsOrderOf}
-use Rattle.fdb_log_reader.specs.Columns.{ArePrinted, KeyColumn, ShownColumn}
+use Rattle.fdb_log_reader.specs.Columns.{ArePrinted, HasCells, KeyColumn, ShownColumn}
 use Rattle.fdb_log_reader.specs.Printed.{printed}
 use Rattle.fdb_log_reader.specs.Reading.{Reading, reading_with}
 use Rattle.fdb_audit.specs.Groups.{groupings, AreMostOfEach}
@@ -159,6 +159,10 @@ IsText log names opts wanted first text =
     IsTextOf log (record { lines = log.lines; names = names; numbers = []; beside = [] }) None opts wanted first text
 
 -- ---- of what was read
+
+-- where keys were kept, each line has its own
+abbrev pub HasOwnKeys : Reading → Type 0
+HasOwnKeys reading = HasCells reading.keys reading.log
 
 -- the keys of the lines, if they were kept
 abbrev pub keys_of_lines : Option KeyColumn → Option (List (Option ℕ))

@@ -10,8 +10,6 @@ use Rattle.fdb_lines.specs.Log.{lines_of}
 use Rattle.fdb_lines.specs.OrderSteps.{IsOrderOf}
 use Rattle.fdb_audit.specs.Groups.{by_client, by_member, number_of, Grouping}
 use Rattle.fdb_audit.specs.Text.{Beside, PrintedLog}
-use Rattle.fdb_log_reader.specs.Columns.{HasCells}
-use Rattle.fdb_log_reader.specs.Reading.{Reading}
 use Rattle.fdb_audit.specs.Judged.{orders_text, steps_text, AreOrders}
 use Rattle.fdb_audit.specs.declared.asked.Asked.{Asked}
 use Rattle.fdb_audit.specs.declared.asked.Order.{Order}
@@ -55,10 +53,6 @@ HasOrders log (Some keys) opts (ByKey orders) = AreOrders log keys opts orders.i
 abbrev pub order_text : Bool → PrintedLog → Order → List ℕ
 order_text json it (One steps) = steps_text json it [] steps.items
 order_text json it (ByKey orders) = orders_text json it orders.items
-
--- where keys were kept, each line has its own
-abbrev pub HasOwnKeys : Reading → Type 0
-HasOwnKeys reading = HasCells reading.keys reading.log
 
 -- ---- groups of faults
 

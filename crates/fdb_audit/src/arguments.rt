@@ -117,8 +117,9 @@ pub(crate) fn owned(alloc: Global, text: Option<&str>) -> Result<Option<String>,
     }
 }
 
-/// The members that a text names, parted by commas; none where it is not given.
-pub(crate) fn members(alloc: Global, text: Option<&str>) -> Result<Vec<String>, AllocError>
+/// The members that a text names, parted by commas, as `--show` gives them; none where there is no
+/// text. It fails only where memory is refused.
+pub fn member_names(alloc: Global, text: Option<&str>) -> Result<Vec<String>, AllocError>
     ensures { IfOk result (λ members. map string_bytes members.items
         ≡ members_named (option_map (λ text. text.now) text.entry)) }
 {

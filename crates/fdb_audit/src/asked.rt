@@ -1,6 +1,6 @@
 //! What is asked of a log, and what is found: of all lines together, or by key.
 
-ghost use Rattle.std.specs.Prelude.{◌≡◌, ◌↔◌, All, IfErr, IfOk, IfSome, None, OnErr, OnOk, Option};
+ghost use Rattle.std.specs.Prelude.{◌≡◌, ◌≢◌, ◌↔◌, All, IfErr, IfOk, IfSome, None, OnErr, OnOk, Option};
 ghost use Rattle.std.specs.Prelude.{length, map, option_map, slice_get};
 ghost use Rattle.fdb_lines.specs.Reasons.{found_of};
 ghost use Rattle.fdb_audit.specs.Judged.{faults_in, AreExplainedIn, HasLateIn, HasReasonIn};
@@ -10,7 +10,7 @@ ghost use Rattle.fdb_audit.specs.private.{keys_in, log_in, HasKeys, HasOrders};
 use crate::printer::Printer;
 use fdb_lines::{
     AuditOpts, Finding, KeyOrder, OrderStep, Summary, findings, findings_by_key, first_finding,
-    order_or_finding, orders_by_key, summary, summary_by_key,
+    order_or_findings, orders_by_key, summary, summary_by_key,
 };
 use std::alloc::{AllocError, Global};
 
@@ -82,8 +82,8 @@ impl Asked<'_> {
         }
     }
 
-    /// An order that explains the lines, or one for the lines of each key; or the first fault.
-    pub(crate) fn order(self, alloc: Global) -> Result<Result<Order, Finding>, AllocError>
+    /// An order that explains the lines, or one for the lines of each key; or all faults.
+    pub(crate) fn order(self, alloc: Global) -> Result<Result<Order, Vec<Finding>>, AllocError>
         requires { HasKeys self }
         ensures orders { IfOk result (λ it. IfOk it
             (HasOrders (log_in self.entry) (keys_in self.entry) self.entry.opts.now)) }
@@ -91,21 +91,22 @@ impl Asked<'_> {
             (AreExplainedIn (log_in self.entry) (keys_in self.entry) self.entry.opts.now)) }
         ensures unexplained { IfOk result (λ it. OnErr it
             (¬ (AreExplainedIn (log_in self.entry) (keys_in self.entry) self.entry.opts.now))) }
-        ensures first { IfOk result (λ it. IfErr it (λ first. Some (found_of first)
-            ≡ slice_get (faults_in (log_in self.entry) (keys_in self.entry) self.entry.opts.now) 0)) }
-        ensures reason { IfOk result (λ it. IfErr it
-            (HasReasonIn (log_in self.entry) (keys_in self.entry) self.entry.opts.now)) }
-        ensures late { IfOk result (λ it. IfErr it
-            (HasLateIn (log_in self.entry) (keys_in self.entry) self.entry.opts.now)) }
+        ensures listed { IfOk result (λ it. IfErr it (λ found. map found_of found.items
+            ≡ faults_in (log_in self.entry) (keys_in self.entry) self.entry.opts.now)) }
+        ensures some { IfOk result (λ it. IfErr it (λ found. length found.items ≢ 0)) }
+        ensures reasons { IfOk result (λ it. IfErr it (λ found. All
+            (HasReasonIn (log_in self.entry) (keys_in self.entry) self.entry.opts.now) found.items)) }
+        ensures late { IfOk result (λ it. IfErr it (λ found. All
+            (HasLateIn (log_in self.entry) (keys_in self.entry) self.entry.opts.now) found.items)) }
     {
         match self.keys {
             Some(keys) => match orders_by_key(alloc, self.printer.log, keys, self.opts)? {
                 Ok(orders) => Ok(Ok(Order::ByKey(orders))),
-                Err(first) => Ok(Err(first)),
+                Err(found) => Ok(Err(found)),
             },
-            None => match order_or_finding(alloc, self.printer.log, self.opts)? {
+            None => match order_or_findings(alloc, self.printer.log, self.opts)? {
                 Ok(steps) => Ok(Ok(Order::One(steps))),
-                Err(first) => Ok(Err(first)),
+                Err(found) => Ok(Err(found)),
             },
         }
     }

@@ -11,7 +11,7 @@ ghost use Rattle.fdb_audit.specs.Program.{AreLeftBy, PrintsBy};
 ghost use Rattle.fdb_audit.specs.Watched.{HasFollowed, IsFollowed};
 ghost use Rattle.fdb_command.specs.Driving.{IsBegun, IsDriven, Stops};
 
-use crate::arguments::{AuditArguments, command, members, owned, text, wanted_of};
+use crate::arguments::{AuditArguments, command, member_names, owned, text, wanted_of};
 use crate::fault::{LogFault, told};
 use crate::followed_log::FollowedLog;
 use crate::follower::{Followed, Said};
@@ -81,7 +81,7 @@ impl Program for Audit {
             wanted,
             keep: owned(alloc, keep)?,
             key: owned(alloc, text(matches, "key"))?,
-            shown: members(alloc, text(matches, "show"))?,
+            shown: member_names(alloc, text(matches, "show"))?,
             progress: is_given(matches, "progress"),
         })
     }

@@ -11,8 +11,8 @@ ghost use Rattle.fdb_lines.specs.Audit.{AreExplained, case_of};
 ghost use Rattle.fdb_lines.specs.Log.{lines_of};
 ghost use Rattle.fdb_log_reader.specs.Reading.{reading_in, reading_of, ReadsAs};
 ghost use Rattle.fdb_audit.specs.Judged.{IsJudgement, IsSummary, IsText, IsTextOf};
-ghost use Rattle.fdb_audit.specs.Judged.{keys_of_lines, IsTextOfReading};
-ghost use Rattle.fdb_audit.specs.private.{keys_in, log_in, shown_in, HasKeys, HasOwnKeys};
+ghost use Rattle.fdb_audit.specs.Judged.{keys_of_lines, HasOwnKeys, IsTextOfReading};
+ghost use Rattle.fdb_audit.specs.private.{keys_in, log_in, shown_in, HasKeys};
 
 use crate::asked::Asked;
 use crate::beside::members_beside;
@@ -89,11 +89,8 @@ pub(crate) fn judge_asked(
     if wanted.history {
         return match asked.order(alloc)? {
             Ok(order) => explained(alloc, asked, &order, wanted),
-            Err(_) if wanted.all || wanted.totals => {
-                let found = asked.findings(alloc)?;
-                listed(alloc, asked, &found, wanted)
-            }
-            Err(first) => one_fault(alloc, asked, first, wanted),
+            Err(found) if wanted.all || wanted.totals => listed(alloc, asked, &found, wanted),
+            Err(found) => one_fault(alloc, asked, found[0], wanted),
         };
     }
     if wanted.all || wanted.totals {
@@ -181,9 +178,12 @@ fn read(alloc: Global, bytes: &[u8]) -> Result<NamedLog, ReadError>
     reader.finish()
 }
 
-/// Audits a log that was read: by key, where the keys of its lines were kept. Clients and keys are
-/// printed as JSON strings, and what is shown of lines as JSON.
-fn judge_named<'x>(
+/// Audits a log that was read: by key, where the keys of its lines were kept, as a
+/// [`fdb_log_reader::LogReader`] keeps one for each line. Clients and keys are printed as JSON strings,
+/// and what is shown of lines as JSON. It fails only where memory is refused.
+///
+/// `n log n` in how many lines there are, and linear in what is printed.
+pub fn judge_named<'x>(
     alloc: Global,
     named: &'x NamedLog,
     opts: &'x AuditOpts,

@@ -1,7 +1,8 @@
 //! The audit of the logs of any system that has read versions and commit versions.
 //!
 //! [`judge`] judges the lines of a [`fdb_lines::Log`] and says what it finds as a text, in words of
-//! the log; [`judge_text`] reads the log from JSON Lines.
+//! the log; [`judge_text`] reads the log from JSON Lines, and [`judge_named`] takes one that was read,
+//! with its keys and what is shown of its lines.
 #![tactic(auto)]
 
 mod arguments;
@@ -32,11 +33,11 @@ mod total_object;
 mod totals;
 mod verdict;
 
-pub use arguments::AuditArguments;
+pub use arguments::{AuditArguments, member_names};
 pub use audit_program::{Audit, AuditIntake, MAX_LOG_BYTES, drive};
 pub use fault::LogFault;
 pub use fdb_command::command_line;
 pub use followed_log::FollowedLog;
 pub use follower::{Followed, Follower, Said, Stopped};
-pub use judged::{Judgement, Wanted, judge, judge_text};
+pub use judged::{Judgement, Wanted, judge, judge_named, judge_text};
 pub use refused::{KeptRefused, LogsRefused};

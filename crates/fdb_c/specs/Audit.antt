@@ -1,18 +1,16 @@
 -- What C asks of an audit, and what it is told.
-use Rattle.std.specs.Prelude.{◌≡◌, ◌≢◌, ℕ, ◌+◌, ◌<◌, ◌==◌, ◌++◌, Bool, false, List, [], ◌∷◌, All, drop, length, map, Option, None, Some, option_map, Result, Ok, Err, if◌then◌else◌}
+use Rattle.std.specs.Prelude.{◌≡◌, ◌≢◌, ℕ, ◌+◌, ◌<◌, ◌==◌, ◌++◌, Bool, true, false, List, [], ◌∷◌, drop, length, map, Option, None, Some, option_map, string_bytes, Result, Ok, Err, if◌then◌else◌}
 use Rattle.std.specs.BTreeSet.{BTreeSet, contains}
 use Rattle.std.specs.List.{list_any}
 use Rattle.std.specs.Ordering.{nat_cmp}
-use Rattle.fdb_lines.specs.Audit.{case_of}
 use Rattle.fdb_lines.specs.Lines.{Lines, same_client}
-use Rattle.fdb_lines.specs.Listing.{faults_of}
-use Rattle.fdb_lines.specs.Reasons.{HasReason, found_of}
 use Rattle.fdb_lines.specs.declared.fault.Fault.{Fault}
 use Rattle.fdb_lines.specs.declared.fault.Fault.TheVariants as fault
 use Rattle.fdb_lines.specs.declared.line.Operation.{Operation}
 use Rattle.fdb_lines.specs.declared.line.Operation.TheVariants as made
 use Rattle.fdb_lines.specs.declared.line.Line.{Line}
 use Rattle.fdb_lines.specs.declared.line.Times.{Times}
+use Rattle.fdb_lines.specs.declared.late.Late.{Late}
 use Rattle.fdb_lines.specs.declared.opts.AuditOpts.{AuditOpts}
 use Rattle.fdb_lines.specs.declared.reason.Finding.{Finding}
 use Rattle.fdb_lines.specs.declared.reason.Means.{Means}
@@ -27,6 +25,9 @@ use Rattle.fdb_log_reader.specs.declared.error.Why.{Why}
 use Rattle.fdb_log_reader.specs.declared.error.Why.TheVariants as why
 use Rattle.fdb_log_reader.specs.declared.member.Member.{Member}
 use Rattle.fdb_log_reader.specs.declared.member.Member.TheVariants as member
+use Rattle.fdb_audit.specs.Judged.{AreAll}
+use Rattle.fdb_audit.specs.Program.{members_named}
+use Rattle.fdb_audit.specs.declared.arguments.AuditArguments.{AuditArguments}
 use Rattle.fdb_audit.specs.declared.judged.Wanted.{Wanted}
 use Rattle.fdb_c.specs.declared.audit.FdbAuditOptions.{FdbAuditOptions}
 use Rattle.fdb_c.specs.declared.audit.FdbRefused.{FdbRefused}
@@ -45,7 +46,40 @@ abbrev pub opts_of : FdbAuditOptions → AuditOpts
 opts_of options = record { complete = complete_of options; margin = options.margin }
 
 abbrev pub wanted_of : FdbAuditOptions → Wanted
-wanted_of options = record { history = options.history; all = options.all; totals = false; json = false }
+wanted_of options = record { history = options.history; all = options.all; totals = options.totals; json = options.json }
+
+-- What the arguments of an audit ask: the version that all began with and the margin, what is printed, the member that has the
+-- keys, and those that are printed beside the lines.
+pub record Asked : Type 0 where
+  pub opts : AuditOpts
+  pub wanted : Wanted
+  pub key : Option (List ℕ)
+  pub shown : List (List ℕ)
+
+abbrev pub asked_in : AuditArguments → Asked
+asked_in arguments = record {
+  opts = arguments.opts;
+  wanted = arguments.wanted;
+  key = option_map string_bytes arguments.key;
+  shown = map string_bytes arguments.shown.items;
+}
+
+-- a text, unless it is empty
+abbrev pub unless_empty : List ℕ → Option (List ℕ)
+unless_empty [] = None
+unless_empty (byte ∷ bytes) = Some (byte ∷ bytes)
+
+-- with the members of these names: that of the keys, and those that are shown, parted by commas; none where the text is empty
+abbrev pub asked_with : AuditOpts → Wanted → List ℕ → List ℕ → Asked
+asked_with opts wanted key shown = record {
+  opts = opts;
+  wanted = wanted;
+  key = unless_empty key;
+  shown = members_named (unless_empty shown);
+}
+
+abbrev pub asked_by : FdbAuditOptions → List ℕ → List ℕ → Asked
+asked_by options key shown = asked_with (opts_of options) (wanted_of options) key shown
 
 -- ---- the log that an array of calls stands for
 
@@ -180,26 +214,32 @@ learnt_by (Some by) = teller_in by.means
 abbrev pub plain : Finding → ℕ → ℕ → FdbFault
 plain finding why other = record {
   known = 0;
+  late = 0;
   line = finding.found.line;
   other = other;
   by = 0;
   learnt = 0;
+  first = 0;
   kind = number_of_fault finding.found.fault;
   reason = why;
   means = 0;
+  has_late = false;
 }
 
 -- a fault whose reason is that a version was known
 abbrev pub knowing : Finding → ℕ → ℕ → ℕ → Option Witness → FdbFault
 knowing finding why other version by = record {
   known = version;
+  late = 0;
   line = finding.found.line;
   other = other;
   by = line_by by;
   learnt = learnt_by by;
+  first = 0;
   kind = number_of_fault finding.found.fault;
   reason = why;
   means = means_by by;
+  has_late = false;
 }
 
 -- a fault with its reason
@@ -210,15 +250,19 @@ told_with finding (reason.Reported line version by) = knowing finding FDB_REASON
 told_with finding (reason.Drawn line) = plain finding FDB_REASON_DRAWN line
 told_with finding reason.Undrawn = plain finding FDB_REASON_UNDRAWN 0
 
+-- with how late the call was, where a line of another call outdates it
+abbrev pub with_late : FdbFault → Option Late → FdbFault
+with_late fault None = fault
+with_late fault (Some it) = record fault { late = it.by; first = it.line; has_late = true }
+
 -- A fault, as C is told of it.
 abbrev pub told : Finding → FdbFault
-told finding = told_with finding finding.reason
+told finding = with_late (told_with finding finding.reason) finding.late
 
--- All faults of a log, each once and by line, with a reason that is true of the lines.
-abbrev pub AreFaults : Lines → AuditOpts → List FdbFault → Type 0
-AreFaults log opts faults =
-    (found : List Finding) × (map found_of found ≡ faults_of (case_of log opts)) × All (HasReason log opts) found
-    × (faults ≡ map told found)
+-- All faults of a log, each once and by line, with a reason that is true of the lines, and how late the call was: of all lines
+-- together or, where they have keys, of those of each key by themselves.
+abbrev pub AreFaults : Lines → Option (List (Option ℕ)) → AuditOpts → List FdbFault → Type 0
+AreFaults log keys opts faults = (found : List Finding) × AreAll log keys opts found × (faults ≡ map told found)
 
 -- ---- what is written
 

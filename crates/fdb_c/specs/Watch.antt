@@ -1,5 +1,5 @@
--- How C asks for a watch, what a watch is, and what it has told. (this product's own)
-use Rattle.std.specs.Prelude.{◌≡◌, ℕ, ◌++◌, Bool, true, false, List, [], ◌∷◌, Option, None, Some, map, option_map, string_bytes}
+-- What C asks of a watch, what a watch is, and what it has told. (this product's own)
+use Rattle.std.specs.Prelude.{◌≡◌, ℕ, ◌++◌, Bool, true, false, List, [], Option, None, Some}
 use Rattle.fdb_lines.specs.declared.opts.AuditOpts.{AuditOpts}
 use Rattle.fdb_audit.specs.Following.{none_kept}
 use Rattle.fdb_audit.specs.Watched.{AreAllTaken, AreLeftOut, HasFollowed, IsFollowed}
@@ -7,39 +7,17 @@ use Rattle.fdb_audit.specs.declared.arguments.AuditArguments.{AuditArguments}
 use Rattle.fdb_audit.specs.declared.fault.LogFault.{LogFault}
 use Rattle.fdb_audit.specs.declared.follower.Follower.{Follower}
 use Rattle.fdb_audit.specs.declared.judged.Wanted.{Wanted}
+use Rattle.fdb_c.specs.Audit.{Asked, asked_in}
 use Rattle.fdb_c.specs.declared.watch_options.FdbWatchOptions.{FdbWatchOptions}
 
 -- ---- what is asked
 
--- What the arguments of an audit ask of a log that is followed: the margin, what is printed, the member that has the keys, and
--- those that are printed beside the lines.
-pub record Asked : Type 0 where
-  pub opts : AuditOpts
-  pub wanted : Wanted
-  pub key : Option (List ℕ)
-  pub shown : List (List ℕ)
+abbrev pub opts_in : FdbWatchOptions → AuditOpts
+opts_in options = record { complete = None; margin = options.margin }
 
-abbrev pub asked_in : AuditArguments → Asked
-asked_in arguments = record {
-  opts = arguments.opts;
-  wanted = arguments.wanted;
-  key = option_map string_bytes arguments.key;
-  shown = map string_bytes arguments.shown.items;
-}
-
--- the member that has the keys: none where its name is empty
-abbrev pub key_in : List ℕ → Option (List ℕ)
-key_in [] = None
-key_in (byte ∷ bytes) = Some (byte ∷ bytes)
-
--- What C asks for: all faults are told.
-abbrev pub asked_by : FdbWatchOptions → List ℕ → Asked
-asked_by options key = record {
-  opts = record { complete = None; margin = options.margin };
-  wanted = record { history = false; all = true; totals = options.totals; json = options.json };
-  key = key_in key;
-  shown = [];
-}
+-- all faults are told
+abbrev pub wanted_in : FdbWatchOptions → Wanted
+wanted_in options = record { history = false; all = true; totals = options.totals; json = options.json }
 
 -- ---- what a watch is
 
@@ -53,9 +31,9 @@ pub record Watch : Type 0 where
   pub warnings : List ℕ
   pub is_over : Bool
 
-abbrev pub new_watch : FdbWatchOptions → List ℕ → Watch
-new_watch options key = record {
-  asked = asked_by options key;
+abbrev pub new_watch : Asked → Watch
+new_watch asked = record {
+  asked = asked;
   bytes = [];
   told = [];
   text = [];

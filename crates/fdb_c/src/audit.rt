@@ -51,6 +51,11 @@ pub struct FdbAuditOptions {
     pub all: bool,
     /// Whether the text has an order that explains the lines, where no fault stands.
     pub history: bool,
+    /// Whether the text ends with how much was judged and how many faults there are of each kind,
+    /// where one stands; without `all` it has these alone.
+    pub totals: bool,
+    /// Whether the text has JSON objects, and not sentences.
+    pub json: bool,
 }
 
 /// Why a log is refused, beside the status.
@@ -91,8 +96,8 @@ pub(crate) fn wanted_of(options: FdbAuditOptions) -> Wanted
     Wanted {
         history: options.history,
         all: options.all,
-        totals: false,
-        json: false,
+        totals: options.totals,
+        json: options.json,
     }
 }
 

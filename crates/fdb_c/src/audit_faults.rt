@@ -1,10 +1,10 @@
-//! Faults as C is told of them, each with why it stands.
+//! Faults as C is told of them, each with why it stands and how late it was.
 
 ghost use Rattle.std.specs.Prelude.{◌≡◌};
 ghost use Rattle.fdb_c.specs.Audit.{knowing, learnt_by, line_by, means_by, number_of_fault};
-ghost use Rattle.fdb_c.specs.Audit.{plain, told};
+ghost use Rattle.fdb_c.specs.Audit.{plain, told, told_with, with_late};
 
-use fdb_lines::{Fault, Finding, Means, Reason, Witness};
+use fdb_lines::{Fault, Finding, Late, Means, Reason, Witness};
 
 /// A read below what its caller knew.
 pub const FDB_FAULT_ORDER: u8 = 1;
@@ -54,6 +54,8 @@ pub const FDB_MEANS_LEARNT: u8 = 4;
 pub struct FdbFault {
     /// The version that was known.
     pub known: u64,
+    /// By how much the call was late, where `has_late` holds.
+    pub late: u64,
     /// The line at which it stands.
     pub line: u32,
     /// The first line that reports the version, or the line that drew it.
@@ -62,12 +64,16 @@ pub struct FdbFault {
     pub by: u32,
     /// The line by which the client had learnt of that one.
     pub learnt: u32,
+    /// The line that outdates the call and ended first, where `has_late` holds.
+    pub first: u32,
     /// `FDB_FAULT_ORDER` to `FDB_FAULT_STRAY`.
     pub kind: u8,
     /// `FDB_REASON_KNOWN` to `FDB_REASON_UNDRAWN`.
     pub reason: u8,
     /// How the version was known, `FDB_MEANS_START` to `FDB_MEANS_LEARNT`.
     pub means: u8,
+    /// Whether a line of another call outdates it.
+    pub has_late: bool,
 }
 
 /// A fault's number.
@@ -126,13 +132,16 @@ fn plain(finding: Finding, reason: u8, other: u32) -> FdbFault
 {
     FdbFault {
         known: 0,
+        late: 0,
         line: finding.found.line,
         other,
         by: 0,
         learnt: 0,
+        first: 0,
         kind: number_of_fault(finding.found.fault),
         reason,
         means: 0,
+        has_late: false,
     }
 }
 
@@ -142,19 +151,44 @@ fn knowing(finding: Finding, reason: u8, other: u32, version: u64, by: Option<Wi
 {
     FdbFault {
         known: version,
+        late: 0,
         line: finding.found.line,
         other,
         by: line_by(by),
         learnt: learnt_by(by),
+        first: 0,
         kind: number_of_fault(finding.found.fault),
         reason,
         means: means_by(by),
+        has_late: false,
+    }
+}
+
+/// A fault, with how late the call was, where it was.
+fn with_late(fault: FdbFault, late: Option<Late>) -> FdbFault
+    ensures { result ≡ with_late fault late }
+{
+    match late {
+        None => fault,
+        Some(Late { line, by }) => FdbFault {
+            late: by,
+            first: line,
+            has_late: true,
+            ..fault
+        },
     }
 }
 
 /// A fault, as C is told of it.
 pub(crate) fn told(finding: Finding) -> FdbFault
     ensures { result ≡ told finding }
+{
+    with_late(told_with(finding), finding.late)
+}
+
+/// A fault with its reason.
+fn told_with(finding: Finding) -> FdbFault
+    ensures { result ≡ told_with finding finding.reason }
 {
     match finding.reason {
         Reason::Known { version, by } => knowing(finding, FDB_REASON_KNOWN, 0, version, by),

@@ -1,6 +1,6 @@
 //! The audit of a log, as a list of faults.
 
-ghost use Rattle.std.specs.Prelude.{◌≡◌, ◌⊎◌, ◌+◌, ◌≤◌, ◌++◌, List, Ok, Err, IfOk};
+ghost use Rattle.std.specs.Prelude.{◌≡◌, ◌⊎◌, ◌+◌, ◌≤◌, ◌++◌, List, None, Ok, Err, IfOk};
 ghost use Rattle.std.specs.Prelude.{false, true};
 ghost use Rattle.std.specs.Prelude.{OnErr, drop, length, map};
 ghost use Rattle.fdb_lines.specs.Audit.{AreExplained, case_of};
@@ -58,11 +58,11 @@ fn list(
         × (faults.new ≡ faults.old) × (size.new ≡ 0)) }
     ensures fault { IfOk result (λ status. (status ≡ FDB_FAULT)
         → (¬ (AreExplained (case_of (lines_of log.now) (opts_of options))))
-        × (written : List FdbFault) × AreFaults (lines_of log.now) (opts_of options) written
+        × (written : List FdbFault) × AreFaults (lines_of log.now) None (opts_of options) written
         × IsWritten written faults.old faults.new size.new) }
     ensures room { IfOk result (λ status. (status ≡ FDB_ROOM)
         → (¬ (AreExplained (case_of (lines_of log.now) (opts_of options))))
-        × (written : List FdbFault) × AreFaults (lines_of log.now) (opts_of options) written
+        × (written : List FdbFault) × AreFaults (lines_of log.now) None (opts_of options) written
         × HasNoRoom written faults.old faults.new size.new) }
     ensures statuses { IfOk result
         (λ status. (status ≡ FDB_OK) ⊎ (status ≡ FDB_FAULT) ⊎ (status ≡ FDB_ROOM)) }
@@ -97,11 +97,11 @@ pub extern "C" fn fdb_audit_log_faults(
         × (faults.new ≡ faults.old) × (size.new ≡ 0) }
     ensures fault { (result ≡ FDB_FAULT) → (reading : Reading) × (reading_in log.now ≡ Ok reading)
         × (¬ (AreExplained (case_of reading.log (opts_of options.now))))
-        × (written : List FdbFault) × AreFaults reading.log (opts_of options.now) written
+        × (written : List FdbFault) × AreFaults reading.log None (opts_of options.now) written
         × IsWritten written faults.old faults.new size.new }
     ensures room { (result ≡ FDB_ROOM) → (reading : Reading) × (reading_in log.now ≡ Ok reading)
         × (¬ (AreExplained (case_of reading.log (opts_of options.now))))
-        × (written : List FdbFault) × AreFaults reading.log (opts_of options.now) written
+        × (written : List FdbFault) × AreFaults reading.log None (opts_of options.now) written
         × HasNoRoom written faults.old faults.new size.new }
     ensures refused { IsRefusal result → (error : ReadError) × (reading_in log.now ≡ Err error)
         × (result ≡ status_of error.why) × (refused.new ≡ refused_of error) }
@@ -133,11 +133,11 @@ pub extern "C" fn fdb_audit_calls_faults(
         × (faults.new ≡ faults.old) × (size.new ≡ 0) }
     ensures fault { (result ≡ FDB_FAULT) → (log : Lines) × (log_in calls.now ≡ Ok log)
         × (¬ (AreExplained (case_of log (opts_of options.now))))
-        × (written : List FdbFault) × AreFaults log (opts_of options.now) written
+        × (written : List FdbFault) × AreFaults log None (opts_of options.now) written
         × IsWritten written faults.old faults.new size.new }
     ensures room { (result ≡ FDB_ROOM) → (log : Lines) × (log_in calls.now ≡ Ok log)
         × (¬ (AreExplained (case_of log (opts_of options.now))))
-        × (written : List FdbFault) × AreFaults log (opts_of options.now) written
+        × (written : List FdbFault) × AreFaults log None (opts_of options.now) written
         × HasNoRoom written faults.old faults.new size.new }
     ensures refused { IsRefusal result → (error : ReadError) × (log_in calls.now ≡ Err error)
         × (result ≡ status_of error.why) × (refused.new ≡ refused_of error) }

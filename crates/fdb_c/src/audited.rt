@@ -1,21 +1,21 @@
 //! A log that is audited piece by piece, and what was found.
 
-ghost use Rattle.std.specs.Prelude.{◌≡◌, ◌≢◌, ◌↔◌, ◌⊎◌, ◌++◌, Err, IfOk, List, None, Option, Some};
-ghost use Rattle.std.specs.Prelude.{false, map, string_bytes, true, ℕ};
+ghost use Rattle.std.specs.Prelude.{◌≡◌, ◌≢◌, ◌↔◌, ◌⊎◌, ◌++◌, Err, IfOk, None, Some};
+ghost use Rattle.std.specs.Prelude.{false, map, string_bytes, true};
 ghost use Rattle.fdb_lines.specs.declared.fault.Found.{Found};
-ghost use Rattle.fdb_lines.specs.Log.{lines_of};
-ghost use Rattle.fdb_log_reader.specs.Printed.{printed};
-ghost use Rattle.fdb_log_reader.specs.Reading.{reading_in, reading_of};
+ghost use Rattle.fdb_log_reader.specs.Reading.{reading_of};
 ghost use Rattle.fdb_log_reader.specs.declared.error.ReadError.{ReadError};
-ghost use Rattle.fdb_c.specs.Audit.{IsRefusal, refused_of, status_of, told};
+ghost use Rattle.fdb_audit.specs.Judged.{AreAll, HasOwnKeys, keys_of_lines};
+ghost use Rattle.fdb_c.specs.Audit.{IsRefusal, asked_by, asked_in, refused_of, status_of, told};
 ghost use Rattle.fdb_c.specs.Audited.{HasFound, HasFoundFault, IsEnded, IsFoundOf, IsRefusedFor};
-ghost use Rattle.fdb_c.specs.Audited.{fed, new_audit, over};
+ghost use Rattle.fdb_c.specs.Audited.{fed, new_audit, over, reading_by};
 
+use crate::asked::asked_with;
 use crate::audit::{FdbAuditOptions, FdbRefused, opts_of, refuse, wanted_of};
 use crate::status::{FDB_FAULT, FDB_MEMORY, FDB_OK, FDB_OVER};
 use crate::story::Story;
-use fdb_audit::judge;
-use fdb_lines::{Finding, Found, Log, findings};
+use fdb_audit::{AuditArguments, judge_named};
+use fdb_lines::{AuditOpts, Finding, Found, findings, findings_by_key};
 use fdb_log_reader::{LogReader, NamedLog};
 use std::alloc::{AllocError, Global};
 use std::marker::Model;
@@ -24,7 +24,7 @@ use std::mem;
 /// A log of which a part has come, or what was found of it.
 #[derive(Drop)]
 pub struct Audited {
-    options: FdbAuditOptions,
+    asked: AuditArguments,
     /// None once the log has ended or was refused, or memory was.
     reader: Option<LogReader>,
     /// What was found, once the log has ended.
@@ -35,21 +35,21 @@ pub struct Audited {
 
 impl Model for Audited {
     ghost use Rattle.std.specs.Prelude.{IfSome, is_none, map, string_bytes};
-    ghost use Rattle.fdb_c.specs.Audit.{told};
+    ghost use Rattle.fdb_c.specs.Audit.{asked_in, told};
     ghost use Rattle.fdb_c.specs.Audited.{AuditState, ReadsOn};
 
     ghost Value = { AuditState };
 
     ghost view = { λ it.
         record {
-          options = it.options;
+          asked = asked_in it.asked;
           bytes = it.story.bytes;
           text = string_bytes it.text;
           faults = map told it.faults.items;
           is_over = is_none it.reader;
         } };
 
-    ghost invariant = { λ it. IfSome it.reader (ReadsOn it.story.bytes) };
+    ghost invariant = { λ it. IfSome it.reader (ReadsOn (asked_in it.asked) it.story.bytes) };
 }
 
 /// What was found of a log.
@@ -60,19 +60,18 @@ pub(crate) struct FoundOf {
     faults: Vec<Finding>,
 }
 
-/// What is found of a log whose clients are printed by these names.
+/// What is found of a log that was read.
 fn found_of(
     alloc: Global,
-    log: &Log,
-    names: &[String],
-    options: FdbAuditOptions,
+    named: &NamedLog,
+    asked: &AuditArguments,
 ) -> Result<FoundOf, AllocError>
-    ensures { IfOk result (λ it. IsFoundOf (lines_of log.now) (map string_bytes names.now) options
+    requires { HasOwnKeys (reading_of named.now) }
+    ensures { IfOk result (λ it. IsFoundOf (reading_of named.now) (asked_in asked.now)
         it.first (string_bytes it.text) (map told it.faults.items)) }
 {
-    let opts = opts_of(options);
-    let judged = judge(alloc, log, names, &opts, wanted_of(options))?;
-    let faults = findings(alloc, log, &opts)?;
+    let judged = judge_named(alloc, named, &asked.opts, asked.wanted)?;
+    let faults = faults_of(alloc, named, &asked.opts)?;
     Ok(FoundOf {
         first: judged.fault,
         text: judged.text,
@@ -80,19 +79,20 @@ fn found_of(
     })
 }
 
-/// What is found of a log that was read.
-fn found_of_named(
+/// All faults of a log that was read, or of the lines of each key where their keys were kept.
+fn faults_of(
     alloc: Global,
     named: &NamedLog,
-    options: FdbAuditOptions,
-) -> Result<FoundOf, AllocError>
-    ensures { IfOk result (λ it. IsFoundOf (reading_of named.now).log
-        (map printed (reading_of named.now).names) options
-        it.first (string_bytes it.text) (map told it.faults.items)) }
+    opts: &AuditOpts,
+) -> Result<Vec<Finding>, AllocError>
+    requires { HasOwnKeys (reading_of named.now) }
+    ensures { IfOk result (λ found. AreAll (reading_of named.now).log
+        (keys_of_lines (reading_of named.now).keys) opts.now found.items) }
 {
-    let names = named.names.printed(alloc)?;
-    let found = found_of(alloc, &named.log, &names, options)?;
-    Ok(found)
+    match &named.keys {
+        Some(keys) => findings_by_key(alloc, &named.log, keys.numbers(), opts),
+        None => findings(alloc, &named.log, opts),
+    }
 }
 
 /// The verdict.
@@ -109,16 +109,24 @@ fn verdict_of(first: Option<Found>) -> u8
 
 impl Audited {
     /// An audit of a log of which nothing has come.
-    pub(crate) fn new(alloc: Global, options: FdbAuditOptions) -> Self
-        ensures { result ≡ new_audit options }
+    pub(crate) fn new(
+        alloc: Global,
+        options: FdbAuditOptions,
+        key: &str,
+        shown: &str,
+    ) -> Result<Self, AllocError>
+        ensures { IfOk result
+            (λ audited. audited ≡ new_audit (asked_by options key.now shown.now)) }
     {
-        Audited {
-            options,
-            reader: Some(LogReader::new(alloc)),
+        let asked = asked_with(alloc, opts_of(options), None, wanted_of(options), key, shown)?;
+        let reader = LogReader::with_columns(alloc, asked.key.as_deref(), &asked.shown)?;
+        Ok(Audited {
+            asked,
+            reader: Some(reader),
             text: String::new(alloc),
             faults: Vec::new(alloc),
             story: Story::new(),
-        }
+        })
     }
 
     /// What was found, as a text.
@@ -165,7 +173,7 @@ impl Audited {
         ensures ok { (result ≡ FDB_OK) → HasFound self.new None }
         ensures fault { (result ≡ FDB_FAULT) → HasFoundFault self.new }
         ensures refused { IsRefusal result → (result ≢ FDB_OVER) → (error : ReadError)
-            × (reading_in self.old.bytes ≡ Err error)
+            × (reading_by self.old.asked self.old.bytes ≡ Err error)
             × (result ≡ status_of error.why) × (refused.new ≡ refused_of error) }
         ensures untold { ¬ IsRefusal result → refused.new ≡ refused.old }
         ensures over { (result ≡ FDB_OVER) ↔ (self.old.is_over ≡ true) }
@@ -179,7 +187,7 @@ impl Audited {
             Ok(named) => named,
             Err(error) => return refuse(error, refused),
         };
-        match found_of_named(alloc, &named, self.options) {
+        match found_of(alloc, &named, &self.asked) {
             Ok(found) => {
                 self.text = found.text;
                 self.faults = found.faults;

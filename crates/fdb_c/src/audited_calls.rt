@@ -2,12 +2,14 @@
 
 ghost use Rattle.std.specs.Prelude.{◌≡◌, ◌≢◌, ◌↔◌, ◌⊎◌, Err, IfOk, IfSome, IsNone, IsSome, None};
 ghost use Rattle.std.specs.Prelude.{Some, true};
-ghost use Rattle.fdb_log_reader.specs.Reading.{reading_in};
+ghost use Rattle.core.specs.Str.{IsUtf8};
 ghost use Rattle.fdb_log_reader.specs.declared.error.ReadError.{ReadError};
-ghost use Rattle.fdb_c.specs.Audit.{HasNoRoom, IsRefusal, IsWritten, refused_of, status_of};
+ghost use Rattle.fdb_c.specs.Audit.{HasNoRoom, IsRefusal, IsWritten, asked_by, refused_of};
+ghost use Rattle.fdb_c.specs.Audit.{status_of};
 ghost use Rattle.fdb_c.specs.Audited.{HasFound, HasFoundFault, IsEnded, IsRefusedFor, fed};
-ghost use Rattle.fdb_c.specs.Audited.{new_audit, over};
+ghost use Rattle.fdb_c.specs.Audited.{new_audit, over, reading_by};
 
+use crate::asked::texts_of;
 use crate::audit::{FdbAuditOptions, FdbRefused};
 use crate::audit_faults::FdbFault;
 use crate::audit_handle::FdbAudit;
@@ -16,21 +18,47 @@ use crate::audit_text::write_text;
 use crate::audited::Audited;
 use crate::held::Held;
 use crate::parts::boxed;
-use crate::status::{FDB_FAULT, FDB_MEMORY, FDB_OK, FDB_OVER, FDB_ROOM, status_of_writing};
-use std::alloc::Global;
+use crate::status::{
+    FDB_BAD_MEMBER, FDB_FAULT, FDB_MEMORY, FDB_OK, FDB_OVER, FDB_ROOM, status_of_writing,
+};
+use std::alloc::{AllocError, Global};
 
-/// Opens an audit of a log of which nothing has come. Refused, it leaves the handle none.
+/// An audit in a box of its own.
+fn opened(
+    alloc: Global,
+    options: FdbAuditOptions,
+    key: &str,
+    shown: &str,
+) -> Result<Box<Audited>, AllocError>
+    ensures { IfOk result
+        (λ made. made.value ≡ new_audit (asked_by options key.now shown.now)) }
+{
+    let made = Audited::new(alloc, options, key, shown)?;
+    boxed(alloc, made)
+}
+
+/// Opens an audit of a log of which nothing has come. `key` names the member that has the keys, and
+/// `shown` those that are shown, parted by commas; either may be empty. Refused, it leaves the handle
+/// none.
 #[unsafe(no_mangle)]
 pub extern "C" fn fdb_audit_new(
     alloc: Global,
     options: &FdbAuditOptions,
+    key: &[u8],
+    shown: &[u8],
     audit: &mut FdbAudit,
 ) -> u8
     requires { IsNone audit.old.audit }
-    ensures ok { (result ≡ FDB_OK) → audit.new.audit ≡ Some (new_audit options.now) }
-    ensures refused { (result ≢ FDB_OK) → (result ≡ FDB_MEMORY) × (audit.new.audit ≡ None) }
+    ensures ok { (result ≡ FDB_OK)
+        → audit.new.audit ≡ Some (new_audit (asked_by options.now key.now shown.now)) }
+    ensures refused { (result ≢ FDB_OK) → audit.new.audit ≡ None }
+    ensures bad_member { (result ≡ FDB_BAD_MEMBER) ↔ ¬ (IsUtf8 key.now × IsUtf8 shown.now) }
+    ensures statuses { (result ≡ FDB_OK) ⊎ (result ≡ FDB_BAD_MEMBER) ⊎ (result ≡ FDB_MEMORY) }
 {
-    match boxed(alloc, Audited::new(alloc, *options)) {
+    let Some((key, shown)) = texts_of(key, shown) else {
+        return FDB_BAD_MEMBER;
+    };
+    match opened(alloc, *options, key, shown) {
         Ok(made) => {
             audit.swap(Held::new(made)).gone();
             FDB_OK
@@ -76,7 +104,7 @@ pub extern "C" fn fdb_audit_end(alloc: Global, audit: &mut FdbAudit, refused: &m
     ensures ok { (result ≡ FDB_OK) → IfSome audit.new.audit (λ it. HasFound it None) }
     ensures fault { (result ≡ FDB_FAULT) → IfSome audit.new.audit HasFoundFault }
     ensures refused { IsRefusal result → (result ≢ FDB_OVER) → IfSome audit.old.audit
-        (λ before. (error : ReadError) × (reading_in before.bytes ≡ Err error)
+        (λ before. (error : ReadError) × (reading_by before.asked before.bytes ≡ Err error)
         × (result ≡ status_of error.why) × (refused.new ≡ refused_of error)) }
     ensures untold { ¬ IsRefusal result → refused.new ≡ refused.old }
     ensures over { (result ≡ FDB_OVER)

@@ -7,6 +7,7 @@
 //! `fdb_history`, `fdb_queue`, `fdb_lines` and `fdb_audit` say, over the structs that cross.
 #![tactic(auto)]
 
+mod asked;
 mod audit;
 mod audit_calls;
 mod audit_faults;

@@ -4,10 +4,12 @@ ghost use Rattle.std.specs.Prelude.{◌≡◌, ◌≢◌, ◌↔◌, ◌⊎◌, 
 ghost use Rattle.std.specs.Prelude.{false, true};
 ghost use Rattle.core.specs.Str.{IsUtf8};
 ghost use Rattle.fdb_log_reader.specs.declared.error.ReadError.{ReadError};
-ghost use Rattle.fdb_c.specs.Audit.{HasNoRoom, IsRefusal, IsWritten, refused_of, status_of};
+ghost use Rattle.fdb_c.specs.Audit.{HasNoRoom, IsRefusal, IsWritten, asked_with, refused_of};
+ghost use Rattle.fdb_c.specs.Audit.{status_of};
 ghost use Rattle.fdb_c.specs.Watch.{HasLeftOut, HasTakenAll, HasTold, HasToldAll, IsTold};
-ghost use Rattle.fdb_c.specs.Watch.{HasToldFault, new_watch, over, with_bytes};
+ghost use Rattle.fdb_c.specs.Watch.{HasToldFault, new_watch, opts_in, over, wanted_in, with_bytes};
 
+use crate::asked::texts_of;
 use crate::audit::FdbRefused;
 use crate::audit_text::write_text;
 use crate::held::Held;
@@ -19,35 +21,43 @@ use crate::watch_handle::FdbWatch;
 use crate::watch_options::FdbWatchOptions;
 use crate::watched::Watched;
 use std::alloc::{AllocError, Global};
-use std::str;
 
 /// A watch in a box of its own.
-fn opened(alloc: Global, options: FdbWatchOptions, key: &str) -> Result<Box<Watched>, AllocError>
-    ensures { IfOk result (λ made. made.value ≡ new_watch options key.now) }
+fn opened(
+    alloc: Global,
+    options: FdbWatchOptions,
+    key: &str,
+    shown: &str,
+) -> Result<Box<Watched>, AllocError>
+    ensures { IfOk result (λ made. made.value ≡ new_watch
+        (asked_with (opts_in options) (wanted_in options) key.now shown.now)) }
 {
-    let made = Watched::new(alloc, options, key)?;
+    let made = Watched::new(alloc, options, key, shown)?;
     boxed(alloc, made)
 }
 
-/// Opens a watch of a log of which nothing has come. `key` names the member that has the keys, or
-/// is empty. Refused, it leaves the handle none.
+/// Opens a watch of a log of which nothing has come. `key` names the member that has the keys, and
+/// `shown` those that are shown, parted by commas; either may be empty. Refused, it leaves the handle
+/// none.
 #[unsafe(no_mangle)]
 pub extern "C" fn fdb_watch_new(
     alloc: Global,
     options: &FdbWatchOptions,
     key: &[u8],
+    shown: &[u8],
     watch: &mut FdbWatch,
 ) -> u8
     requires { IsNone watch.old.watch }
-    ensures ok { (result ≡ FDB_OK) → watch.new.watch ≡ Some (new_watch options.now key.now) }
+    ensures ok { (result ≡ FDB_OK) → watch.new.watch ≡ Some (new_watch
+        (asked_with (opts_in options.now) (wanted_in options.now) key.now shown.now)) }
     ensures refused { (result ≢ FDB_OK) → watch.new.watch ≡ None }
-    ensures bad_member { (result ≡ FDB_BAD_MEMBER) ↔ ¬ IsUtf8 key.now }
+    ensures bad_member { (result ≡ FDB_BAD_MEMBER) ↔ ¬ (IsUtf8 key.now × IsUtf8 shown.now) }
     ensures statuses { (result ≡ FDB_OK) ⊎ (result ≡ FDB_BAD_MEMBER) ⊎ (result ≡ FDB_MEMORY) }
 {
-    let Ok(name) = str::from_utf8(key) else {
+    let Some((key, shown)) = texts_of(key, shown) else {
         return FDB_BAD_MEMBER;
     };
-    match opened(alloc, *options, name) {
+    match opened(alloc, *options, key, shown) {
         Ok(made) => {
             watch.swap(Held::new(made)).gone();
             FDB_OK

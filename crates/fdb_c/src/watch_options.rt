@@ -1,8 +1,10 @@
 //! How C asks for a watch.
 
-ghost use Rattle.std.specs.Prelude.{◌≡◌, IfOk, option_map, string_bytes};
-ghost use Rattle.fdb_c.specs.Watch.{asked_by, asked_in, key_in};
+ghost use Rattle.std.specs.Prelude.{◌≡◌, IfOk};
+ghost use Rattle.fdb_c.specs.Audit.{asked_in, asked_with};
+ghost use Rattle.fdb_c.specs.Watch.{opts_in, wanted_in};
 
+use crate::asked::asked_with;
 use fdb_audit::{AuditArguments, Wanted};
 use fdb_lines::AuditOpts;
 use std::alloc::{AllocError, Global};
@@ -21,49 +23,25 @@ pub struct FdbWatchOptions {
     pub json: bool,
 }
 
-/// A name, unless it is empty.
-fn named(name: &str) -> Option<&str>
-    ensures { option_map (λ name. name.now) result ≡ key_in name.now }
-{
-    if name.is_empty() { None } else { Some(name) }
-}
-
-/// A text of one's own.
-fn owned(alloc: Global, text: Option<&str>) -> Result<Option<String>, AllocError>
-    ensures { IfOk result (λ own. option_map string_bytes own
-        ≡ option_map (λ text. text.now) text.entry) }
-{
-    match text {
-        Some(text) => Ok(Some(String::from_str(alloc, text)?)),
-        None => Ok(None),
-    }
-}
-
-/// The arguments of `fdb_audit --follow` that C asks for, with the member that has the keys unless
-/// its name is empty.
+/// The arguments of `fdb_audit --follow` that C asks for.
 pub(crate) fn asked_of(
     alloc: Global,
     options: FdbWatchOptions,
     key: &str,
+    shown: &str,
 ) -> Result<AuditArguments, AllocError>
-    ensures { IfOk result (λ asked. asked_in asked ≡ asked_by options key.now) }
+    ensures { IfOk result (λ asked. asked_in asked
+        ≡ asked_with (opts_in options) (wanted_in options) key.now shown.now) }
 {
-    let key = owned(alloc, named(key))?;
-    Ok(AuditArguments {
-        opts: AuditOpts {
-            complete: None,
-            margin: options.margin,
-        },
-        follow: Some(options.behind),
-        keep: None,
-        wanted: Wanted {
-            history: false,
-            all: true,
-            totals: options.totals,
-            json: options.json,
-        },
-        key,
-        shown: Vec::new(alloc),
-        progress: false,
-    })
+    let opts = AuditOpts {
+        complete: None,
+        margin: options.margin,
+    };
+    let wanted = Wanted {
+        history: false,
+        all: true,
+        totals: options.totals,
+        json: options.json,
+    };
+    asked_with(alloc, opts, Some(options.behind), wanted, key, shown)
 }

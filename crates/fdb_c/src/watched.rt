@@ -3,9 +3,9 @@
 ghost use Rattle.std.specs.Prelude.{◌≡◌, ◌≢◌, ◌++◌, ◌↔◌, ◌⊎◌, IfOk, None, Some, false, true};
 ghost use Rattle.fdb_log_reader.specs.declared.error.ReadError.{ReadError};
 ghost use Rattle.fdb_audit.specs.declared.fault.LogFault.{LogFault};
-ghost use Rattle.fdb_c.specs.Audit.{IsRefusal, refused_of, status_of};
+ghost use Rattle.fdb_c.specs.Audit.{IsRefusal, asked_with, refused_of, status_of};
 ghost use Rattle.fdb_c.specs.Watch.{HasLeftOut, HasTakenAll, HasTold, HasToldAll, IsTold};
-ghost use Rattle.fdb_c.specs.Watch.{HasToldFault, new_watch, over, with_bytes};
+ghost use Rattle.fdb_c.specs.Watch.{HasToldFault, new_watch, opts_in, over, wanted_in, with_bytes};
 
 use crate::audit::{FdbRefused, refuse};
 use crate::status::{FDB_FAULT, FDB_MEMORY, FDB_OK, FDB_OVER};
@@ -32,7 +32,8 @@ pub struct Watched {
 
 impl Model for Watched {
     ghost use Rattle.std.specs.Prelude.{IfSome, is_none, string_bytes};
-    ghost use Rattle.fdb_c.specs.Watch.{Follows, Watch, asked_in};
+    ghost use Rattle.fdb_c.specs.Audit.{asked_in};
+    ghost use Rattle.fdb_c.specs.Watch.{Follows, Watch};
 
     ghost Value = { Watch };
 
@@ -58,10 +59,12 @@ impl Watched {
         alloc: Global,
         options: FdbWatchOptions,
         key: &str,
+        shown: &str,
     ) -> Result<Self, AllocError>
-        ensures { IfOk result (λ watched. watched ≡ new_watch options key.now) }
+        ensures { IfOk result (λ watched. watched ≡ new_watch
+            (asked_with (opts_in options) (wanted_in options) key.now shown.now)) }
     {
-        let asked = asked_of(alloc, options, key)?;
+        let asked = asked_of(alloc, options, key, shown)?;
         let follower = Follower::new(alloc, &asked, options.behind)?;
         Ok(Watched {
             asked,

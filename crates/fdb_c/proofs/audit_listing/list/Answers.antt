@@ -1,30 +1,28 @@
-use Rattle.std.proofs.Common.{◌≡◌, ◌↔◌, ◌<◌, List, All, length, map, refl, subst, arith}
+use Rattle.std.proofs.Common.{◌≡◌, ◌↔◌, ◌<◌, List, None, length, map, refl, subst, arith}
 use Rattle.std.proofs.lemmas.Grind.{common_steps}
 use Rattle.std.proofs.lemmas.List.{length-map}
 use Rattle.fdb_lines.specs.Audit.{AreExplained, case_of}
 use Rattle.fdb_lines.specs.Lines.{Lines}
-use Rattle.fdb_lines.specs.Listing.{faults_of}
 use Rattle.fdb_lines.specs.Log.{lines_of}
-use Rattle.fdb_lines.specs.Reasons.{HasReason, found_of}
 use Rattle.fdb_lines.specs.declared.opts.AuditOpts.{AuditOpts}
 use Rattle.fdb_lines.specs.declared.reason.Finding.{Finding}
+use Rattle.fdb_audit.specs.Judged.{AreAll}
 use Rattle.fdb_c.specs.Audit.{told}
 use Rattle.fdb_c.proofs.audit_listing.list.Goals as goal
 
 -- what was found with these options
 abbrev AreFound : Lines → List Finding → AuditOpts → Type 0
-AreFound log found opts =
-    (map found_of found ≡ faults_of (case_of log opts)) × ((length found ≡ 0) ↔ AreExplained (case_of log opts))
-    × All (HasReason log opts) found
+AreFound log found opts = AreAll log None opts found × ((length found ≡ 0) ↔ AreExplained (case_of log opts))
 
 -- there is no room for the faults that stand
 pub returns-then-faults-len-clause-room : goal.returns-then-faults-len-clause-room
 returns-then-faults-len-clause-room c is_room =
     let found = c.in_ok-found.found.items in
     let said = c.in_ok-found.ensures in
-    let all : AreFound (lines_of c.args.log.now) found c.opts_of.result = (said.listed, said.explained, said.reasons) in
+    let each = record { listed = said.listed; reasons = said.reasons; late = said.late } in
+    let all : AreFound (lines_of c.args.log.now) found c.opts_of.result = (each, said.explained) in
     let asked = subst (AreFound (lines_of c.args.log.now) found) c.opts_of.ensures all in
     let count = length-map found told in
     let short : length c.args.faults.now < length (map told found) = grind (arith, common_steps) in
     let some : length found ≡ 0 → ⊥ = λ none. grind (arith, common_steps) in
-    (λ explained. some (asked.1.1 explained), map told found, (found, asked.0, asked.2, refl), (short, refl, grind (arith, common_steps)))
+    (λ explained. some (asked.1.1 explained), map told found, (found, asked.0, refl), (short, refl, grind (arith, common_steps)))
