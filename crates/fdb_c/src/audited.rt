@@ -1,11 +1,13 @@
 //! A log that is audited piece by piece, and what was found.
 
-ghost use Rattle.std.specs.Prelude.{◌≡◌, ◌≢◌, ◌↔◌, ◌⊎◌, ◌++◌, Err, IfOk, None, Some};
+ghost use Rattle.std.specs.Prelude.{◌≡◌, ◌≢◌, ◌↔◌, ◌⊎◌, ◌++◌, All, Err, IfOk, None, Some};
 ghost use Rattle.std.specs.Prelude.{false, map, string_bytes, true};
 ghost use Rattle.fdb_lines.specs.declared.fault.Found.{Found};
 ghost use Rattle.fdb_log_reader.specs.Reading.{reading_of};
 ghost use Rattle.fdb_log_reader.specs.declared.error.ReadError.{ReadError};
-ghost use Rattle.fdb_audit.specs.Judged.{AreAll, HasOwnKeys, keys_of_lines};
+ghost use Rattle.fdb_lines.specs.Reasons.{found_of};
+ghost use Rattle.fdb_audit.specs.Judged.{faults_in, keys_of_lines, HasLateIn, HasOwnKeys};
+ghost use Rattle.fdb_audit.specs.Judged.{HasReasonIn};
 ghost use Rattle.fdb_c.specs.Audit.{IsRefusal, asked_by, asked_in, refused_of, status_of, told};
 ghost use Rattle.fdb_c.specs.Audited.{HasFound, HasFoundFault, IsEnded, IsFoundOf, IsRefusedFor};
 ghost use Rattle.fdb_c.specs.Audited.{fed, new_audit, over, reading_by};
@@ -86,8 +88,13 @@ fn faults_of(
     opts: &AuditOpts,
 ) -> Result<Vec<Finding>, AllocError>
     requires { HasOwnKeys (reading_of named.now) }
-    ensures { IfOk result (λ found. AreAll (reading_of named.now).log
-        (keys_of_lines (reading_of named.now).keys) opts.now found.items) }
+    ensures listed { IfOk result (λ found. map found_of found.items
+        ≡ faults_in (reading_of named.now).log (keys_of_lines (reading_of named.now).keys)
+        opts.now) }
+    ensures reasons { IfOk result (λ found. All (HasReasonIn (reading_of named.now).log
+        (keys_of_lines (reading_of named.now).keys) opts.now) found.items) }
+    ensures late { IfOk result (λ found. All (HasLateIn (reading_of named.now).log
+        (keys_of_lines (reading_of named.now).keys) opts.now) found.items) }
 {
     match &named.keys {
         Some(keys) => findings_by_key(alloc, &named.log, keys.numbers(), opts),

@@ -19,7 +19,7 @@ pub returns-then-faults-len-clause-room : goal.returns-then-faults-len-clause-ro
 returns-then-faults-len-clause-room c is_room =
     let found = c.in_ok-found.found.items in
     let said = c.in_ok-found.ensures in
-    let each = record { listed = said.listed; reasons = said.reasons; late = said.late } in
+    let each : AreAll (lines_of c.args.log.now) None c.opts_of.result found = record { listed = said.listed; reasons = said.reasons; late = said.late } in
     let all : AreFound (lines_of c.args.log.now) found c.opts_of.result = (each, said.explained) in
     let asked = subst (AreFound (lines_of c.args.log.now) found) c.opts_of.ensures all in
     let count = length-map found told in
