@@ -26,6 +26,7 @@ pub mod Watched
 pub mod Above
 pub mod Keyed
 pub mod Merged
+pub mod Gathered
 pub mod Slotted
 pub mod First
 pub mod Lateness

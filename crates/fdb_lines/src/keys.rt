@@ -71,7 +71,8 @@ pub(crate) fn add_placed(
 pub(crate) fn sort_by_line(found: &mut Vec<Finding>) -> Result<(), AllocError>
     ensures { OnOk result (AreByLine found.old.items found.new.items) }
 {
-    found.sort_by_key(|finding| finding.found.line)
+    found.sort_by_key(|finding| finding.found.line)?;
+    Ok(())
 }
 
 /// A finding, with all lines that it names told of the whole log.

@@ -62,5 +62,5 @@ stands_at k found = found.line == k
 -- the same findings, line by line, and at each line in the order that they had
 pub record AreByLine (old new : List Finding) : Type 0 where
   pub same : IsPermutation old new
-  pub rise : IsNonDecreasingBy (λ (finding : Finding). finding.found.line) new
+  pub rise : IsNonDecreasingBy (λ (found : Found). found.line) (map found_of new)
   pub stay : (k : ℕ) → filter (stands_at k) (map found_of new) ≡ filter (stands_at k) (map found_of old)
