@@ -15,7 +15,7 @@ use Rattle.fdb_lines.specs.declared.fault.Found.{Found}
 use Rattle.fdb_lines.specs.declared.opts.AuditOpts.{AuditOpts}
 use Rattle.fdb_lines.specs.declared.reason.Finding.{Finding}
 use Rattle.fdb_lines.specs.declared.reason.Reason.TheVariants.{Unreported}
-use Rattle.fdb_lines.specs.Audit.{case_of}
+use Rattle.fdb_lines.specs.Audit.{case_of, AreExplained}
 use Rattle.fdb_lines.specs.Keys.{case_of_key, faults_at_by_key, faults_below_by_key, faults_by_key, key_at, keys_below, keys_of, lines_of_key, place_among, placed_finding, placed_found, placed_late, placed_reason, places_below, places_of, same_key, told_at, AreExplainedByKey, HasLateByKey, HasReasonByKey}
 use Rattle.fdb_lines.specs.Late.{HasLate, IsLateAt}
 use Rattle.fdb_lines.specs.Lines.{Case, Lines, line_at, part_of}
@@ -23,6 +23,7 @@ use Rattle.fdb_lines.specs.Listing.{faults_at, faults_below, faults_of}
 use Rattle.fdb_lines.specs.Reasons.{found_of, HasReason, IsReason}
 use Rattle.fdb_lines.specs.private.Keys.{faults_of_key, faults_of_keys, stands_at, AreByLine}
 use Rattle.fdb_lines.proofs.Keyed.{apart, has_place, of_key, place_is, same_is, same_self}
+use Rattle.fdb_lines.proofs.Listed.{explained_by_length}
 use Rattle.fdb_lines.proofs.Merged.{all_there, explained}
 
 -- ---- the faults of a key at a line of the whole log: those at its place among the lines of the key
@@ -321,6 +322,17 @@ module _ (log : Lines) (opts : AuditOpts) (keys : List (Option ℕ)) where
         late = subst (All L) (sym now) (All-append L found _ are.late (All-map L (placed_finding mine) here (λ i d lt.
             late_here key (get_or here i d) (within i d lt) (subst (λ (ls : Lines). HasLate ls opts (get_or here i d)) lines (late i d lt)))));
       }
+
+  -- an explained part adds nothing
+  nothing : (found : List Found) → length found ≡ 0 → [] ≡ found
+  nothing [] none = refl
+  nothing (x ∷ xs) none = absurd (omega (arith, none))
+
+  pub gathered_same : (n : ℕ) (found : List Finding) (part : Lines) (places : List ℕ) → n < length (keys_of keys) → places ≡ places_of keys (key_at (keys_of keys) n)
+      → part ≡ part_of log places → AreExplained (case_of part opts) → AreGathered log opts keys n found → AreGathered log opts keys (n + 1) found
+  gathered_same n found part places next is of_part some are =
+      gathered_more n found [] found part places next is of_part (sym (append-nil found)) (nothing (faults_of (case_of part opts)) ((explained_by_length part opts _ refl).1 some))
+      (All-nil (HasReason part opts)) (All-nil (HasLate part opts)) are
 
   pub gathered_all : (n : ℕ) (old new : List Finding) → length (keys_of keys) ≤ n → length keys ≡ length log.lines → AreByLine old new → AreGathered log opts keys n old
       → (map found_of new ≡ faults_by_key log keys opts) × ((length new ≡ 0) ↔ AreExplainedByKey log keys opts)
