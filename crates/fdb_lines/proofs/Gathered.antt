@@ -1,14 +1,14 @@
 -- What was found at the lines of each key, key by key and then sorted, is what stands in the whole log line by line.
-use Rattle.std.proofs.Common.{◌≡◌, ◌≢◌, ◌↔◌, ◌==◌, ℕ, zero, suc, ◌+◌, ◌<◌, ◌≤◌, nat_lt, Bool, true, false, cond, List, [], ◌∷◌, ◌++◌, Option, None, length, map, take, slice_index, get_or, refl, ap, sym, subst, ◌∙◌, inl, inr, arith, append-nil, length-append, zero-le}
+use Rattle.std.proofs.Common.{◌≡◌, ◌≢◌, ◌↔◌, ◌==◌, ℕ, zero, suc, ◌+◌, ◌<◌, ◌≤◌, nat_lt, Bool, true, false, cond, List, [], ◌∷◌, ◌++◌, Option, None, length, map, take, slice_index, get_or, refl, ap, sym, subst, ◌∙◌, inl, inr, arith, append-nil, length-append}
 use Rattle.std.specs.List.{All, filter, flat_map}
 use Rattle.std.specs.List.Sorted.{ties, IsNonDecreasingBy, IsStableBy}
 use Rattle.std.specs.Ordering.{is_lt, nat_cmp}
-use Rattle.std.proofs.lemmas.Bool.{both_ways, cases_eq, cases_lt, eqb-true, false_from_ne_true}
+use Rattle.std.proofs.lemmas.Bool.{both_ways, cases_eq, eqb-true, false_from_ne_true}
 use Rattle.std.proofs.lemmas.Bool.Decides.{nat_tests}
 use Rattle.std.proofs.lemmas.Grind.{flat_map-append}
 use Rattle.std.proofs.lemmas.List.{get_or-map, length-map, map-append, take_all, take_more}
 use Rattle.std.proofs.lemmas.List.Sorted.{All-permutation}
-use Rattle.std.proofs.lemmas.List.Elements.{All-append, All-cons, All-head, All-map, All-nil, All-tail, filter-append}
+use Rattle.std.proofs.lemmas.List.Elements.{All-append, All-head, All-map, All-nil, All-tail, filter-append}
 use Rattle.std.proofs.lemmas.Map.Views.{All-map-IsPermutation}
 use Rattle.fdb_lines.specs.declared.fault.Fault.TheVariants.{Order}
 use Rattle.fdb_lines.specs.declared.fault.Found.{Found}
@@ -259,9 +259,6 @@ pub record AreGathered (log : Lines) (opts : AuditOpts) (keys : List (Option ℕ
   pub late : All (HasLateByKey log keys opts) found
 
 module _ (log : Lines) (opts : AuditOpts) (keys : List (Option ℕ)) where
-  pub gathered_none : AreGathered log opts keys 0 []
-  gathered_none = record { all = refl; reasons = All-nil (HasReasonByKey log keys opts); late = All-nil (HasLateByKey log keys opts) }
-
   placed_all : (places : List ℕ) (here : List Finding) → map found_of (map (placed_finding places) here) ≡ map (placed_found places) (map found_of here)
   placed_all places [] = refl
   placed_all places (x ∷ xs) = ap (λ (rest : List Found). placed_found places x.found ∷ rest) (placed_all places xs)
@@ -272,9 +269,11 @@ module _ (log : Lines) (opts : AuditOpts) (keys : List (Option ℕ)) where
       let k = slice_index (places_of keys key) finding.found.line in
       let is = place_is keys key (length keys) finding.found.line lt in
       let its : key ≡ key_at keys k = sym (same_is _ _ is.1) in
-      let at = subst (λ j. IsReason (lines_of_key log keys key) opts j finding.found.fault finding.reason) (sym is.2) has in
-      (finding.reason, subst (λ q. IsReason (lines_of_key log keys q) opts (length (places_below keys q k)) finding.found.fault finding.reason) its at,
-      ap (λ q. placed_reason (places_of keys q) finding.reason) its)
+      let at = subst (λ j. IsReason (lines_of_key log keys key) opts j finding.found.fault finding.reason) (sym is.2) has in (
+        finding.reason,
+        subst (λ q. IsReason (lines_of_key log keys q) opts (length (places_below keys q k)) finding.found.fault finding.reason) its at,
+        ap (λ q. placed_reason (places_of keys q) finding.reason) its,
+      )
 
   late_here : (key : Option ℕ) (finding : Finding) → finding.found.line < length (places_of keys key) → HasLate (lines_of_key log keys key) opts finding
       → HasLateByKey log keys opts (placed_finding (places_of keys key) finding)
@@ -282,9 +281,11 @@ module _ (log : Lines) (opts : AuditOpts) (keys : List (Option ℕ)) where
       let k = slice_index (places_of keys key) finding.found.line in
       let is = place_is keys key (length keys) finding.found.line lt in
       let its : key ≡ key_at keys k = sym (same_is _ _ is.1) in
-      let at = subst (λ j. IsLateAt (lines_of_key log keys key) opts j finding.found.fault finding.late) (sym is.2) has in
-      (finding.late, subst (λ q. IsLateAt (lines_of_key log keys q) opts (length (places_below keys q k)) finding.found.fault finding.late) its at,
-      ap (λ q. placed_late (places_of keys q) finding.late) its)
+      let at = subst (λ j. IsLateAt (lines_of_key log keys key) opts j finding.found.fault finding.late) (sym is.2) has in (
+        finding.late,
+        subst (λ q. IsLateAt (lines_of_key log keys q) opts (length (places_below keys q k)) finding.found.fault finding.late) its at,
+        ap (λ q. placed_late (places_of keys q) finding.late) its,
+      )
 
   pub gathered_more : (n : ℕ) (found here new : List Finding) (part : Lines) (places : List ℕ) → n < length (keys_of keys)
       → places ≡ places_of keys (key_at (keys_of keys) n) → part ≡ part_of log places → new ≡ found ++ map (placed_finding places) here

@@ -27,7 +27,6 @@ pub mod Above
 pub mod Keyed
 pub mod Merged
 pub mod Gathered
-pub mod Slotted
 pub mod First
 pub mod Lateness
 pub mod Reasoned

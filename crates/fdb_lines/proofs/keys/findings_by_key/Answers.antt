@@ -1,8 +1,7 @@
-use Rattle.std.proofs.Common.{◌≡◌, ◌++◌, ◌≤◌, length, map, ap, sym, ◌∙◌, arith}
+use Rattle.std.proofs.Common.{◌≡◌, length, ap, sym, ◌∙◌, arith}
 use Rattle.std.proofs.lemmas.List.{length-map}
 use Rattle.fdb_lines.specs.declared.parts.Part.{Part}
-use Rattle.fdb_lines.specs.declared.reason.Finding.{Finding}
-use Rattle.fdb_lines.specs.Keys.{key_at, keys_of, placed_finding}
+use Rattle.fdb_lines.specs.Keys.{key_at, keys_of}
 use Rattle.fdb_lines.specs.Log.{lines_of}
 use Rattle.fdb_lines.proofs.Gathered.{gathered_all, gathered_more}
 use Rattle.fdb_lines.proofs.Keyed.{of_key}
