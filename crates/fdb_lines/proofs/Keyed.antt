@@ -82,14 +82,6 @@ pub has_place : (keys : List (Option ℕ)) (key : Option ℕ) (n k : ℕ) → sa
 has_place keys key zero k same lt = absurd (omega arith)
 has_place keys key (suc n) k same lt = has_more keys key n k (same_key (key_at keys n) key) refl same lt (λ old. has_place keys key n k same old)
 
-few_more : (b : Bool) (n : ℕ) (places : List ℕ) → length places ≤ n → length (places ++ cond b (n ∷ []) []) ≤ suc n
-few_more true n places le = omega (arith, length-append places (n ∷ []))
-few_more false n places le = omega (arith, length-append {A = ℕ} places [])
-
-pub few_places : (keys : List (Option ℕ)) (key : Option ℕ) (n : ℕ) → length (places_below keys key n) ≤ n
-few_places keys key zero = omega arith
-few_places keys key (suc n) = few_more (same_key (key_at keys n) key) n (places_below keys key n) (few_places keys key n)
-
 -- no two of them are one
 pub apart : (keys : List (Option ℕ)) (key : Option ℕ) (n i j : ℕ) → i < length (places_below keys key n) → j < length (places_below keys key n)
     → slice_index (places_below keys key n) i ≡ slice_index (places_below keys key n) j → i ≡ j
@@ -102,14 +94,6 @@ pub of_key : (keys : List (Option ℕ)) (key : Option ℕ) (places : List ℕ) �
 of_key keys key places is j lt =
     subst (λ (ps : List ℕ). (j : ℕ) → j < length ps → (slice_index ps j < length keys) × (key_at keys (slice_index ps j) ≡ key)) (sym is)
     (λ i less. let it = place_is keys key (length keys) i less in (it.0, same_is _ _ it.1)) j lt
-
-pub apart_of_key : (keys : List (Option ℕ)) (key : Option ℕ) (places : List ℕ) → places ≡ places_of keys key
-    → (i j : ℕ) → i < length places → j < length places → slice_index places i ≡ slice_index places j → i ≡ j
-apart_of_key keys key places is =
-    subst (λ (ps : List ℕ). (i j : ℕ) → i < length ps → j < length ps → slice_index ps i ≡ slice_index ps j → i ≡ j) (sym is) (apart keys key (length keys))
-
-pub few_of_key : (keys : List (Option ℕ)) (key : Option ℕ) (places : List ℕ) → places ≡ places_of keys key → length places ≤ length keys
-few_of_key keys key places is = let few = few_places keys key (length keys) in omega (arith, ap length is)
 
 -- ---- the keys, each once
 

@@ -26,7 +26,7 @@ pub mod Watched
 pub mod Above
 pub mod Keyed
 pub mod Merged
-pub mod Slotted
+pub mod Gathered
 pub mod First
 pub mod Lateness
 pub mod Reasoned

@@ -1,25 +1,18 @@
 -- The faults of a log with keys: none exactly where the lines of each key are explained.
-use Rattle.std.proofs.Common.{◌≡◌, ◌≢◌, ◌↔◌, ℕ, zero, suc, ◌+◌, ◌<◌, Bool, true, false, cond, List, [], ◌∷◌, ◌++◌, Option, Vec, length, map, slice_index, get_or, refl, ap, sym, subst, ◌∙◌, inl, inr, arith, add-one, length-append}
-use Rattle.std.specs.declared.alloc.Global.{Global}
+use Rattle.std.proofs.Common.{◌≡◌, ◌↔◌, ℕ, zero, suc, ◌<◌, Bool, true, false, cond, List, [], ◌∷◌, Option, length, slice_index, refl, ap, sym, subst, ◌∙◌, inl, inr, arith, length-append}
 use Rattle.std.specs.List.{All}
-use Rattle.std.proofs.lemmas.Bool.{cases_eq, cases_lt}
-use Rattle.std.proofs.lemmas.List.{get_or-map, length-map, map-append}
-use Rattle.std.proofs.lemmas.List.Elements.{All-append, All-cons, All-map, All-nil}
+use Rattle.std.proofs.lemmas.Bool.{cases_lt}
+use Rattle.std.proofs.lemmas.List.{length-map}
+use Rattle.std.proofs.lemmas.List.Elements.{All-append, All-cons, All-nil}
 use Rattle.fdb_lines.specs.declared.fault.Fault.{Fault}
 use Rattle.fdb_lines.specs.declared.fault.Fault.TheVariants.{Order, Wrong, NotAbove, Twice, Stray}
 use Rattle.fdb_lines.specs.declared.fault.Found.{Found}
 use Rattle.fdb_lines.specs.declared.opts.AuditOpts.{AuditOpts}
-use Rattle.fdb_lines.specs.declared.reason.Finding.{Finding}
-use Rattle.fdb_lines.specs.Audit.{case_of}
-use Rattle.fdb_lines.specs.Keys.{case_of_key, faults_at_by_key, faults_below_by_key, faults_by_key, key_at, keys_of, lines_of_key, place_among, places_below, places_of, told_at, AreExplainedByKey, HasLateByKey, HasReasonByKey}
+use Rattle.fdb_lines.specs.Keys.{case_of_key, faults_at_by_key, faults_below_by_key, faults_by_key, key_at, lines_of_key, place_among, places_below, places_of, told_at, AreExplainedByKey}
 use Rattle.fdb_lines.specs.Faults.{stands}
-use Rattle.fdb_lines.specs.Late.{HasLate, IsLateAt}
-use Rattle.fdb_lines.specs.Lines.{Case, Lines, line_at, part_of}
+use Rattle.fdb_lines.specs.Lines.{Case, Lines, line_at}
 use Rattle.fdb_lines.specs.Listing.{faults_at, faults_below, found_if}
-use Rattle.fdb_lines.specs.Reasons.{found_of, HasReason, IsReason}
-use Rattle.fdb_lines.specs.private.Keys.{items_at, placed_at, AreFoundAt, AreToldAt}
-use Rattle.fdb_lines.specs.private.Tables.{ListsMore}
-use Rattle.fdb_lines.proofs.Keyed.{each_once, has_place, of_key, place_is, same_is, same_self}
+use Rattle.fdb_lines.proofs.Keyed.{has_place, place_is, same_is, same_self}
 use Rattle.fdb_lines.proofs.Listed.{explained_by_length}
 
 -- ---- lists of faults that are empty
@@ -90,74 +83,7 @@ explained log keys opts as_many = (
       ∙ none_at (case_of_key log keys opts key) (length (lines_of_key log keys key).lines) ((explained_by_length (lines_of_key log keys key) opts _ refl).1 (some key)) (place_among keys k) (omega arith)),
 )
 
--- ---- what is told of a line
-
-told_all : (k : ℕ) (places : List ℕ) (here : List Finding) → map found_of (map (placed_at k places) here) ≡ map (told_at k) (map found_of here)
-told_all k places [] = refl
-told_all k places (x ∷ xs) = ap (λ rest. told_at k (found_of x) ∷ rest) (told_all k places xs)
-
-pub listed_more : (log : Lines) (keys : List (Option ℕ)) (opts : AuditOpts) (k : ℕ) (before here : List Finding)
-    → map found_of before ≡ faults_below_by_key log keys opts k
-    → AreFoundAt log opts (places_of keys (key_at keys k)) (place_among keys k) here
-    → map found_of (before ++ map (placed_at k (places_of keys (key_at keys k))) here) ≡ faults_below_by_key log keys opts (k + 1)
-listed_more log keys opts k before here listed are = rw (add-one, map-append, told_all, are.0, listed)
-
-pub reasons_here : (log : Lines) (keys : List (Option ℕ)) (opts : AuditOpts) (k : ℕ) (here : List Finding)
-    → AreFoundAt log opts (places_of keys (key_at keys k)) (place_among keys k) here
-    → All (HasReasonByKey log keys opts) (map (placed_at k (places_of keys (key_at keys k))) here)
-reasons_here log keys opts k here are =
-    All-map (HasReasonByKey log keys opts) (placed_at k (places_of keys (key_at keys k))) here (λ i d lt. ((get_or here i d).reason, are.1 i d lt, refl))
-
-pub lates_here : (log : Lines) (keys : List (Option ℕ)) (opts : AuditOpts) (k : ℕ) (here : List Finding)
-    → AreFoundAt log opts (places_of keys (key_at keys k)) (place_among keys k) here
-    → All (HasLateByKey log keys opts) (map (placed_at k (places_of keys (key_at keys k))) here)
-lates_here log keys opts k here are =
-    All-map (HasLateByKey log keys opts) (placed_at k (places_of keys (key_at keys k))) here (λ i d lt. ((get_or here i d).late, are.2 i d lt, refl))
-
--- ---- key by key
-
--- what was found at the lines of the first keys, and nothing at others
-pub record AreJudged (log : Lines) (opts : AuditOpts) (keys : List (Option ℕ)) (n : ℕ) (judged : List (Vec Finding Global)) : Type 0 where
-  pub done : (k i : ℕ) → k < length keys → i < n → key_at (keys_of keys) i ≡ key_at keys k
-      → AreToldAt log opts (places_of keys (key_at keys k)) (place_among keys k) k (items_at judged k)
-  pub rest : (k : ℕ) → ((i : ℕ) → i < n → key_at (keys_of keys) i ≢ key_at keys k) → items_at judged k ≡ []
-
--- a line of another key is at none of the places
-elsewhere : (keys : List (Option ℕ)) (key : Option ℕ) (places : List ℕ) (k : ℕ) → places ≡ places_of keys key → key ≢ key_at keys k
-    → (j : ℕ) → j < length places → slice_index places j ≢ k
-elsewhere keys key places k is other j lt at = other (sym (of_key keys key places is j lt).1 ∙ ap (key_at keys) at)
-
--- nothing was found yet at the lines of the next key
-pub fresh : (log : Lines) (opts : AuditOpts) (keys : List (Option ℕ)) (n : ℕ) (judged : List (Vec Finding Global)) (places : List ℕ)
-    → n < length (keys_of keys) → places ≡ places_of keys (key_at (keys_of keys) n) → AreJudged log opts keys n judged
-    → (j : ℕ) → j < length places → items_at judged (slice_index places j) ≡ []
-fresh log opts keys n judged places next is are j lt = are.rest (slice_index places j) (λ i below same.
-    let once = each_once keys (length keys) i n (omega arith) next (same ∙ (of_key keys (key_at (keys_of keys) n) places is j lt).1) in
-    absurd (omega arith))
-
-pub judged_more : (log : Lines) (opts : AuditOpts) (keys : List (Option ℕ)) (n : ℕ) (before after : List (Vec Finding Global)) (places : List ℕ)
-    → n < length (keys_of keys) → places ≡ places_of keys (key_at (keys_of keys) n) → AreJudged log opts keys n before
-    → ((j : ℕ) → j < length places → AreToldAt log opts places j (slice_index places j) (items_at after (slice_index places j)))
-    → ((k : ℕ) → ((j : ℕ) → j < length places → slice_index places j ≢ k) → items_at after k ≡ items_at before k)
-    → AreJudged log opts keys (n + 1) after
-judged_more log opts keys n before after places next is are told others = record {
-  done = λ k i lt below same. elim (cases_eq i n) [
-    | inl here ↦
-        let key : key_at (keys_of keys) n ≡ key_at keys k = ap (key_at (keys_of keys)) (sym here) ∙ same in
-        let all : places ≡ places_of keys (key_at keys k) = is ∙ ap (places_of keys) key in
-        let has = has_place keys (key_at keys k) (length keys) k (same_self (key_at keys k)) lt in
-        let P = λ (ps : List ℕ). (j : ℕ) → j < length ps → AreToldAt log opts ps j (slice_index ps j) (items_at after (slice_index ps j)) in
-        rw has.1 at (subst P all told (place_among keys k) has.0)
-    | inr other ↦
-        let away : key_at (keys_of keys) n ≢ key_at keys k = λ its.
-        other (each_once keys (length keys) i n (omega arith) next (same ∙ sym its)) in
-        rw (others k (elsewhere keys (key_at (keys_of keys) n) places k is away)) (are.done k i lt (omega arith) same)
-  ];
-  rest = λ k none.
-      others k (elsewhere keys (key_at (keys_of keys) n) places k is (none n (omega arith))) ∙ are.rest k (λ i below. none i (omega arith));
-}
-
--- ---- line by line among those at some places
+-- ---- the faults at a line
 
 there_if : (c : Case) (fault : Fault) (j : ℕ) → All (λ (found : Found). found.line ≡ j) (found_if c fault j)
 there_if c fault j = by (stands c fault j)
@@ -170,19 +96,3 @@ pub all_there : (c : Case) (j : ℕ) → All (λ (found : Found). found.line ≡
 all_there c j =
     let P : Found → Type 0 = λ found. found.line ≡ j in
     All-append P _ _ (All-append P _ _ (All-append P _ _ (All-append P _ _ (there_if c Order j) (there_if c Wrong j)) (there_if c NotAbove j)) (there_if c Twice j)) (there_if c Stray j)
-
--- what is found at a line, where nothing was yet
-pub found_more : (log part : Lines) (opts : AuditOpts) (places : List ℕ) (j : ℕ) (new : List Finding) → part ≡ part_of log places
-    → ListsMore part opts [] new (faults_at (case_of part opts) j) → AreFoundAt log opts places j new
-found_more log part opts places j new is more =
-    subst (λ (ls : Lines). (map found_of new ≡ faults_at (case_of ls opts) j) × All (λ (finding : Finding). IsReason ls opts j finding.found.fault finding.reason) new
-    × All (λ (finding : Finding). IsLateAt ls opts j finding.found.fault finding.late) new) is (
-      more.0,
-      λ i d lt. let f = get_or new i d in subst (λ m. IsReason part opts m f.found.fault f.reason) (line i d lt) (more.1 (All-nil (HasReason part opts)) i d lt),
-      λ i d lt. let f = get_or new i d in subst (λ m. IsLateAt part opts m f.found.fault f.late) (line i d lt) (more.2 (All-nil (HasLate part opts)) i d lt),
-    )
-  where
-    line : (i : ℕ) (d : Finding) → i < length new → (get_or new i d).found.line ≡ j
-    line i d lt =
-        ap (λ (found : Found). found.line) (sym (get_or-map found_of new i d d.found lt) ∙ ap (λ (fs : List Found). get_or fs i d.found) more.0)
-        ∙ all_there (case_of part opts) j i d.found (omega (arith, ap length more.0, length-map new found_of))

@@ -1,5 +1,5 @@
 -- The parts of a log: one line more, and a key that comes in.
-use Rattle.std.proofs.Common.{◌≡◌, ◌≢◌, ◌==◌, ℕ, suc, ◌+◌, ◌<◌, Bool, true, false, cond, List, [], ◌∷◌, ◌++◌, Option, None, Some, length, set, get_or, refl, ap, sym, subst, ◌∙◌, inl, inr, arith, append-nil, length-append}
+use Rattle.std.proofs.Common.{◌≡◌, ◌≢◌, ◌==◌, ℕ, zero, suc, ◌+◌, ◌<◌, Bool, true, false, cond, List, [], ◌∷◌, ◌++◌, Option, None, Some, length, set, get_or, refl, ap, sym, subst, ◌∙◌, inl, inr, arith, append-nil, length-append}
 use Rattle.std.specs.List.{All}
 use Rattle.std.proofs.lemmas.Bool.{cases_eq, cases_lt, eqb-true, false_from_ne_true}
 use Rattle.std.proofs.lemmas.Bool.Decides.{nat_tests}
@@ -13,6 +13,13 @@ use Rattle.fdb_lines.specs.private.KeySums.{lines_in_all}
 use Rattle.fdb_lines.proofs.Keyed.{each_once, has_lines, has_none, key_back, same_is, same_self}
 
 -- ---- the numbers of keys
+
+-- what stands past a list is as good as in it
+pub nothing_more : {X : Type 0} (xs : List X) (none : X) (k : ℕ) → get_or (xs ++ none ∷ []) k none ≡ get_or xs k none
+nothing_more [] none zero = refl
+nothing_more [] none (suc k) = refl
+nothing_more (x ∷ xs) none zero = refl
+nothing_more (x ∷ xs) none (suc k) = nothing_more xs none k
 
 pub numbered_more : (old new : ℕ → Option ℕ) (names : List (Option ℕ)) (key : Option ℕ) → AreNumbered old names → old (number_of key) ≡ None
     → ((q : ℕ) → new q ≡ cond (q == number_of key) (Some (length names)) (old q)) → AreNumbered new (names ++ key ∷ [])

@@ -1,14 +1,18 @@
 -- Where each key has an order, its lines are explained.
-use Rattle.std.proofs.Common.{◌≡◌, ◌↔◌, ℕ, ◌<◌, List, [], ◌∷◌, Option, None, length, slice_index, get_or, refl, ap, sym, subst, ◌∙◌, inl, inr, arith}
+use Rattle.std.proofs.Common.{◌≡◌, ℕ, ◌<◌, ◌+◌, List, [], ◌∷◌, ◌++◌, Option, None, length, map, take, slice_index, get_or, refl, ap, sym, subst, ◌∙◌, inl, inr, arith}
 use Rattle.std.proofs.lemmas.Bool.{cases_lt}
-use Rattle.std.proofs.lemmas.List.{get_or-map, length-map}
+use Rattle.std.proofs.lemmas.List.{get_or-map, length-map, map_push, take_more}
+use Rattle.std.specs.List.{All}
+use Rattle.std.proofs.lemmas.List.Elements.{All-append, All-cons, All-nil}
 use Rattle.fdb_lines.specs.declared.key_order.KeyOrder.{KeyOrder}
 use Rattle.fdb_lines.specs.declared.opts.AuditOpts.{AuditOpts}
-use Rattle.fdb_lines.specs.Audit.{AreExplained}
+use Rattle.fdb_lines.specs.declared.step.OrderStep.{OrderStep}
+use Rattle.fdb_lines.specs.Audit.{case_of, AreExplained}
+use Rattle.fdb_lines.specs.KeyOrders.{placed_step, IsOrderOfKey}
 use Rattle.fdb_lines.specs.Keys.{case_of_key, key_at, keys_of, lines_of_key, places_of, AreExplainedByKey}
-use Rattle.fdb_lines.specs.Lines.{line_at, Lines}
+use Rattle.fdb_lines.specs.Lines.{line_at, part_of, Lines}
 use Rattle.fdb_lines.specs.Listing.{faults_below}
-use Rattle.fdb_lines.specs.OrderSteps.{effects_of}
+use Rattle.fdb_lines.specs.OrderSteps.{effects_of, IsOrderOf}
 use Rattle.fdb_lines.specs.private.KeyOrders.{AreOrders}
 use Rattle.fdb_lines.proofs.Keyed.{has_key, place_is, same_is}
 use Rattle.fdb_lines.proofs.Listed.{explained_by_length}
@@ -42,10 +46,26 @@ all_explained log keys opts orders (names, all) key = elim (cases_lt 0 (length (
   | inr ge ↦ no_lines log keys opts key (omega arith)
 ]
 
--- ---- what was found, or was not
+-- ---- one order more
 
-pub some_found : {P : Type 0} (n : ℕ) → ((n ≡ 0) ↔ P) → (P → ⊥) → 0 < n
-some_found n same unless = elim (cases_lt 0 n) [
-  | inl some ↦ some
-  | inr ge ↦ absurd (unless (same.0 (omega arith)))
-]
+module _ (log : Lines) (opts : AuditOpts) (keys : List (Option ℕ)) where
+  pub order_of : (part : Lines) (key : Option ℕ) (places : List ℕ) (steps : List OrderStep) (order : KeyOrder) → places ≡ places_of keys key → part ≡ part_of log places
+      → order.key ≡ key → IsOrderOf (case_of part opts) steps → order.steps.items ≡ map (placed_step places) steps → IsOrderOfKey log keys opts order
+  order_of part key places steps order is of_part its explains placed =
+      let mine : places ≡ places_of keys order.key = is ∙ ap (places_of keys) (sym its) in
+      let lines : part ≡ lines_of_key log keys order.key = of_part ∙ ap (part_of log) mine in
+      (steps, subst (λ (ls : Lines). IsOrderOf (case_of ls opts) steps) lines explains, placed ∙ ap (λ (ps : List ℕ). map (placed_step ps) steps) mine)
+
+  pub orders_more : (n : ℕ) (before after : List KeyOrder) (order : KeyOrder) → n < length (keys_of keys) → after ≡ before ++ order ∷ []
+      → order.key ≡ key_at (keys_of keys) n → IsOrderOfKey log keys opts order → AreOrders log keys opts (take n (keys_of keys)) before
+      → AreOrders log keys opts (take (n + 1) (keys_of keys)) after
+  orders_more n before after order next added its one are =
+      let names = keys_of keys in
+      let of = λ (order : KeyOrder). order.key in
+      let P = IsOrderOfKey log keys opts in (
+        ap (map of) added
+            ∙ (map_push of before order
+            ∙ (ap (λ (ks : List (Option ℕ)). ks ++ order.key ∷ []) are.0
+            ∙ (ap (λ (key : Option ℕ). take n names ++ key ∷ []) its ∙ sym (take_more names n None next)))),
+        subst (All P) (sym added) (All-append P before (order ∷ []) are.1 (All-cons P order [] one (All-nil P))),
+      )

@@ -69,11 +69,7 @@ pub fn findings(alloc: Global, log: &Log, opts: &AuditOpts) -> Result<Vec<Findin
 {
     let made = tables_of(alloc, log, opts)?;
     let tables = Tables::new(log, opts, &made);
-    let mut findings = Vec::new(alloc);
-    for place in 0..log.lines().len() {
-        add_findings(&mut findings, &tables, place)?;
-    }
-    Ok(findings)
+    findings_in(alloc, &tables)
 }
 
 /// The first fault of a log, if there is one, with why it stands. An error only where memory is
@@ -117,8 +113,26 @@ pub fn first_finding_by<R: Threads + Sync>(
     first_in_by(rt, alloc, log, opts, &made)
 }
 
+/// The faults of a log, by its tables.
+pub(crate) fn findings_in(alloc: Global, tables: &Tables<'_>) -> Result<Vec<Finding>, AllocError>
+    ensures listed { IfOk result (λ findings. map found_of findings.items
+        ≡ faults_of (case_in tables.now)) }
+    ensures explained { IfOk result (λ findings. length findings.items ≡ 0
+        ↔ AreExplained (case_in tables.now)) }
+    ensures reasons { IfOk result (λ findings. All (HasReason (lines_of tables.now.log)
+        tables.now.opts) findings.items) }
+    ensures late { IfOk result (λ findings. All (HasLate (lines_of tables.now.log)
+        tables.now.opts) findings.items) }
+{
+    let mut findings = Vec::new(alloc);
+    for place in 0..tables.lines().len() {
+        add_findings(&mut findings, tables, place)?;
+    }
+    Ok(findings)
+}
+
 /// The first fault of a log, by its tables.
-pub(crate) fn first_in(alloc: Global, tables: &Tables<'_>) -> Result<Option<Finding>, AllocError>
+fn first_in(alloc: Global, tables: &Tables<'_>) -> Result<Option<Finding>, AllocError>
     ensures first { IfOk result
         (λ first. option_map found_of first ≡ slice_get (faults_of (case_in tables.now)) 0) }
     ensures explained { IfOk result
@@ -209,7 +223,7 @@ fn first_between(
 }
 
 /// Adds the faults of a line, in the order of [`Fault`].
-pub(crate) fn add_findings(
+fn add_findings(
     findings: &mut Vec<Finding>,
     tables: &Tables<'_>,
     place: usize,

@@ -1,24 +1,20 @@
 //! Logs with keys: each key is a register of its own, and its lines are judged by themselves.
 
-ghost use Rattle.std.specs.Prelude.{◌≡◌, ◌≢◌, ◌↔◌, ◌++◌, ℕ, ◌<◌, ◌≤◌, [], All, IfOk, OnOk};
-ghost use Rattle.std.specs.Prelude.{length, map, slice_index};
-ghost use Rattle.fdb_lines.specs.Keys.{faults_by_key, key_at, place_in, placed_by};
-ghost use Rattle.fdb_lines.specs.Keys.{placed_means, placed_reason, places_of};
-ghost use Rattle.fdb_lines.specs.Keys.{place_among, placed_late, AreExplainedByKey};
-ghost use Rattle.fdb_lines.specs.Keys.{HasLateByKey, HasReasonByKey};
+ghost use Rattle.std.specs.Prelude.{◌≡◌, ◌↔◌, ◌++◌, All, IfOk, OnOk, length, map};
+ghost use Rattle.fdb_lines.specs.Keys.{faults_by_key, place_in, placed_by, placed_finding};
+ghost use Rattle.fdb_lines.specs.Keys.{placed_late, placed_means, placed_reason};
+ghost use Rattle.fdb_lines.specs.Keys.{AreExplainedByKey, HasLateByKey, HasReasonByKey};
 ghost use Rattle.fdb_lines.specs.Log.{lines_of};
 ghost use Rattle.fdb_lines.specs.Reasons.{found_of};
-ghost use Rattle.fdb_lines.specs.private.Keys.{items_at, placed_at, AreToldAt};
+ghost use Rattle.fdb_lines.specs.private.Keys.{AreByLine};
 
 use crate::fault::Found;
-use crate::finding::add_findings;
+use crate::finding::findings;
 use crate::late::Late;
 use crate::log::Log;
 use crate::opts::AuditOpts;
 use crate::parts::parts_of;
 use crate::reason::{Finding, Means, Reason, Witness};
-use crate::tables::Tables;
-use crate::tables_of::tables_of;
 use std::alloc::{AllocError, Global};
 
 /// The faults of a log whose lines have keys, or none. Each key is a register of its own, and lines
@@ -44,94 +40,53 @@ pub fn findings_by_key(
     ensures late { IfOk result
         (λ findings. All (HasLateByKey (lines_of log.now) keys.now opts.now) findings.items) }
 {
-    let judged = judge_by_key(alloc, log, keys, opts)?;
-    let mut findings = Vec::new(alloc);
-    for here in &judged {
-        findings.extend_from_slice(here)?;
-    }
-    Ok(findings)
-}
-
-/// What is found at each line among the lines of its key, told of the whole log.
-fn judge_by_key(
-    alloc: Global,
-    log: &Log,
-    keys: &[Option<u32>],
-    opts: &AuditOpts,
-) -> Result<Vec<Vec<Finding>>, AllocError>
-    requires { length keys.now ≡ length (lines_of log.now).lines }
-    ensures as_many { IfOk result (λ judged. length judged.items ≡ length keys.now) }
-    ensures told { IfOk result (λ judged. (k : ℕ) → k < length keys.now
-        → AreToldAt (lines_of log.now) opts.now (places_of keys.now (key_at keys.now k))
-        (place_among keys.now k) k (items_at judged.items k)) }
-{
     let parts = parts_of(alloc, keys)?;
-    let mut judged = Vec::with_capacity(alloc, keys.len())?;
-    for _key in keys {
-        judged.push(Vec::new(alloc))?;
-    }
+    let mut found = Vec::new(alloc);
     for part in 0..parts.len() {
-        judge_part(alloc, log, &parts[part].places, opts, &mut judged)?;
+        let places = &parts[part].places;
+        let lines = log.part(alloc, places)?;
+        let here = findings(alloc, &lines, opts)?;
+        add_placed(&mut found, &here, places)?;
     }
-    Ok(judged)
+    sort_by_line(&mut found)?;
+    Ok(found)
 }
 
-/// Judges the lines at some places as a log of their own, and puts what is found where they stand.
-fn judge_part(
-    alloc: Global,
-    log: &Log,
-    places: &[u32],
-    opts: &AuditOpts,
-    judged: &mut Vec<Vec<Finding>>,
-) -> Result<(), AllocError>
-    requires few { length places.now ≤ 4294967295 }
-    requires room { length judged.old.items ≡ length (lines_of log.now).lines }
-    requires within { (j : ℕ) → j < length places.now
-        → slice_index places.now j < length (lines_of log.now).lines }
-    requires apart { (i j : ℕ) → i < length places.now → j < length places.now
-        → slice_index places.now i ≡ slice_index places.now j → i ≡ j }
-    requires fresh { (j : ℕ) → j < length places.now
-        → items_at judged.old.items (slice_index places.now j) ≡ [] }
-    ensures room { length judged.new.items ≡ length judged.old.items }
-    ensures told { OnOk result ((j : ℕ) → j < length places.now
-        → AreToldAt (lines_of log.now) opts.now places.now j (slice_index places.now j)
-        (items_at judged.new.items (slice_index places.now j))) }
-    ensures others { OnOk result ((k : ℕ)
-        → ((j : ℕ) → j < length places.now → slice_index places.now j ≢ k)
-        → items_at judged.new.items k ≡ items_at judged.old.items k) }
-{
-    let part = log.part(alloc, places)?;
-    let made = tables_of(alloc, &part, opts)?;
-    let tables = Tables::new(&part, opts, &made);
-    for (at, place) in places.iter().enumerate() {
-        let mut here = Vec::new(alloc);
-        add_findings(&mut here, &tables, at)?;
-        add_placed(&mut judged[*place as usize], &here, places, *place)?;
-    }
-    Ok(())
-}
-
-/// Adds what was found at a line among those at some places, told of the whole log.
-fn add_placed(
-    findings: &mut Vec<Finding>,
+/// Adds what was found at the lines at some places, told of the whole log.
+pub(crate) fn add_placed(
+    found: &mut Vec<Finding>,
     here: &[Finding],
     places: &[u32],
-    place: u32,
 ) -> Result<(), AllocError>
-    ensures { OnOk result (findings.new.items
-        ≡ findings.old.items ++ map (placed_at place places.now) here.now) }
+    ensures { OnOk result (found.new.items
+        ≡ found.old.items ++ map (placed_finding places.now) here.now) }
 {
     for finding in here {
-        findings.push(Finding {
-            found: Found {
-                line: place,
-                fault: finding.found.fault,
-            },
-            reason: placed_reason(places, finding.reason),
-            late: placed_late(places, finding.late),
-        })?;
+        found.push(placed_finding(places, *finding))?;
     }
     Ok(())
+}
+
+/// Sorts what was found, which stands in order at each line.
+pub(crate) fn sort_by_line(found: &mut Vec<Finding>) -> Result<(), AllocError>
+    ensures { OnOk result (AreByLine found.old.items found.new.items) }
+{
+    found.sort_by_key(|finding| finding.found.line)?;
+    Ok(())
+}
+
+/// A finding, with all lines that it names told of the whole log.
+fn placed_finding(places: &[u32], finding: Finding) -> Finding
+    ensures { result ≡ placed_finding places.now finding }
+{
+    Finding {
+        found: Found {
+            line: place_in(places, finding.found.line),
+            fault: finding.found.fault,
+        },
+        reason: placed_reason(places, finding.reason),
+        late: placed_late(places, finding.late),
+    }
 }
 
 /// A reason, with the lines that it names told of the whole log.

@@ -56,7 +56,7 @@ pub use late::Late;
 pub use line::{Line, Operation, Times};
 pub use log::{LineError, Log, MAX_LINES};
 pub use opts::AuditOpts;
-pub use ordering::{order, order_or_finding};
+pub use ordering::{order, order_or_findings};
 pub use reason::{Finding, Means, Reason, Witness};
 pub use step::OrderStep;
 pub use summed::Summary;

@@ -1,8 +1,8 @@
 //! An order that explains the lines of a log.
 
-ghost use Rattle.std.specs.Prelude.{◌≡◌, ◌++◌, None, Some, IfErr, IfOk, IfSome};
+ghost use Rattle.std.specs.Prelude.{◌≡◌, ◌≢◌, ◌++◌, All, None, IfErr, IfOk};
 ghost use Rattle.std.specs.Prelude.{MatchOption, OnErr, OnOk, length, map, option_map};
-ghost use Rattle.std.specs.Prelude.{option_to_list, slice_get};
+ghost use Rattle.std.specs.Prelude.{option_to_list};
 ghost use Rattle.fdb_lines.specs.Audit.{AreExplained, case_of};
 ghost use Rattle.fdb_lines.specs.Late.{HasLate};
 ghost use Rattle.fdb_lines.specs.Listing.{faults_of};
@@ -12,7 +12,7 @@ ghost use Rattle.fdb_lines.specs.OrderSteps.{IsOrderOf};
 ghost use Rattle.fdb_lines.specs.private.Slots.{entries_below, entry_of, steps_from};
 ghost use Rattle.fdb_lines.specs.private.Tables.{case_in};
 
-use crate::finding::first_in;
+use crate::finding::findings_in;
 use crate::log::Log;
 use crate::opts::AuditOpts;
 use crate::reason::Finding;
@@ -35,35 +35,38 @@ pub fn order(
         (¬ (AreExplained (case_of (lines_of log.now) opts.now)))
         (λ steps. IsOrderOf (case_of (lines_of log.now) opts.now) steps.items)) }
 {
-    match order_or_finding(alloc, log, opts)? {
+    match order_or_findings(alloc, log, opts)? {
         Ok(steps) => Ok(Some(steps)),
-        Err(_finding) => Ok(None),
+        Err(_found) => Ok(None),
     }
 }
 
-/// An order of the effects of a log that explains its lines; where no order does, the first fault, as
-/// [`first_finding`](crate::first_finding) tells it. An error only where memory is refused.
+/// An order of the effects of a log that explains its lines; where no order does, all faults, as
+/// [`findings`](crate::findings) tells them. An error only where memory is refused.
 ///
 /// `n log n` in how many lines there are.
-pub fn order_or_finding(
+pub fn order_or_findings(
     alloc: Global,
     log: &Log,
     opts: &AuditOpts,
-) -> Result<Result<Vec<OrderStep>, Finding>, AllocError>
+) -> Result<Result<Vec<OrderStep>, Vec<Finding>>, AllocError>
     ensures explains { IfOk result (λ it. IfOk it
         (λ steps. IsOrderOf (case_of (lines_of log.now) opts.now) steps.items)) }
     ensures unexplained { IfOk result
         (λ it. OnErr it (¬ (AreExplained (case_of (lines_of log.now) opts.now)))) }
-    ensures first { IfOk result (λ it. IfErr it
-        (λ first. Some (found_of first)
-        ≡ slice_get (faults_of (case_of (lines_of log.now) opts.now)) 0)) }
-    ensures reason { IfOk result (λ it. IfErr it (HasReason (lines_of log.now) opts.now)) }
-    ensures late { IfOk result (λ it. IfErr it (HasLate (lines_of log.now) opts.now)) }
+    ensures listed { IfOk result (λ it. IfErr it (λ found. map found_of found.items
+        ≡ faults_of (case_of (lines_of log.now) opts.now))) }
+    ensures some { IfOk result (λ it. IfErr it (λ found. length found.items ≢ 0)) }
+    ensures reasons { IfOk result (λ it. IfErr it
+        (λ found. All (HasReason (lines_of log.now) opts.now) found.items)) }
+    ensures late { IfOk result (λ it. IfErr it
+        (λ found. All (HasLate (lines_of log.now) opts.now) found.items)) }
 {
     let made = tables_of(alloc, log, opts)?;
     let tables = Tables::new(log, opts, &made);
-    if let Some(first) = first_in(alloc, &tables)? {
-        return Ok(Err(first));
+    let found = findings_in(alloc, &tables)?;
+    if !found.is_empty() {
+        return Ok(Err(found));
     }
     let mut slots = slots_of(alloc, &tables)?;
     // Others come after the lines that share their effect.

@@ -1,19 +1,18 @@
--- The parts of a log, one for each key, and what was found at each line.
-use Rattle.std.specs.Prelude.{◌≡◌, ◌≢◌, ◌⊎◌, ℕ, zero, suc, ◌<◌, List, [], ◌∷◌, ◌++◌, Option, None, Some, Vec, cond, length, map, nat_lt, set, slice_index_or}
+-- The parts of a log, one for each key, and what was found at their lines.
+use Rattle.std.specs.Prelude.{◌≡◌, ◌≢◌, ◌⊎◌, ◌==◌, ℕ, suc, zero, ◌<◌, Bool, List, [], ◌∷◌, ◌++◌, Option, None, Some, cond, length, map, nat_lt, set, slice_index_or}
 use Rattle.std.specs.BTreeMap.{get}
 use Rattle.std.specs.Ordering.{nat_cmp}
-use Rattle.std.specs.declared.alloc.Global.{Global}
-use Rattle.std.specs.List.{All}
+use Rattle.std.specs.List.{filter, flat_map}
+use Rattle.std.specs.List.Sorted.{IsNonDecreasingBy, IsPermutation}
+use Rattle.fdb_lines.specs.declared.fault.Found.{Found}
 use Rattle.fdb_lines.specs.declared.opts.AuditOpts.{AuditOpts}
 use Rattle.fdb_lines.specs.declared.parts.Part.{Part}
 use Rattle.fdb_lines.specs.declared.parts.PartNumbers.{PartNumbers}
 use Rattle.fdb_lines.specs.declared.reason.Finding.{Finding}
-use Rattle.fdb_lines.specs.Audit.{case_of}
-use Rattle.fdb_lines.specs.Keys.{key_at, placed_late, placed_reason, told_at}
-use Rattle.fdb_lines.specs.Late.{IsLateAt}
-use Rattle.fdb_lines.specs.Lines.{Lines, part_of}
-use Rattle.fdb_lines.specs.Listing.{faults_at}
-use Rattle.fdb_lines.specs.Reasons.{found_of, IsReason}
+use Rattle.fdb_lines.specs.Keys.{case_of_key, key_at, placed_found, places_of}
+use Rattle.fdb_lines.specs.Lines.{Lines}
+use Rattle.fdb_lines.specs.Listing.{faults_of}
+use Rattle.fdb_lines.specs.Reasons.{found_of}
 
 -- ---- a number for each key, and the parts of a log
 
@@ -49,22 +48,19 @@ IsPlaceMore old new number place =
     (part : Part) × (part.key ≡ key_at (keys_in old) number)
     × (part.places.items ≡ (slice_index_or old number part).places.items ++ place ∷ []) × (new ≡ set old number part)
 
--- the items of one of some lists, and none past them
-abbrev pub items_at : {X : Type 0} → List (Vec X Global) → ℕ → List X
-items_at {X} lists k = slice_index_or (map (λ (list : Vec X Global). list.items) lists) k []
+-- ---- what was found at the lines of some keys, key by key
 
--- ---- what was found at a line among those at some places
+abbrev pub faults_of_key : Lines → List (Option ℕ) → AuditOpts → Option ℕ → List Found
+faults_of_key log keys opts key = map (placed_found (places_of keys key)) (faults_of (case_of_key log keys opts key))
 
-abbrev pub AreFoundAt : Lines → AuditOpts → List ℕ → ℕ → List Finding → Type 0
-AreFoundAt log opts places j findings =
-    (map found_of findings ≡ faults_at (case_of (part_of log places) opts) j)
-    × All (λ (finding : Finding). IsReason (part_of log places) opts j finding.found.fault finding.reason) findings
-    × All (λ (finding : Finding). IsLateAt (part_of log places) opts j finding.found.fault finding.late) findings
+abbrev pub faults_of_keys : Lines → List (Option ℕ) → AuditOpts → List (Option ℕ) → List Found
+faults_of_keys log keys opts names = flat_map (faults_of_key log keys opts) names
 
--- a finding, told of a line of the whole log
-abbrev pub placed_at : ℕ → List ℕ → Finding → Finding
-placed_at k places finding = record { found = told_at k finding.found; reason = placed_reason places finding.reason; late = placed_late places finding.late }
+abbrev pub stands_at : ℕ → Found → Bool
+stands_at k found = found.line == k
 
--- what was found at a line, which is that at j among those at some places, told of the whole log
-abbrev pub AreToldAt : Lines → AuditOpts → List ℕ → ℕ → ℕ → List Finding → Type 0
-AreToldAt log opts places j k told = (here : List Finding) × AreFoundAt log opts places j here × (told ≡ map (placed_at k places) here)
+-- the same findings, line by line, and at each line in the order that they had
+pub record AreByLine (old new : List Finding) : Type 0 where
+  pub same : IsPermutation old new
+  pub rise : IsNonDecreasingBy (λ (found : Found). found.line) (map found_of new)
+  pub stay : (k : ℕ) → filter (stands_at k) (map found_of new) ≡ filter (stands_at k) (map found_of old)

@@ -1,60 +1,42 @@
-use Rattle.std.proofs.Common.{◌≡◌, ◌<◌, ◌++◌, length, map, ap, get_or, sym, subst, ◌∙◌, arith}
-use Rattle.std.specs.List.{All}
+use Rattle.std.proofs.Common.{◌≡◌, length, ap, sym, ◌∙◌, arith}
 use Rattle.std.proofs.lemmas.List.{length-map}
-use Rattle.std.proofs.lemmas.List.Elements.{All-append}
-use Rattle.fdb_lines.specs.Keys.{faults_below_by_key, faults_by_key, key_at, places_of, HasLateByKey, HasReasonByKey}
+use Rattle.fdb_lines.specs.declared.parts.Part.{Part}
+use Rattle.fdb_lines.specs.Keys.{key_at, keys_of}
 use Rattle.fdb_lines.specs.Log.{lines_of}
-use Rattle.fdb_lines.specs.Reasons.{found_of}
-use Rattle.fdb_lines.specs.private.Keys.{placed_at}
-use Rattle.fdb_lines.proofs.Merged.{explained, lates_here, listed_more, reasons_here}
-use Rattle.fdb_lines.proofs.Slotted.{items_get}
+use Rattle.fdb_lines.proofs.Gathered.{gathered_all, gathered_more}
+use Rattle.fdb_lines.proofs.Keyed.{of_key}
+use Rattle.fdb_lines.proofs.Parted.{part_at}
 use Rattle.fdb_lines.proofs.keys.findings_by_key.Goals as goal
 
-pub loop-here-preserved : goal.loop-here-preserved
-loop-here-preserved c =
-    let log = lines_of c.args.log.now in
-    let opts = c.args.opts.now in
+pub part-requires-clause-within : goal.part-requires-clause-within
+part-requires-clause-within c = λ j lt.
     let keys = c.args.keys.now in
-    let k = c.loop-here.here-index in
-    let judged = c.in_ok-judged.judged.items in
-    let before = c.loop-here.findings.items in
-    let inv = c.loop-here.invariant in
-    let many = c.in_ok-judged.ensures.as_many in
-    let within : k < length keys = omega arith in
-    let (here, found, told) = c.in_ok-judged.ensures.told k within in
-    let item = c.here-item.result in
-    let same : c.deref.result.now ≡ map (placed_at k (places_of keys (key_at keys k))) here =
-    c.deref.ensures.value ∙ (sym (items_get judged k item (omega arith) (c.here-item.is ∙ ap (λ lists. get_or lists k item) c.deref-here-items.ensures.value)) ∙ told) in
-    let is : c.extend_from_slice.new.self.items ≡ before ++ map (placed_at k (places_of keys (key_at keys k))) here =
-    c.in_ok-extend_from_slice.ensures.items ∙ ap (λ list. before ++ list) same in
-    record {
-      listed = rw is (listed_more log keys opts k before here inv.listed found);
-      reasons = subst (All (HasReasonByKey log keys opts)) (sym is) (All-append (HasReasonByKey log keys opts) before _ inv.reasons (reasons_here log keys opts k here found));
-      late = subst (All (HasLateByKey log keys opts)) (sym is) (All-append (HasLateByKey log keys opts) before _ inv.late (lates_here log keys opts k here found));
-    }
-
-pub returns-clause-listed : goal.returns-clause-listed
-returns-clause-listed c =
-    let log = lines_of c.args.log.now in
-    let many = c.in_ok-judged.ensures.as_many in
+    let n = c.loop-part.part in
+    let parts = c.in_ok-parts.ensures in
+    let part = part_at keys c.in_ok-parts.parts.items n c.index.result.now parts.keys parts.places (omega arith) c.index.ensures in
     let as_many = c.requires.as_many in
-    let most = c.loop-here.auto.here-index-end in
-    let least = c.loop-here-test.false in
-    let all : c.loop-here.here-index ≡ length log.lines = omega arith in
-    c.loop-here.invariant.listed ∙ ap (faults_below_by_key log c.args.keys.now c.args.opts.now) all
+    let inside = (of_key keys (key_at (keys_of keys) n) c.deref.result.now (c.deref.ensures.value ∙ part.1) j lt).0 in
+    omega arith
 
-pub returns-clause-explained : goal.returns-clause-explained
-returns-clause-explained c =
-    let log = lines_of c.args.log.now in
+pub loop-part-preserved : goal.loop-part-preserved
+loop-part-preserved c =
     let keys = c.args.keys.now in
-    let opts = c.args.opts.now in
-    let findings = c.loop-here.findings.items in
-    let many = c.in_ok-judged.ensures.as_many in
-    let as_many = c.requires.as_many in
-    let most = c.loop-here.auto.here-index-end in
-    let least = c.loop-here-test.false in
-    let all : c.loop-here.here-index ≡ length log.lines = omega arith in
-    let listed : map found_of findings ≡ faults_by_key log keys opts = c.loop-here.invariant.listed ∙ ap (faults_below_by_key log keys opts) all in
-    let size : length findings ≡ length (faults_by_key log keys opts) = sym (length-map findings found_of) ∙ ap length listed in
-    let same = explained log keys opts as_many in
-    (λ none. same.0 (sym size ∙ none), λ some. size ∙ same.1 some)
+    let n = c.loop-part.part in
+    let parts = c.in_ok-parts.ensures in
+    let part = part_at keys c.in_ok-parts.parts.items n c.index.result.now parts.keys parts.places (omega arith) c.index.ensures in
+    let found = c.loop-part.found.items in
+    let here = c.in_ok-here.ensures in
+    let places = c.deref.ensures.value in
+    let added = rw (c.deref-in-loop-part.ensures.value, c.deref-in-loop-part-2.ensures.value) at c.in_ok-add_placed.ensures in
+    gathered_more (lines_of c.args.log.now) c.args.opts.now keys n found c.in_ok-here.here.items c.add_placed.new.found.items (lines_of c.in_ok-lines.lines)
+    c.index.result.now.places.items part.0 part.1 (rw places at c.in_ok-lines.ensures) added here.listed here.reasons here.late c.loop-part.invariant
+
+pub returns : goal.returns
+returns c =
+    let keys = c.args.keys.now in
+    let parts = c.in_ok-parts.ensures in
+    let size : length (keys_of keys) ≡ length c.in_ok-parts.parts.items = ap length (sym parts.keys) ∙ length-map c.in_ok-parts.parts.items (λ (part : Part). part.key) in
+    let test = c.loop-part-test.false in
+    let all = gathered_all (lines_of c.args.log.now) c.args.opts.now keys c.loop-part.part c.loop-part.found.items c.sort_by_line.new.found.items (omega arith) c.requires.as_many
+    c.in_ok-sort_by_line.ensures c.loop-part.invariant in
+    record { listed = all.0; explained = all.1; reasons = all.2; late = all.3 }

@@ -2,7 +2,7 @@ use Rattle.std.proofs.Common.{◌≡◌, ℕ, Bool, true, false, None, Option, c
 use Rattle.std.proofs.lemmas.Grind.{common_steps}
 use Rattle.std.specs.BTreeMap.{get}
 use Rattle.std.specs.Ordering.{nat_cmp}
-use Rattle.fdb_lines.proofs.Slotted.{nothing_more}
+use Rattle.fdb_lines.proofs.Parted.{nothing_more}
 use Rattle.fdb_lines.proofs.parts.PartNumbers.new.Goals as goal
 
 none_at : (b : Bool) (near far : Option ℕ) → near ≡ None → far ≡ None → cond b near far ≡ None

@@ -1,8 +1,0 @@
-use Rattle.std.proofs.Common.{take}
-use Rattle.fdb_lines.specs.Keys.{keys_of}
-use Rattle.fdb_lines.specs.Log.{lines_of}
-use Rattle.fdb_lines.specs.private.KeyOrders.{AreOrders}
-use Rattle.fdb_lines.proofs.key_orders.orders_of.Given as goal
-
-abbrev pub invariant-loop-part : goal.invariant-loop-part
-invariant-loop-part l = AreOrders (lines_of l.log) l.keys l.opts (take l.part (keys_of l.keys)) l.orders.items
