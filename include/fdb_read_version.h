@@ -545,9 +545,10 @@ uint8_t fdb_audit_push(fdb_audit *audit, const uint8_t *bytes, size_t bytes_leng
  * Audits the log, which ends here, with half a line that has come last; what it kept of the log is
  * freed, and what it found stays. The audit is then over. `*audit` must be an audit.
  *
- * FDB_OK, FDB_FAULT or the refusal, as by fdb_audit_log_text for all bytes that have come; of a log with
- * keys FDB_BAD_MEMBER also where a client has learnt (FDB_LEARN), and where a key is no string and no
- * whole number (0); FDB_OVER where it was over before. FDB_MEMORY and a refusal find nothing. `n log n` in the lines, twice.
+ * FDB_OK, FDB_FAULT or the refusal, as by fdb_audit_log_text for all bytes that have come; of a log
+ * with keys FDB_BAD_MEMBER also where a client has learnt (FDB_LEARN), and where a key is no string and
+ * no whole number (0). FDB_OVER where it was over before. FDB_MEMORY and a refusal find nothing.
+ * `n log n` in the lines, twice.
  */
 uint8_t fdb_audit_end(fdb_audit *audit, fdb_refused *refused);
 
