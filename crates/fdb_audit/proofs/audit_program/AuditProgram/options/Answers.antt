@@ -24,6 +24,6 @@ returns-clause-said c = λ arguments matches. record {
   wanted = c.wanted_of-wanted.ensures arguments matches;
   keep = c.in_ok-owned.ensures ∙ c.text-keep.ensures command arguments matches;
   key = c.in_ok-owned-2.ensures ∙ c.text.ensures command arguments matches;
-  shown = c.in_ok-members.ensures ∙ ap members_named (c.text-2.ensures command arguments matches);
+  shown = c.in_ok-member_names.ensures ∙ ap members_named (c.text-2.ensures command arguments matches);
   progress = c.is_given.ensures command arguments matches (refl, refl, refl);
 }
