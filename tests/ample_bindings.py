@@ -501,7 +501,8 @@ def warned(count):
     return watched(in_pieces(log.encode(), 65_536), said, lines)
 
 
-AUDIT = "fdb_audit_new, fdb_audit_push, fdb_audit_end, fdb_audit_text, fdb_audit_faults, judge_named"
+AUDIT = "fdb_audit_new, fdb_audit_push, fdb_audit_end, fdb_audit_text, fdb_audit_faults"
+AUDIT = f"{AUDIT}, judge_named"
 WATCH = "fdb_watch_new, fdb_watch_push, fdb_watch_tell, fdb_watch_end, fdb_watch_text"
 TABLE = (
     Row("fdb_chain_answers", answers_kept, CHEAP),

@@ -1,5 +1,6 @@
 """What each function answers, in each field, as it was worked out by hand from the header's text."""
 import ctypes
+import json
 import subprocess
 import sys
 import tempfile
@@ -200,6 +201,7 @@ class OfHandles(unittest.TestCase):
             (found.push, (b"",)),
             (found.end, ()),
             (found.text, ()),
+            (found.objects, ()),
             (found.faults, ()),
             (watch.push, (b"",)),
             (watch.tell, ()),
@@ -337,7 +339,8 @@ class OfLogs(unittest.TestCase):
         ])
 
     def test_keys(self):
-        order = Fault(2, FaultKind.ORDER, Reason.KNOWN, None, Known(200, Means.ENDED, 0), Late(0, 2))
+        known = Known(200, Means.ENDED, 0)
+        order = Fault(2, FaultKind.ORDER, Reason.KNOWN, None, known, Late(0, 2))
         self.assertEqual([it.line for it in audit(KEYED)], [1, 2])
         self.assertEqual(audit(KEYED, key=""), audit(KEYED))
         self.assertEqual(audit_text(KEYED, key="é"), KEYED_SAID % ("", ""))
@@ -380,6 +383,8 @@ class OfLogs(unittest.TestCase):
             with Audit(**asked, **wanted) as found:
                 found.push(KEYED)
                 self.assertEqual((found.end(), found.text()), (Status.FAULT, text))
+                if "json" in wanted:
+                    self.assertEqual(found.objects(), [json.loads(it) for it in text.splitlines()])
         fine = KEYED.split("\n")[0]
         self.assertEqual(audit_text(fine, **asked, totals=True, history=True),
                          "audit ok lines 1 timed 1 reads 0 commits 1 asks 0 reports 0 learns 0 "

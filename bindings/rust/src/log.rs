@@ -126,8 +126,8 @@ pub struct Wanted {
     pub all: bool,
     /// Of a log without a fault an order that explains it.
     pub history: bool,
-    /// Where a fault stands, how much was judged and how many faults there are of each kind; without
-    /// `all` these alone.
+    /// Where a fault stands, how much was judged and how many faults there are of each kind;
+    /// without `all` these alone.
     pub totals: bool,
     /// JSON objects, one a line, and not sentences.
     pub json: bool,
@@ -265,8 +265,8 @@ pub struct Fault {
     pub kind: FaultKind,
     /// Why.
     pub reason: Reason,
-    /// By how much the call was late: of `Order` and `NotAbove` in a log with times, where a line of
-    /// another call outdates it.
+    /// By how much the call was late: of `Order` and `NotAbove` in a log with times, where a line
+    /// of another call outdates it.
     pub late: Option<Late>,
 }
 

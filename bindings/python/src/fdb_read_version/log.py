@@ -1,6 +1,7 @@
 """The audit of a log of calls: its faults, with why each stands, or what is said of it."""
 from __future__ import annotations
 
+import json as written_json
 from ctypes import byref, c_uint8, c_uint64
 from dataclasses import dataclass
 from typing import Any, Iterable, List, Optional, Sequence, Tuple, Union, cast
@@ -112,8 +113,8 @@ class Known:
 class Late:
     """By how much a call was late, and by which line, counted from 0.
 
-    That outdates the call and was the first to end: `by` is from its end to where the call began, and
-    the fault stands under each lesser margin; 0 where it had not ended by then.
+    That outdates the call and was the first to end: `by` is from its end to where the call began,
+    and the fault stands under each lesser margin; 0 where it had not ended by then.
     """
 
     line: int
@@ -169,10 +170,10 @@ def audit(
 
     The log is JSON Lines, as docs/FORMATS.md has them, as bytes or a text, or an iterable of `Call`.
     `complete` is the version that all began with, where the log has all calls; `margin` says how far
-    the clocks of two clients may be apart, in the unit of the times. `key` names the member that has
-    a line's key, and each key is then judged by itself, as one register; where it is None or empty
-    there are no keys, and a `Call` has none (`ValueError`). `LogRefused` is raised where a line is
-    wrong or a text has none, and `Refused` says MEMORY.
+    the clocks of two clients may be apart, in the unit of the times. `key` names the member that
+    has a line's key, and each key is then judged by itself, as one register; where it is None or
+    empty there are no keys, and a `Call` has none (`ValueError`). `LogRefused` is raised where a
+    line is wrong or a text has none, and `Refused` says MEMORY.
     """
     given, lines, name = _log(log, key is not None)
     if key is not None:
@@ -231,8 +232,9 @@ def audit_text(
 class Audit(Handle):
     """An audit of JSON Lines that come piece by piece, and then what it found.
 
-    It keeps the log's lines and not their bytes. `complete`, `margin` and `key` are those of `audit`,
-    and the rest those of `audit_text`. `Refused` says MEMORY, or BAD_MEMBER where `key` is no UTF-8.
+    It keeps the log's lines and not their bytes. `complete`, `margin` and `key` are those of
+    `audit`, and the rest those of `audit_text`. `Refused` says MEMORY, or BAD_MEMBER where `key`
+    is no UTF-8.
 
     Threads may share one: their calls wait for one another. It is freed by `close`, at the end of a
     `with`, or when nobody has it any more, and can be neither copied nor pickled.
@@ -275,6 +277,10 @@ class Audit(Handle):
     def text(self) -> str:
         """What was found, as `audit_text` has it: empty where nothing was found yet."""
         return str(self._call(written, library.fdb_audit_text, c_uint8), "utf-8")
+
+    def objects(self) -> List[Any]:
+        """What was found with `json`, as values of Python."""
+        return objects_in(self.text())
 
     def faults(self) -> List[Fault]:
         """All faults that were found, by line."""
@@ -329,6 +335,11 @@ def _told(
             break
         room = size.value
     return verdict(status, refused), found, size.value
+
+
+def objects_in(text: str) -> List[Any]:
+    """The objects of a text that has one a line."""
+    return [written_json.loads(it) for it in text.split("\n")[:-1]]
 
 
 def verdict(status: int, refused: RawRefused) -> Status:

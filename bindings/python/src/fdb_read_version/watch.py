@@ -1,7 +1,6 @@
 """The watch of a log of calls that grows."""
 from __future__ import annotations
 
-import json as written_json
 from ctypes import byref, c_uint8
 from typing import Any, List, Optional, Sequence, Tuple
 
@@ -9,7 +8,7 @@ from ._handle import Handle, written
 from ._library import RawRefused, RawWatchOptions, library
 from ._status import Refused, Status
 from ._values import Text, flag, members, number, octets
-from .log import verdict
+from .log import objects_in, verdict
 
 
 class Watch(Handle):
@@ -20,7 +19,8 @@ class Watch(Handle):
     each key is then watched by itself; where it is None or empty there are no keys. `show` names
     members that are told beside each line; a name that is empty or has a comma is a `ValueError`.
     With `totals` the end tells how much was read, and how many faults of each kind; with `json`
-    objects are told, and not sentences. `Refused` says MEMORY, or BAD_MEMBER where `key` is no UTF-8.
+    objects are told, and not sentences. `Refused` says MEMORY, or BAD_MEMBER where `key` is no
+    UTF-8.
 
     Threads may share one: their calls wait for one another. It is freed by `close`, at the end of a
     `with`, or when nobody has it any more, and can be neither copied nor pickled.
@@ -87,7 +87,7 @@ class Watch(Handle):
 
     def objects(self) -> List[Any]:
         """What was said last with `json`, as values of Python."""
-        return [written_json.loads(it) for it in self.text().split("\n")[:-1]]
+        return objects_in(self.text())
 
     def warnings(self) -> str:
         """What came with that: a line for each line that was left out, with its number and why."""
