@@ -189,30 +189,48 @@ fn how_late() {
     assert_eq!(found, wanted);
 }
 
-const KEYED: &str = "\
-    {\"client\":\"a\",\"commit\":200,\"began\":10,\"ended\":14,\"\u{e9}\":\"x\",\"node\":[1]}\n\
-    {\"client\":\"b\",\"read\":100,\"began\":15,\"ended\":16,\"\u{e9}\":\"y\",\"node\":2}\n\
-    {\"client\":\"c\",\"read\":100,\"began\":16,\"ended\":17,\"\u{e9}\":\"x\"}\n";
+const KEYED: &str = r#"{"client":"a","commit":200,"began":10,"ended":14,"key":"x","node":[1]}
+{"client":"b","read":100,"began":15,"ended":16,"key":"y","node":2}
+{"client":"c","read":100,"began":16,"ended":17,"key":"x"}
+"#;
+const FAULT_IN_JSON: &str = concat!(
+    r#"{"fault":"Order","at":{"line":3,"client":"c","read":100,"began":16,"ended":17,"members":"#,
+    r#"{"key":"x","node":null,"nods":null}},"late":2,"first":{"line":1,"client":"a","commit":200,"#,
+    r#""began":10,"ended":14,"members":{"key":"x","node":[1],"nods":null}},"reason":"known","#,
+    r#""known":200,"by":{"line":1,"client":"a","commit":200,"began":10,"ended":14,"members":"#,
+    r#"{"key":"x","node":[1],"nods":null}},"means":"ended"}"#,
+    "\n",
+);
+const TOTALS_IN_JSON: &str = concat!(
+    r#"{"total":{"lines":3,"timed":3,"reads":2,"commits":1,"asks":0,"reports":0,"learns":0,"#,
+    r#""unreported":2,"ordered":1},"arguments":{"complete":null,"margin":0,"by_key":true,"#,
+    r#""members":["key","node","nods"]}}
+{"faults":1,"Order":1,"Wrong":0,"NotAbove":0,"Twice":0,"Stray":0}
+{"client":"c","faults":1,"Order":1,"Wrong":0,"NotAbove":0,"Twice":0,"Stray":0}
+{"members":{"key":"x"},"faults":1,"Order":1,"Wrong":0,"NotAbove":0,"Twice":0,"Stray":0}
+{"members":{"node":null},"faults":1,"Order":1,"Wrong":0,"NotAbove":0,"Twice":0,"Stray":0}
+{"members":{"nods":null},"faults":1,"Order":1,"Wrong":0,"NotAbove":0,"Twice":0,"Stray":0}
+"#,
+);
 
 #[test]
 fn by_key() {
     let plain = AuditOptions::default();
-    let options = AuditOptions { key: "\u{e9}", ..plain };
-    let lines = |options| -> Vec<u32> {
-        audit_log(KEYED.as_bytes(), &options).unwrap().iter().map(|it| it.line).collect()
-    };
-    assert_eq!((lines(plain), lines(options)), (vec![1, 2], vec![2]));
-    let fault = audit_log(KEYED.as_bytes(), &options).unwrap()[0];
+    let options = AuditOptions { key: "key", ..plain };
+    let found = |options| audit_log(KEYED.as_bytes(), &options).unwrap();
+    let lines: Vec<u32> = found(plain).iter().map(|it| it.line).collect();
+    assert_eq!(lines, [1, 2]);
     let reason = Reason::Known { version: 200, means: Means::Ended(0) };
     let late = Some(Late { line: 0, by: 2 });
-    assert_eq!(fault, Fault { line: 2, kind: FaultKind::Order, reason, late });
-    let said = "audit fault: Order 3: client \"c\" read 100 \"\u{e9}\":\"x\", but 200 was known: \
-                line 1 (client \"a\", commit 200 \"\u{e9}\":\"x\") had ended 2 before line 3 began\n";
+    assert_eq!(found(options), [Fault { line: 2, kind: FaultKind::Order, reason, late }]);
+    let said =
+        "audit fault: Order 3: client \"c\" read 100 \"key\":\"x\", but 200 was known: line 1 \
+                (client \"a\", commit 200 \"key\":\"x\") had ended 2 before line 3 began\n";
     let text = audit_log_text(KEYED.as_bytes(), &options, Wanted::default());
     assert_eq!(text, Ok(said.to_string()));
     let refused = |line, wrong| Err(LogError::Refused { line, wrong });
     let one = |log: &str| audit_log(log.as_bytes(), &options);
-    assert_eq!(one("{\"client\":\"a\",\"read\":1,\"\u{e9}\":[]}"), refused(1, Wrong::BadKey));
+    assert_eq!(one(r#"{"client":"a","read":1,"key":[]}"#), refused(1, Wrong::BadKey));
     let learn = "{\"client\":\"a\",\"read\":1}\n{\"client\":\"a\",\"learn\":\"a\"}";
     assert_eq!(one(learn), refused(2, Wrong::BadMember(Member::Learn)));
     // Lines have no keys.
@@ -222,43 +240,22 @@ fn by_key() {
 
 #[test]
 fn what_is_shown() {
-    let options = AuditOptions { shown: "node,nods", ..AuditOptions::default() };
-    let said = "audit fault: Order 2: client \"b\" read 100 \"node\":2, but 200 was known: \
-                line 1 (client \"a\", commit 200 \"node\":[1]) had ended 1 before line 2 began\n";
     let text = |options, wanted| audit_log_text(KEYED.as_bytes(), options, wanted).unwrap();
+    let options = AuditOptions { shown: "node,nods", ..AuditOptions::default() };
+    let said = "audit fault: Order 2: client \"b\" read 100 \"node\":2, but 200 was known: line 1 \
+                (client \"a\", commit 200 \"node\":[1]) had ended 1 before line 2 began\n";
     assert_eq!(text(&options, Wanted::default()), said);
-    let options = AuditOptions { key: "\u{e9}", ..options };
-    let wanted = Wanted { totals: true, json: true, ..Wanted::default() };
-    let none = "\"Order\":1,\"Wrong\":0,\"NotAbove\":0,\"Twice\":0,\"Stray\":0}\n";
-    let totals = format!(
-        "{{\"total\":{{\"lines\":3,\"timed\":3,\"reads\":2,\"commits\":1,\"asks\":0,\"reports\":0,\
-         \"learns\":0,\"unreported\":2,\"ordered\":1}},\"arguments\":{{\"complete\":null,\
-         \"margin\":0,\"by_key\":true,\"members\":[\"\u{e9}\",\"node\",\"nods\"]}}}}\n\
-         {{\"faults\":1,{none}{{\"client\":\"c\",\"faults\":1,{none}\
-         {{\"members\":{{\"\u{e9}\":\"x\"}},\"faults\":1,{none}\
-         {{\"members\":{{\"node\":null}},\"faults\":1,{none}\
-         {{\"members\":{{\"nods\":null}},\"faults\":1,{none}"
-    );
-    assert_eq!(text(&options, wanted), totals);
-    let of = |line: &str, ended| {
-        let (client, call) = (&line[..1], &line[1..]);
-        format!(
-            "{{\"line\":{ended},\"client\":\"{client}\",{call},\"members\":{{\"\u{e9}\":\"x\",\
-             \"node\":{},\"nods\":null}}}}",
-            if ended == 1 { "[1]" } else { "null" }
-        )
-    };
-    let read = of("c\"read\":100,\"began\":16,\"ended\":17", 3);
-    let commit = of("a\"commit\":200,\"began\":10,\"ended\":14", 1);
-    let fault = format!(
-        "{{\"fault\":\"Order\",\"at\":{read},\"late\":2,\"first\":{commit},\"reason\":\"known\",\
-         \"known\":200,\"by\":{commit},\"means\":\"ended\"}}\n"
-    );
-    let mut audit = Audit::new(&options, Wanted { all: true, ..wanted }).unwrap();
+    let options = AuditOptions { key: "key", ..options };
+    let in_json = Wanted { json: true, ..Wanted::default() };
+    let totals = Wanted { totals: true, ..in_json };
+    assert_eq!(text(&options, in_json), FAULT_IN_JSON);
+    assert_eq!(text(&options, totals), TOTALS_IN_JSON);
+    let mut audit = Audit::new(&options, Wanted { all: true, ..totals }).unwrap();
     for piece in KEYED.as_bytes().chunks(9) {
         audit.push(piece).unwrap();
     }
-    assert_eq!((audit.end(), audit.text()), (Ok(true), fault + &totals));
+    let all = format!("{FAULT_IN_JSON}{TOTALS_IN_JSON}");
+    assert_eq!((audit.end(), audit.text()), (Ok(true), all));
 }
 
 #[test]
