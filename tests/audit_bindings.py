@@ -10,13 +10,21 @@ from audit_right import why_wrong
 from audit_search import text_of
 from follow_model import asked_of, name_in
 from follow_model import why_wrong as why_wrong_of_watch
-from harness import Ran
+from harness import Ran, fault_of
 from reader import Refused
 
 
 def named(member):
     """A name of the package in the words of a log's text: NOT_ABOVE is NotAbove."""
     return member.name.title().replace("_", "")
+
+
+def worked(_program):
+    """With arguments `python -m fdb_read_version` writes what a hand calculation gives."""
+    for name, given, words, out in [*audit_logs.worked_cases(), *audit_logs.example_cases()]:
+        if words:
+            ran = bindings.python(["-m", "fdb_read_version", *words, "-"], given)
+            yield name, fault_of(ran, audit_logs.ended_with(out)._replace(err=b""))
 
 
 def random_audits(_program):

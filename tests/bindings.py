@@ -130,8 +130,9 @@ def package():
     return fdb_read_version
 
 
-def python(words):
-    return run([sys.executable, *words], seconds=SECONDS, env={**os.environ, "PYTHONPATH": PACKAGE})
+def python(words, given=b""):
+    env = {**os.environ, "PYTHONPATH": PACKAGE}
+    return run([sys.executable, *words], given, SECONDS, env=env)
 
 
 def of_python(_program):
