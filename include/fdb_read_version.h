@@ -414,7 +414,7 @@ typedef struct fdb_audit_options {
 /* Why a log is refused, beside the status. */
 typedef struct fdb_refused {
     uint64_t line;  /* the first line that is wrong, counted from 1; on FDB_EMPTY 0 */
-    uint8_t member; /* on FDB_BAD_MEMBER which, from FDB_CLIENT to FDB_ENDED; else 0 */
+    uint8_t member; /* on FDB_BAD_MEMBER which, from FDB_CLIENT to FDB_ENDED, or 0: the key; else 0 */
 } fdb_refused;
 
 /* What can be wrong with a line. */
@@ -480,8 +480,8 @@ uint8_t fdb_audit_log_text(const uint8_t *log, size_t log_length,
                            fdb_refused *refused);
 
 /*
- * Audits the same, and writes all faults to the start of `faults`, by line. `all` and `history` say
- * nothing here. At a line stand two faults at most.
+ * Audits the same, and writes all faults to the start of `faults`, by line. Of the options
+ * `complete`, `start` and `margin` alone count here. At a line stand two faults at most.
  *
  * As fdb_audit_log_text, with `*size` how many faults there are: 0 on FDB_OK. What stands behind
  * them is as it was.
@@ -534,7 +534,7 @@ uint8_t fdb_audit_new(const fdb_audit_options *options, const uint8_t *key, size
  * Takes the next bytes of the text, cut anywhere. It keeps the log's lines and not their bytes.
  * `*audit` must be an audit.
  *
- * FDB_OK. Where a line is wrong it is refused as by fdb_audit_log_text, whatever may come after it;
+ * FDB_OK. Where a line is wrong it is refused as by fdb_audit_end, whatever may come after it;
  * that, as FDB_MEMORY, ends the audit, and what it kept of the log is freed. FDB_OVER where it was
  * over before; nothing has changed then. Linear in the bytes.
  */
@@ -553,7 +553,7 @@ uint8_t fdb_audit_push(fdb_audit *audit, const uint8_t *bytes, size_t bytes_leng
 uint8_t fdb_audit_end(fdb_audit *audit, fdb_refused *refused);
 
 /*
- * Writes the text of what was found to the start of `text`, with no NUL: that of fdb_audit_log_text;
+ * Writes the text of what was found to the start of `text`, with no NUL: as fdb_audit_log_text does;
  * nothing where nothing was found yet. It may be asked for as often as one likes. `*audit` must be
  * an audit.
  *

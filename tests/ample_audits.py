@@ -396,7 +396,7 @@ AUDITS = (
     Row(FIRST, one_stale, LINES),
     Row(ALL, all_stale, LINES),
     Row(ALL, all_stale_in_json, DEAR),
-    Row(f"{READ}, order_or_finding, summary", explained, LINES),
+    Row(f"{READ}, order_or_findings, summary", explained, LINES),
     Row(f"{BY_KEY}, orders_by_key", explained_by_key, DEAR),
     Row(BY_KEY, stale_by_key, DEAR),
     Row(f"{ALL}, Shown::printed, shown_text", stale_and_shown, DEAR),

@@ -22,12 +22,13 @@ MOST_ROOM, MOST_STARTED, MOST_RATE = 100_000, 10_000, 100_000
 LINES = (0, 1, audits.FEW, *audits.AROUND, 100_000)
 CHEAP = (*LINES, 200_000)
 DEAR = (1, audits.FEW, 65_537, 100_000)
+FEWER = (1, audits.FEW, 65_537)
 ROOMS = (1, audits.FEW, MOST_STARTED, MOST_STARTED + 1, *audits.AROUND, MOST_ROOM)
 MOMENTS = (0, 1, *audits.AROUND, 2**32, 2**63, HIGHEST)
 # How the structs lie: an ask, an answer, a request, one that was turned away, an operation, what
 # came of it, a call, and a fault.
 ASK, ANSWER, REQUEST, TURNED = "<QQQI4x", "<6QI??2x", "<QQB7x", "<QQB7xB7x"
-OP, OUTCOME, CALL, A_FAULT = "<QQBB6x", "<6QQQB7x?B6x", "<QQQIIBBBB4x", "<QIIIIBBB5x"
+OP, OUTCOME, CALL, A_FAULT = "<QQBB6x", "<6QQQB7x?B6x", "<QQQIIBBBB4x", "<QQ5I3B?"
 
 
 class Row(NamedTuple):
@@ -298,7 +299,8 @@ def is_text(call, said, wanted):
 def stale_lines(count):
     """The log of stale reads, what is said of each, and each as a fault."""
     _, log, said = audits.all_stale(count)
-    return log.encode(), said[:count], [(5, at, 0, 0, 0, 1, 1, 2) for at in range(1, count + 1)]
+    faults = [(5, 4 * at - 1, at, 0, 0, 0, 0, 1, 1, 2, True) for at in range(1, count + 1)]
+    return log.encode(), said[:count], faults
 
 
 def is_faults(call, faults):
@@ -362,10 +364,11 @@ def no_calls(_count):
     return is_faults(of_log("calls_faults", none, options()), [])
 
 
-def audited(pieces, said, faults, **asked):
+def audited(pieces, said, faults, key=b"", shown=b"", **asked):
     """An audit of a log that comes in these pieces: what it says and finds."""
     it, refused = raw(), raw().RawRefused()
-    audit, status = opened(it.library.fdb_audit_new, byref(options(**asked)))
+    names = (key, len(key), shown, len(shown))
+    audit, status = opened(it.library.fdb_audit_new, byref(options(**asked)), *names)
     if status:
         return status_of(status)
     wrong = None
@@ -391,6 +394,37 @@ def audited_lines(count):
     return audited(in_pieces(log, 4_096), said, faults, all=True)
 
 
+def audited_in_json(count):
+    _, log, said = audits.all_stale_in_json(count)
+    asked = {"all": True, "totals": True, "json": True}
+    return audited([log.encode()], said, stale_lines(count)[2], **asked)
+
+
+def audited_by_key(count):
+    """Of each key a read is stale by that key's commit, which is the first that outdates it."""
+    _, log, said = audits.stale_by_key(count)
+    faults = [(5, 4 * count - 1, count + at, 0, at, 0, at, 1, 1, 2, True) for at in range(count)]
+    return audited([log.encode()], said, faults, key=b"k", all=True, totals=True)
+
+
+def audited_and_shown(count):
+    _, log, said = audits.stale_and_shown(count)
+    return audited([log.encode()], said, stale_lines(count)[2], shown=b"x", all=True, totals=True)
+
+
+def audited_names(size):
+    """Names of members of so many bytes."""
+    (_, key, _, shown), log, said = audits.long_members(size)
+    names = {"key": key.encode(), "shown": shown.encode()}
+    return audited([log.encode()], said, stale_lines(1)[2], **names)
+
+
+def audited_members(count):
+    """Names of so many members."""
+    (_, shown), log, said = audits.many_shown(count)
+    return audited([log.encode()], said, stale_lines(1)[2], shown=shown.encode())
+
+
 def long_line(count):
     """A log of so many bytes and some more, whose second line is stale."""
     log, said, faults = stale_lines(1)
@@ -406,11 +440,12 @@ def audited_pieces(count):
 # ---- watches
 
 
-def watched(pieces, said, warned=b"", key=b"", **asked):
+def watched(pieces, said, warned=b"", key=b"", shown=b"", **asked):
     """What a watch tells of a log that comes in these pieces, and warns of."""
     it, refused = raw(), raw().RawRefused()
     asked = it.RawWatchOptions(**asked)
-    watch, status = opened(it.library.fdb_watch_new, byref(asked), key, len(key))
+    names = (key, len(key), shown, len(shown))
+    watch, status = opened(it.library.fdb_watch_new, byref(asked), *names)
     if status:
         return status_of(status)
     wrong, told, warnings = None, [], []
@@ -450,6 +485,11 @@ def told_by_key(count):
     return watched([log.encode()], said, key=b"k", behind=watches.FAR)
 
 
+def told_and_shown(count):
+    (_, _, _, shown, *_), log, said = watches.told_and_shown(count)
+    return watched([log.encode()], said, shown=shown.encode(), behind=watches.FAR, totals=True)
+
+
 def told_in_pieces(count):
     log, said, _ = long_line(count)
     return watched(in_pieces(log, 1), said)
@@ -462,6 +502,7 @@ def warned(count):
 
 
 AUDIT = "fdb_audit_new, fdb_audit_push, fdb_audit_end, fdb_audit_text, fdb_audit_faults"
+AUDIT = f"{AUDIT}, judge_named"
 WATCH = "fdb_watch_new, fdb_watch_push, fdb_watch_tell, fdb_watch_end, fdb_watch_text"
 TABLE = (
     Row("fdb_chain_answers", answers_kept, CHEAP),
@@ -485,10 +526,16 @@ TABLE = (
     Row("fdb_audit_calls_faults, Log::push", calls_faults, CHEAP),
     Row("fdb_audit_calls_faults", no_calls, (0,)),
     Row(AUDIT, audited_lines, DEAR),
+    Row(AUDIT, audited_in_json, FEWER),
+    Row(AUDIT, audited_by_key, FEWER),
+    Row(f"{AUDIT}, member_names", audited_and_shown, FEWER),
+    Row(f"{AUDIT}, member_names", audited_names, LINES[1:]),
+    Row(f"{AUDIT}, member_names", audited_members, audits.SHOWN),
     Row(AUDIT, audited_pieces, LINES),
     Row(WATCH, told, DEAR),
     Row(WATCH, told_at_the_end, DEAR),
-    Row(WATCH, told_by_key, (1, audits.FEW, 65_537)),
+    Row(WATCH, told_by_key, FEWER),
+    Row(WATCH, told_and_shown, FEWER),
     Row(WATCH, told_in_pieces, LINES),
     Row(f"{WATCH}, fdb_watch_warnings", warned, DEAR),
 )

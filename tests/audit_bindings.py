@@ -5,12 +5,13 @@ import audit_logs
 import bindings
 import follow
 from audit_lines import lines_of, refusal
-from audit_model import Case, Reason, Witness, options_of, printed
+from audit_model import Log, Reason, Witness, options_of, printed
 from audit_right import why_wrong
 from audit_search import text_of
 from follow_model import asked_of, name_in
 from follow_model import why_wrong as why_wrong_of_watch
-from harness import Ran
+from harness import Ran, fault_of
+from reader import Refused
 
 
 def named(member):
@@ -18,39 +19,92 @@ def named(member):
     return member.name.title().replace("_", "")
 
 
+def worked(_program):
+    """With arguments `python -m fdb_read_version` writes what a hand calculation gives."""
+    for name, given, words, out in [*audit_logs.worked_cases(), *audit_logs.example_cases()]:
+        if words:
+            ran = bindings.python(["-m", "fdb_read_version", *words, "-"], given)
+            yield name, fault_of(ran, audit_logs.ended_with(out)._replace(err=b""))
+
+
 def random_audits(_program):
-    """Random logs are judged as by the model, with reasons that are true of their lines."""
-    for name, given, words in audit_logs.random_cases(audit_logs.RANDOM):
-        fault = fault_of_audit(given, words)
-        yield name, fault and f"{fault}, of {given} with {words}"
+    """Random logs are judged as by the model, also by key, with reasons that are true of them.
+
+    Besides, each is asked for in turn what the program is, and also for what that cannot be.
+    """
+    for number, (name, given, words) in enumerate(audit_logs.random_cases(audit_logs.RANDOM)):
+        words, changed = [*words, *audit_logs.ASKED[number % len(audit_logs.ASKED)]], {}
+        if number % 5 == 0:
+            changed = {"all": number % 2 == 0, "totals": number % 3 == 0}
+        fault = fault_of_audit(given, words, changed)
+        yield name, fault and f"{fault}, of {given} with {words}, {changed}"
 
 
-def fault_of_audit(given, words):
-    library, options = bindings.package(), options_of(words)._replace(key=None, show=())
+def fault_of_audit(given, words, changed):
+    library, options = bindings.package(), options_of(words)._replace(**changed)
     asked = {"complete": options.complete, "margin": options.margin}
-    lines = lines_of(given)
-    case, (calls, numbers) = Case(lines, options), calls_of(lines)
-    found = library.audit(given, **asked)
-    if [(named(it.kind), it.line) for it in found] != case.faults():
-        return f"{found} in place of {case.faults()}"
-    for it in found:
-        true = case.reasons(named(it.kind), it.line)
-        if reason_of(it) not in true:
-            return f"{it}, but what is true is {true}"
-    if library.audit(calls, **asked) != found:
-        return f"by calls {library.audit(calls, **asked)} in place of {found}"
-    text = library.audit_text(given, **asked, all=True, history=True)
-    words, ended = [*words, "--all", "--history"], audit_logs.ended_with(text.encode())
-    wrong = why_wrong(given, words, ended, totals=False, key=None, show=())
+    names = {"key": options.key, "show": options.show}
+    wanted = {it: getattr(options, it) for it in ("all", "history", "totals", "json")}
+    try:
+        log = Log(lines_of(given, options.key), options)
+    except Refused as why:
+        return fault_of_refused(lambda: library.audit_text(given, **asked, **names, **wanted), why)
+    found = library.audit(given, **asked, key=options.key)
+    wrong = why_wrong_found(log, found)
     if wrong:
         return wrong
-    with library.Audit(**asked, all=True, history=True) as pieces:
+    text = library.audit_text(given, **asked, **names, **wanted)
+    with library.Audit(**asked, **names, **wanted) as pieces:
         for at in range(0, len(given), 7):
             pieces.push(given[at : at + 7])
         ended, by_pieces = pieces.end(), (pieces.text(), pieces.faults())
-    if ended != library.Status[("OK", "FAULT")[bool(found)]] or by_pieces != (text, found):
-        return f"{ended} {by_pieces} by pieces, in place of {text!r} {found}"
-    by_calls = library.audit_text(calls, **asked, all=True, history=True)
+    if by_pieces != (text, found):
+        return f"{by_pieces} by pieces, in place of {text!r} {found}"
+    wrong = why_wrong(given, words, as_program(ended, text, found), **changed)
+    return wrong or fault_of_calls(log, found, text, {**asked, **wanted})
+
+
+def why_wrong_found(log, found):
+    """The faults are those of the model, with true reasons, and so late."""
+    library, faults = bindings.package(), log.faults()
+    at = [(fault, case.at[k]) for case, fault, k in faults]
+    if [(named(it.kind), it.line) for it in found] != at:
+        return f"{found} in place of {at}"
+    for it, (case, fault, k) in zip(found, faults):
+        true = [placed(reason, case.at) for reason in case.reasons(fault, k)]
+        first, by = case.late(fault, k) or (None, None)
+        late = None if first is None else library.Late(case.at[first], by)
+        if reason_of(it) not in true or it.late != late:
+            return f"{it}, but what is true is {true}, {late}"
+    return None
+
+
+def fault_of_refused(call, why):
+    """What is wrong with a call that is to refuse a log, or None."""
+    try:
+        said = f"it gives {call()}"
+    except bindings.package().LogRefused as it:
+        said = said_of(it)
+    return None if said == f"fdb_audit: logs refused: {why}\n" else f"{said!r}"
+
+
+def as_program(status, text, found):
+    """How the program would end that is told this of a log."""
+    if status == bindings.package().Status.OK:
+        return Ran(audit_logs.OK, text.encode(), b"")
+    first = f"fdb_audit: audit fault: {named(found[0].kind)} {found[0].line + 1}\n"
+    return Ran(audit_logs.FAULTY, text.encode(), first.encode())
+
+
+def fault_of_calls(log, found, text, asked):
+    """What is wrong with the audit of the same lines as calls, which have no members."""
+    if log.options.key is not None or log.options.show:
+        return None
+    library, (calls, numbers) = bindings.package(), calls_of(log.lines)
+    by_calls = library.audit(calls, complete=asked["complete"], margin=asked["margin"])
+    if by_calls != found:
+        return f"by calls {by_calls} in place of {found}"
+    by_calls = library.audit_text(calls, **asked)
     return None if by_calls == renamed(text, numbers) else f"{by_calls!r} by calls, for {text!r}"
 
 
@@ -72,8 +126,16 @@ def calls_of(lines):
 def renamed(text, numbers):
     """A text whose clients are named by their numbers."""
     for name, number in numbers.items():
-        text = text.replace(f"client {printed(name)}", f"client {number}")
+        for before in ("client ", '"client":', '"learn":'):
+            text = text.replace(f"{before}{printed(name)}", f"{before}{number}")
     return text
+
+
+def placed(reason, at):
+    """A reason whose lines are those of the log, and not of a key."""
+    place = lambda k: None if k is None else at[k]
+    by = reason.by and Witness(place(reason.by.line), reason.by.means, place(reason.by.teller))
+    return reason._replace(other=place(reason.other), by=by)
 
 
 def reason_of(fault):
@@ -87,19 +149,19 @@ def reason_of(fault):
 def refused_audits(_program):
     """Logs are refused at the line, and for the reason, for which the program refuses them."""
     library = bindings.package()
-    for name, given, wanted in audit_logs.refusals():
-        for call in (library.audit, library.audit_text):
-            try:
-                said = f"it gives {call(given)}"
-            except library.LogRefused as it:
-                said = said_of(it)
-            right = said == wanted.err.decode()
-            yield f"{name}, {call.__name__}", None if right else f"{said!r}"
+    for call in (library.audit, library.audit_text):
+        for name, given, wanted in audit_logs.refusals():
+            why = wanted.err.decode().removeprefix("fdb_audit: logs refused: ").rstrip("\n")
+            yield f"{name}, {call.__name__}", fault_of_refused(lambda: call(given), why)
+        for above, line, why in audit_logs.KEYED:
+            fault = fault_of_refused(lambda: call(above + line, key="k"), refusal(2, why))
+            yield f"{line} below {above}, {call.__name__} by key", fault
 
 
 def said_of(refused):
     """What the program says of a log that is refused."""
     member = f" {refused.member.name.lower()}" if refused.member else ""
+    member = " key" if refused.status.name == "BAD_MEMBER" and not member else member
     why = refusal(refused.line, f"{named(refused.status)}{member}")
     return f"fdb_audit: logs refused: {why}\n"
 
@@ -114,6 +176,7 @@ def random_watches(_program):
         behind = max(follow.behind_ends(lines)) + dice.randint(0, 2)
         words = [dice.choice(("--all", "--json")), "--margin", str(dice.choice((0, 0, 1, 5)))]
         words += ["--key", dice.choice(("key", "client"))] * (dice.random() < 0.3)
+        words += ["--show", dice.choice(("note", "none,note"))] * (dice.random() < 0.3)
         words += ["--follow", str(behind)]
         fault = why_wrong_of_watch(given, words, watched(given, words, dice))
         yield f"log {number}", fault and f"{fault}, of {given} with {words}"
@@ -124,7 +187,7 @@ def watched(given, words, dice):
     library, (options, behind) = bindings.package(), asked_of(words)
     asked = {"margin": options.margin, "totals": options.totals, "json": options.json}
     cuts = sorted(dice.randint(0, len(given)) for _ in range(dice.randint(0, 4)))
-    with library.Watch(behind, key=options.key or "", **asked) as watch:
+    with library.Watch(behind, key=options.key, show=options.show, **asked) as watch:
         out = err = ""
         for at, to in zip([0, *cuts], [*cuts, len(given)]):
             watch.push(given[at:to])

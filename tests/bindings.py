@@ -38,7 +38,7 @@ refused: EARLY, expected 1
 """
 AUDIT_OF_PYTHON = b"""\
 Fault(line=1, kind=<FaultKind.ORDER: 1>, reason=<Reason.KNOWN: 1>, other=None, \
-known=Known(version=200, means=<Means.ENDED: 2>, line=0, learnt=None))
+known=Known(version=200, means=<Means.ENDED: 2>, line=0, learnt=None), late=Late(line=0, by=1))
 audit fault: Order 2: client 2 read 100, but 200 was known: line 1 (client 1, commit 200) \
 had ended 1 before line 2 began
 """
@@ -59,10 +59,11 @@ METADATA = b"""\
 The read-version path of FoundationDB 7.1, proved, and an audit of logs, from Python
 Joskleme maintainers <maintainers@users.noreply.joskleme.example>
 >=3.9
-200 30
+200 31
 """
 AUDIT_OF_RUST = b"""\
-Fault { line: 1, kind: Order, reason: Known { version: 200, means: Ended(0) } }
+Fault { line: 1, kind: Order, reason: Known { version: 200, means: Ended(0) }, \
+late: Some(Late { line: 0, by: 1 }) }
 """
 
 
@@ -129,8 +130,9 @@ def package():
     return fdb_read_version
 
 
-def python(words):
-    return run([sys.executable, *words], seconds=SECONDS, env={**os.environ, "PYTHONPATH": PACKAGE})
+def python(words, given=b""):
+    env = {**os.environ, "PYTHONPATH": PACKAGE}
+    return run([sys.executable, *words], given, SECONDS, env=env)
 
 
 def of_python(_program):

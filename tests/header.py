@@ -20,6 +20,13 @@ FOREIGN = re.compile(r"pub fn (\w+)\(([^)]*)\)(?:\s*-> (\w+))?;")
 OF_C = re.compile(r"\b(\w+) (fdb_\w+)\(([^)]*)\);")
 STRUCT_OF_C = re.compile(r"typedef struct (fdb_\w+) \{(.*?)\} \1;", re.DOTALL)
 NUMBER_OF_C = re.compile(r"\b(FDB_\w+) = (\d+)")
+STRUCT_OF_PYTHON = re.compile(r"class Raw(\w+)\(Structure\):\s+_fields_ = \[(.*?)\]\n\n", re.DOTALL)
+FIELD_OF_PYTHON = re.compile(r'\("(\w+)", (?:c_|Raw)(\w+)(?: \* (\d+))?\)')
+# The structs of the package for Python that are not named as those of the header.
+OTHERWISE = {
+    "Config": ["QueueConfig"], "Options": ["AuditOptions"],
+    "Handle": ["Chain", "Queue", "Audit", "Watch"],
+}
 PLAIN = {"u64": "uint64_t", "u32": "uint32_t", "u8": "uint8_t", "usize": "size_t", "bool": "bool"}
 PLAIN = {**PLAIN, None: "void"}
 # What stands before a name of the package for Python in that of the header, by its class.
@@ -101,6 +108,24 @@ def structs(text):
     return found
 
 
+def structs_of_python(text):
+    found = {}
+    for name, body in STRUCT_OF_PYTHON.findall(text):
+        fields = [field_of_python(*it) for it in FIELD_OF_PYTHON.findall(body)]
+        found |= {name_in_c(f"Fdb{it}"): fields for it in OTHERWISE.get(name, [name])}
+    return found
+
+
+def field_of_python(name, type_of, length):
+    if type_of == "void_p":
+        return f"void *{name}"
+    if not type_of.islower():
+        type_of = name_in_c(f"Fdb{type_of}")
+    elif type_of != "bool":
+        type_of += "_t"
+    return f"{type_of} {name}[{length}]" if length else f"{type_of} {name}"
+
+
 def structs_of_header():
     found = STRUCT_OF_C.findall(without_comments(HEADER))
     return {name: [words(it) for it in body.split(";") if it.strip()] for name, body in found}
@@ -159,6 +184,8 @@ def agrees(_program):
         for name, number in re.findall(r"^    ([A-Z_]+) = (\d+)$", body, re.MULTILINE):
             in_c = f"FDB_{PREFIXES.get(kind, '')}{name}"
             yield f"{kind}.{name} of Python", None if header.get(in_c) == number else in_c
+    for case, fault in compared(structs_of_python(python), structs_of_header()):
+        yield f"{case} of Python", fault
     given = re.findall(r'^    "(fdb_\w+)": ', python, re.MULTILINE)
     fault = {*given} ^ {*declared()}
     yield "functions of Python", f"{fault}" if fault else None

@@ -52,7 +52,8 @@ static uint8_t calls_faults(const fdb_call *calls, size_t count, const fdb_audit
 static bool same_fault(const fdb_fault *a, const fdb_fault *b) {
     return a->known == b->known && a->line == b->line && a->other == b->other && a->by == b->by
         && a->learnt == b->learnt && a->kind == b->kind && a->reason == b->reason
-        && a->means == b->means;
+        && a->means == b->means && a->late == b->late && a->first == b->first
+        && a->has_late == b->has_late;
 }
 
 /* ---- worked out by hand */
@@ -76,7 +77,8 @@ static void a_stale_read(void) {
     }
     assert(refused.line == 77 && refused.member == 7);
     fdb_fault fault, wanted = {.known = 200, .line = 1, .by = 0, .kind = FDB_FAULT_ORDER,
-                               .reason = FDB_REASON_KNOWN, .means = FDB_MEANS_ENDED};
+                               .reason = FDB_REASON_KNOWN, .means = FDB_MEANS_ENDED,
+                               .late = 1, .first = 0, .has_late = true};
     uint64_t size = 0;
     assert(log_faults(log, &PLAIN, &fault, 0, &size) == FDB_ROOM && size == 1);
     assert(log_faults(log, &PLAIN, &fault, 1, &size) == FDB_FAULT && size == 1);
@@ -218,6 +220,15 @@ static uint8_t pushed(fdb_audit *audit, const char *log, size_t cut, fdb_refused
     return status;
 }
 
+static fdb_audit opened(const fdb_audit_options *options, const char *key, const char *shown) {
+    fdb_audit audit = FDB_AUDIT_NONE;
+    uint8_t *name = exact(key, strlen(key)), *names = exact(shown, strlen(shown));
+    assert(fdb_audit_new(options, name, strlen(key), names, strlen(shown), &audit) == FDB_OK);
+    free(name);
+    free(names);
+    return audit;
+}
+
 static void in_pieces(void) {
     const char *log = "{\"client\":\"a\",\"commit\":200,\"began\":10,\"ended\":14}\n"
                       "{\"client\":\"b\",\"read\":100,\"began\":15,\"ended\":16}";
@@ -226,10 +237,10 @@ static void in_pieces(void) {
     uint64_t length, size;
     assert(log_text(log, &PLAIN, whole, sizeof whole, &length, &refused) == FDB_FAULT);
     fdb_fault fault, wanted = {.known = 200, .line = 1, .by = 0, .kind = FDB_FAULT_ORDER,
-                               .reason = FDB_REASON_KNOWN, .means = FDB_MEANS_ENDED};
+                               .reason = FDB_REASON_KNOWN, .means = FDB_MEANS_ENDED,
+                               .late = 1, .first = 0, .has_late = true};
     for (size_t cut = 1; cut <= strlen(log); cut++) {
-        fdb_audit audit = FDB_AUDIT_NONE;
-        assert(fdb_audit_new(&PLAIN, &audit) == FDB_OK);
+        fdb_audit audit = opened(&PLAIN, "", "");
         assert(pushed(&audit, log, cut, &refused) == FDB_OK);
         assert(fdb_audit_text(&audit, (uint8_t *)text, 0, &size) == FDB_OK && size == 0);
         assert(fdb_audit_end(&audit, &refused) == FDB_FAULT);
@@ -248,28 +259,144 @@ static void in_pieces(void) {
         assert(audit.at == NULL);
     }
     /* the margin is the one that was asked for, and a refusal comes with its line */
-    fdb_audit audit = FDB_AUDIT_NONE;
     fdb_audit_options options = {.margin = 1};
-    assert(fdb_audit_new(&options, &audit) == FDB_OK);
+    fdb_audit audit = opened(&options, "", "");
     assert(pushed(&audit, log, 7, &refused) == FDB_OK);
     assert(fdb_audit_end(&audit, &refused) == FDB_OK);
     assert(fdb_audit_faults(&audit, &fault, 0, &size) == FDB_OK && size == 0);
     fdb_audit_free(&audit);
-    assert(fdb_audit_new(&PLAIN, &audit) == FDB_OK);
+    audit = opened(&PLAIN, "", "");
     assert(pushed(&audit, "{\"client\":\"a\",\"read\":1}\n{}\n{", 3, &refused) == FDB_NO_CALL);
     assert(refused.line == 2 && refused.member == 0);
     assert(fdb_audit_end(&audit, &refused) == FDB_OVER);
     fdb_audit_free(&audit);
-    assert(fdb_audit_new(&PLAIN, &audit) == FDB_OK);
+    audit = opened(&PLAIN, "", "");
     assert(fdb_audit_end(&audit, &refused) == FDB_EMPTY && refused.line == 0);
     fdb_audit_free(&audit);
     fdb_audit_free(&audit);
     assert(audit.at == NULL);
 }
 
+/* ---- by key, with what is shown, in each form */
+
+#define COUNTS "\"Order\":1,\"Wrong\":0,\"NotAbove\":0,\"Twice\":0,\"Stray\":0}\n"
+#define IN_WORDS "faults 1 Order 1 Wrong 0 NotAbove 0 Twice 0 Stray 0\n"
+#define AT "{\"line\":3,\"client\":\"c\",\"read\":100,\"began\":16,\"ended\":17," \
+           "\"members\":{\"k\":\"x\",\"note\":null,\"\xc3\xa9\":null}}"
+#define BY "{\"line\":1,\"client\":\"a\",\"commit\":200,\"began\":10,\"ended\":14," \
+           "\"members\":{\"k\":\"x\",\"note\":[1],\"\xc3\xa9\":null}}"
+#define SAID_BY_KEY "audit fault: Order 3: client \"c\" read 100 \"k\":\"x\", but 200 was known: " \
+                    "line 1 (client \"a\", commit 200 \"k\":\"x\" \"note\":[1]) had ended 2 " \
+                    "before line 3 began\n"
+#define TOTALS_BY_KEY "audit total lines 3 timed 3 reads 2 commits 1 asks 0 reports 0 learns 0 " \
+                      "unreported 2 ordered 1\naudit total " IN_WORDS "audit total client \"c\" " \
+                      IN_WORDS "audit total \"k\":\"x\" " IN_WORDS "audit total no \"note\" " \
+                      IN_WORDS "audit total no \"\xc3\xa9\" " IN_WORDS
+#define IN_JSON "{\"fault\":\"Order\",\"at\":" AT ",\"late\":2,\"first\":" BY "," \
+                "\"reason\":\"known\",\"known\":200,\"by\":" BY ",\"means\":\"ended\"}\n"
+#define TOTALS_IN_JSON "{\"total\":{\"lines\":3,\"timed\":3,\"reads\":2,\"commits\":1,\"asks\":0," \
+                       "\"reports\":0,\"learns\":0,\"unreported\":2,\"ordered\":1},\"arguments\":" \
+                       "{\"complete\":null,\"margin\":0,\"by_key\":true,\"members\":[\"k\"," \
+                       "\"note\",\"\xc3\xa9\"]}}\n{\"faults\":1," COUNTS "{\"client\":\"c\"," \
+                       "\"faults\":1," COUNTS "{\"members\":{\"k\":\"x\"},\"faults\":1," COUNTS \
+                       "{\"members\":{\"note\":null},\"faults\":1," COUNTS \
+                       "{\"members\":{\"\xc3\xa9\":null},\"faults\":1," COUNTS
+
+static void by_key(void) {
+    const char *log =
+        "{\"client\":\"a\",\"commit\":200,\"began\":10,\"ended\":14,\"k\":\"x\",\"note\":[1]}\n"
+        "{\"client\":\"b\",\"read\":100,\"began\":15,\"ended\":16,\"k\":\"y\",\"note\":2}\n"
+        "{\"client\":\"c\",\"read\":100,\"began\":16,\"ended\":17,\"k\":\"x\"}\n";
+    const struct {
+        fdb_audit_options options;
+        const char *said;
+    } cases[] = {
+        {{0}, SAID_BY_KEY},
+        {{.all = true}, SAID_BY_KEY},
+        {{.totals = true}, TOTALS_BY_KEY},
+        {{.all = true, .totals = true}, SAID_BY_KEY TOTALS_BY_KEY},
+        {{.json = true}, IN_JSON},
+        {{.json = true, .totals = true, .history = true}, TOTALS_IN_JSON},
+        {{.json = true, .all = true, .totals = true}, IN_JSON TOTALS_IN_JSON},
+    };
+    fdb_fault faults[3], wanted = {.known = 200, .late = 2, .line = 2, .by = 0, .first = 0,
+                                   .kind = FDB_FAULT_ORDER, .reason = FDB_REASON_KNOWN,
+                                   .means = FDB_MEANS_ENDED, .has_late = true};
+    fdb_refused refused = {77, 77};
+    uint64_t size;
+    uint8_t text[2000];
+    for (size_t i = 0; i < sizeof cases / sizeof *cases; i++) {
+        fdb_audit audit = opened(&cases[i].options, "k", "note,\xc3\xa9");
+        assert(pushed(&audit, log, 10, &refused) == FDB_OK);
+        assert(fdb_audit_end(&audit, &refused) == FDB_FAULT && refused.line == 77);
+        assert(fdb_audit_text(&audit, text, sizeof text, &size) == FDB_OK);
+        assert(size == strlen(cases[i].said) && !memcmp(text, cases[i].said, size));
+        assert(fdb_audit_faults(&audit, faults, 3, &size) == FDB_OK && size == 1);
+        assert(same_fault(faults, &wanted));
+        fdb_audit_free(&audit);
+    }
+    /* without the key it is one register, and the read of line 2 is stale too */
+    fdb_audit audit = opened(&PLAIN, "", "note");
+    assert(pushed(&audit, log, 10, &refused) == FDB_OK);
+    assert(fdb_audit_end(&audit, &refused) == FDB_FAULT);
+    assert(fdb_audit_faults(&audit, faults, 3, &size) == FDB_OK && size == 2);
+    assert(faults[0].line == 1 && same_fault(&faults[1], &wanted));
+    fdb_audit_free(&audit);
+    /* a key that is no name, a learn beside keys, and names that are no UTF-8 */
+    audit = opened(&PLAIN, "k", "");
+    log = "{\"client\":\"a\",\"read\":1,\"k\":[]}\n";
+    assert(pushed(&audit, log, 99, &refused) == FDB_BAD_MEMBER);
+    assert(refused.line == 1 && refused.member == 0);
+    fdb_audit_free(&audit);
+    audit = opened(&PLAIN, "k", "");
+    log = "{\"client\":\"a\",\"read\":1}\n{\"client\":\"b\",\"learn\":\"a\"}";
+    assert(pushed(&audit, log, 99, &refused) == FDB_OK);
+    assert(fdb_audit_end(&audit, &refused) == FDB_BAD_MEMBER);
+    assert(refused.line == 2 && refused.member == FDB_LEARN);
+    fdb_audit_free(&audit);
+    const uint8_t bad = 0xff;
+    assert(fdb_audit_new(&PLAIN, &bad, 1, &bad, 0, &audit) == FDB_BAD_MEMBER && !audit.at);
+    assert(fdb_audit_new(&PLAIN, &bad, 0, &bad, 1, &audit) == FDB_BAD_MEMBER && !audit.at);
+}
+
+/* By how much a call is late: 0 where the first that outdates it ended as it began, else above 32
+ * bits; of no other kind. The totals of calls name a client by its number. */
+static void how_late(void) {
+    uint64_t far = (uint64_t)1 << 40, size;
+    fdb_call calls[] = {
+        {.kind = FDB_COMMIT, .version = 300, CLIENT(1), .began = 10, .ended = 20, TIMES},
+        {.kind = FDB_READ, .version = 200, CLIENT(2), .began = 5, .ended = 13, TIMES},
+        {.kind = FDB_READ, .version = 100, CLIENT(3), .began = far + 13, .ended = far + 14, TIMES},
+        {.kind = FDB_READ, .version = 250, CLIENT(1), .began = 20, .ended = 55, TIMES},
+        {.kind = FDB_ASK, .version = 7, CLIENT(4), .began = 1, .ended = 2, TIMES},
+        {.kind = FDB_ASK, .version = 7, CLIENT(5), .began = 1, .ended = 3, TIMES},
+    };
+    fdb_fault faults[2 * MOST], wanted[] = {
+        {.line = 2, .kind = FDB_FAULT_ORDER, .reason = FDB_REASON_KNOWN, .known = 300,
+         .means = FDB_MEANS_ENDED, .by = 0, .late = far, .first = 1, .has_late = true},
+        {.line = 3, .kind = FDB_FAULT_ORDER, .reason = FDB_REASON_KNOWN, .known = 300,
+         .means = FDB_MEANS_OWN, .by = 0, .late = 0, .first = 0, .has_late = true},
+        {.line = 4, .kind = FDB_FAULT_TWICE, .reason = FDB_REASON_DRAWN, .other = 5},
+        {.line = 5, .kind = FDB_FAULT_TWICE, .reason = FDB_REASON_DRAWN, .other = 4},
+    };
+    assert(calls_faults(calls, 6, &PLAIN, faults, 2 * MOST, &size) == FDB_FAULT && size == 4);
+    for (size_t i = 0; i < size; i++) assert(same_fault(&faults[i], &wanted[i]));
+    const char *said = "audit total lines 2 timed 2 reads 1 commits 1 asks 0 reports 0 learns 0 "
+                       "unreported 1 ordered 1\naudit total " IN_WORDS
+                       "audit total client 3 " IN_WORDS;
+    fdb_call two[] = {calls[0], calls[2]};
+    fdb_audit_options options = {.totals = true};
+    fdb_refused refused;
+    uint8_t text[1000];
+    assert(fdb_audit_calls_text(two, 2, &options, text, sizeof text, &size, &refused) == FDB_FAULT);
+    assert(size == strlen(said) && !memcmp(text, said, size));
+}
+
 int main(void) {
     a_stale_read();
     in_pieces();
+    by_key();
+    how_late();
     each_reason();
     no_fault();
     refusals();

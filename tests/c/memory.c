@@ -5,6 +5,7 @@
 #include <assert.h>
 #include <stdio.h>
 #include <stdlib.h>
+#include <string.h>
 
 #define ASKS 40
 #define OFFERS 40
@@ -178,32 +179,41 @@ static uint8_t log_faults_bear(long allowed) { return audit_bears(allowed, false
 static uint8_t calls_text_bears(long allowed) { return audit_bears(allowed, true, true); }
 static uint8_t calls_faults_bear(long allowed) { return audit_bears(allowed, true, false); }
 
+#define NAME(text) (const uint8_t *)text, strlen(text)
+#define KEYED "{\"client\":\"a\",\"commit\":2,\"began\":1,\"ended\":2,\"k\":\"x\"}\n" \
+              "{\"client\":\"b\",\"read\":1,\"began\":3,\"ended\":4,\"k\":\"x\"}\n"
+
 /* Memory that is refused ends an audit by pieces and a watch: they say so, and can be freed. */
-static uint8_t pieces_bear(long allowed) {
+static uint8_t audit_of(long allowed, fdb_audit_options options, const char *key, const char *shown,
+                        const char *log, uint64_t faults) {
     fdb_audit audit = FDB_AUDIT_NONE;
     fdb_refused refused = {.line = 77};
     fdb_fault fault;
     uint64_t size = 77;
     left = allowed;
-    uint8_t status = fdb_audit_new(&ALL, &audit);
+    uint8_t status = fdb_audit_new(&options, NAME(key), NAME(shown), &audit);
     if (status != FDB_OK) {
         assert(status == FDB_MEMORY && audit.at == NULL);
         return status;
     }
-    status = fdb_audit_push(&audit, BYTES, &refused);
+    status = fdb_audit_push(&audit, NAME(log), &refused);
     if (status == FDB_OK) status = fdb_audit_end(&audit, &refused);
     assert(status == FDB_MEMORY || status == FDB_FAULT);
-    assert(fdb_audit_push(&audit, BYTES, &refused) == FDB_OVER && refused.line == 77);
+    assert(fdb_audit_push(&audit, NAME(log), &refused) == FDB_OVER && refused.line == 77);
     assert(fdb_audit_end(&audit, &refused) == FDB_OVER);
     assert(fdb_audit_faults(&audit, &fault, 0, &size) == (status == FDB_FAULT ? FDB_ROOM : FDB_OK));
-    assert(size == (status == FDB_FAULT ? 2 : 0));
+    assert(size == (status == FDB_FAULT ? faults : 0));
     left = -1;
     fdb_audit_free(&audit);
     return status == FDB_FAULT ? FDB_OK : status;
 }
 
-static const char TIMED[] = "{\"client\":\"a\",\"commit\":2,\"began\":1,\"ended\":2,\"k\":\"x\"}\n"
-                            "{\"client\":\"b\",\"read\":1,\"began\":3,\"ended\":4,\"k\":\"x\"}\n{}\n";
+static uint8_t pieces_bear(long allowed) { return audit_of(allowed, ALL, "", "", LOG, 2); }
+
+static uint8_t keys_bear(long allowed) {
+    fdb_audit_options options = {.all = true, .totals = true, .json = true};
+    return audit_of(allowed, options, "k", "x,y", KEYED, 1);
+}
 
 static uint8_t watch_bears(long allowed) {
     fdb_watch_options options = {.totals = true};
@@ -212,17 +222,17 @@ static uint8_t watch_bears(long allowed) {
     uint8_t text;
     uint64_t size = 77;
     left = allowed;
-    uint8_t status = fdb_watch_new(&options, (const uint8_t *)"k", 1, &watch);
+    uint8_t status = fdb_watch_new(&options, NAME("k"), NAME("x,y"), &watch);
     if (status != FDB_OK) {
         assert(status == FDB_MEMORY && watch.at == NULL);
         return status;
     }
-    status = fdb_watch_push(&watch, (const uint8_t *)TIMED, sizeof TIMED - 1);
+    status = fdb_watch_push(&watch, NAME(KEYED "{}\n"));
     if (status == FDB_OK) status = fdb_watch_tell(&watch, true);
     bool is_told = status == FDB_OK;
     if (is_told) status = fdb_watch_end(&watch, &refused);
     assert(status == FDB_MEMORY || status == FDB_FAULT);
-    assert(fdb_watch_push(&watch, (const uint8_t *)TIMED, 1) == FDB_OVER);
+    assert(fdb_watch_push(&watch, NAME("{")) == FDB_OVER);
     assert(fdb_watch_tell(&watch, true) == FDB_OVER);
     assert(fdb_watch_end(&watch, &refused) == FDB_OVER && refused.line == 77);
     /* what was said last is still there */
@@ -250,6 +260,7 @@ int main(void) {
     sweep(calls_text_bears);
     sweep(calls_faults_bear);
     sweep(pieces_bear);
+    sweep(keys_bear);
     sweep(watch_bears);
     assert(refusals > 10);
     puts("ok");

@@ -24,8 +24,8 @@ static void *made(void *given) {
     assert(fdb_queue_new(&config, &both->queue) == FDB_OK);
     fdb_audit_options options = {0};
     fdb_watch_options watched = {0};
-    assert(fdb_audit_new(&options, &both->audit) == FDB_OK);
-    assert(fdb_watch_new(&watched, NAME, 0, &both->watch) == FDB_OK);
+    assert(fdb_audit_new(&options, NAME, 0, NAME, 0, &both->audit) == FDB_OK);
+    assert(fdb_watch_new(&watched, NAME, 0, NAME, 0, &both->watch) == FDB_OK);
     return NULL;
 }
 

@@ -12,9 +12,11 @@
 #define SAID(number) "audit fault: Order " number ": client \"b\" read 100, but 200 was known: " \
                      "line 1 (client \"a\", commit 200) had ended 1 before line " number " began\n"
 
-static fdb_watch opened(fdb_watch_options options, const char *key) {
+#define NAME(text) (const uint8_t *)text, strlen(text)
+
+static fdb_watch opened(fdb_watch_options options, const char *key, const char *shown) {
     fdb_watch watch = FDB_WATCH_NONE;
-    assert(fdb_watch_new(&options, (const uint8_t *)key, strlen(key), &watch) == FDB_OK);
+    assert(fdb_watch_new(&options, NAME(key), NAME(shown), &watch) == FDB_OK);
     return watch;
 }
 
@@ -44,7 +46,7 @@ static void says(fdb_watch *watch, const char *text, const char *warnings) {
 /* It is told once, as soon as it is certain, however the text is cut. */
 static void a_stale_read(void) {
     for (size_t cut = 1; cut <= strlen(STALE); cut++) {
-        fdb_watch watch = opened((fdb_watch_options){.behind = 0}, "");
+        fdb_watch watch = opened((fdb_watch_options){.behind = 0}, "", "");
         for (size_t at = 0; at < strlen(STALE); at += cut) {
             size_t length = at + cut <= strlen(STALE) ? cut : strlen(STALE) - at;
             assert(fdb_watch_push(&watch, (const uint8_t *)STALE + at, length) == FDB_OK);
@@ -68,7 +70,7 @@ static void a_stale_read(void) {
 /* What is not certain waits, for lines that may come, or for the end. */
 static void what_waits(void) {
     fdb_refused refused = {77, 77};
-    fdb_watch watch = opened((fdb_watch_options){.behind = 5, .totals = true}, "");
+    fdb_watch watch = opened((fdb_watch_options){.behind = 5, .totals = true}, "", "");
     push(&watch, STALE);
     assert(fdb_watch_tell(&watch, true) == FDB_OK);
     says(&watch, "", "");
@@ -91,30 +93,39 @@ static void what_waits(void) {
 /* The margin, the form and the keys are those that were asked for. */
 static void what_is_asked(void) {
     fdb_refused refused = {77, 77};
-    fdb_watch watch = opened((fdb_watch_options){.behind = 5, .margin = 1}, "");
+    fdb_watch watch = opened((fdb_watch_options){.behind = 5, .margin = 1}, "", "");
     push(&watch, STALE);
     assert(fdb_watch_end(&watch, &refused) == FDB_OK);
     says(&watch, "audit ok lines 2 reads 1 commits 1 asks 0 reports 0 refused 0 early 0\n", "");
     fdb_watch_free(&watch);
-    watch = opened((fdb_watch_options){.behind = 8, .totals = true, .json = true}, "k");
+    watch = opened((fdb_watch_options){.behind = 8, .totals = true, .json = true}, "k", "note,x");
     push(&watch, "{\"client\":\"a\",\"commit\":200,\"began\":10,\"ended\":14,\"k\":\"x\"}\n"
                  "{\"client\":\"b\",\"read\":100,\"began\":15,\"ended\":16,\"k\":\"y\"}\n");
     assert(fdb_watch_end(&watch, &refused) == FDB_OK && refused.line == 77);
     says(&watch,
          "{\"total\":{\"lines\":2,\"reads\":1,\"commits\":1,\"asks\":0,\"reports\":0,\"refused\":0,"
-         "\"early\":0},\"arguments\":{\"follow\":8,\"margin\":0,\"by_key\":true,\"members\":[\"k\"]}}\n"
+         "\"early\":0},\"arguments\":{\"follow\":8,\"margin\":0,\"by_key\":true,"
+         "\"members\":[\"k\",\"note\",\"x\"]}}\n"
          "{\"faults\":0,\"Order\":0,\"Wrong\":0,\"NotAbove\":0,\"Twice\":0,\"Stray\":0}\n", "");
+    fdb_watch_free(&watch);
+    watch = opened((fdb_watch_options){0}, "", "note,k");
+    push(&watch, "{\"client\":\"a\",\"commit\":200,\"began\":10,\"ended\":14,\"k\":[1]}\n"
+                 "{\"client\":\"b\",\"read\":100,\"began\":15,\"ended\":16,\"note\":\"x\"}\n");
+    assert(fdb_watch_end(&watch, &refused) == FDB_FAULT);
+    says(&watch, "audit fault: Order 2: client \"b\" read 100 \"note\":\"x\", but 200 was known: "
+                 "line 1 (client \"a\", commit 200 \"k\":[1]) had ended 1 before line 2 began\n", "");
     fdb_watch_free(&watch);
     fdb_watch_options options = {0};
     watch = (fdb_watch)FDB_WATCH_NONE;
-    assert(fdb_watch_new(&options, (const uint8_t *)"\xff", 1, &watch) == FDB_BAD_MEMBER);
+    assert(fdb_watch_new(&options, NAME("\xff"), NAME(""), &watch) == FDB_BAD_MEMBER);
+    assert(fdb_watch_new(&options, NAME(""), NAME("\xff"), &watch) == FDB_BAD_MEMBER);
     assert(watch.at == NULL);
 }
 
 /* Lines that are refused are left out, counted, and told; a fault goes first. */
 static void left_out(void) {
     fdb_refused refused = {77, 77};
-    fdb_watch watch = opened((fdb_watch_options){.behind = 5}, "");
+    fdb_watch watch = opened((fdb_watch_options){.behind = 5}, "", "");
     push(&watch, "{\"client\":\"a\",\"commit\":200,\"began\":10,\"ended\":14}\n{}\n");
     assert(fdb_watch_tell(&watch, true) == FDB_OK);
     says(&watch, "", "fdb_audit: logs refused: NoCall 2: ");
@@ -123,14 +134,14 @@ static void left_out(void) {
     says(&watch, "audit ok lines 1 reads 0 commits 1 asks 0 reports 0 refused 1 early 0\n", "");
     fdb_watch_free(&watch);
     refused = (fdb_refused){77, 77};
-    watch = opened((fdb_watch_options){.behind = 5}, "");
+    watch = opened((fdb_watch_options){.behind = 5}, "", "");
     push(&watch, "{\"client\":\"a\",\"commit\":200,\"began\":10,\"ended\":14}\n"
                  "{\"client\":\"b\",\"read\":true,\"began\":10}\n"
                  "{\"client\":\"b\",\"read\":100,\"began\":15,\"ended\":16}\n{");
     assert(fdb_watch_end(&watch, &refused) == FDB_FAULT && refused.line == 77);
     says(&watch, SAID("3"), "fdb_audit: logs refused: BadMember 2 read: ");
     fdb_watch_free(&watch);
-    watch = opened((fdb_watch_options){.behind = 5}, "");
+    watch = opened((fdb_watch_options){.behind = 5}, "", "");
     assert(fdb_watch_end(&watch, &refused) == FDB_EMPTY && refused.line == 0);
     fdb_watch_free(&watch);
     fdb_watch_free(&watch);

@@ -1,5 +1,6 @@
 """What each function answers, in each field, as it was worked out by hand from the header's text."""
 import ctypes
+import json
 import subprocess
 import sys
 import tempfile
@@ -200,6 +201,7 @@ class OfHandles(unittest.TestCase):
             (found.push, (b"",)),
             (found.end, ()),
             (found.text, ()),
+            (found.objects, ()),
             (found.faults, ()),
             (watch.push, (b"",)),
             (watch.tell, ()),
@@ -247,6 +249,30 @@ def timed(kind, version, client, began, ended):
     return Call(kind, version, client, began, ended)
 
 
+KEYED = """\
+{"client":"a","commit":200,"began":10,"ended":14,"é":"x","node":[1]}
+{"client":"b","read":100,"began":15,"ended":16,"é":"y","node":2}
+{"client":"c","read":100,"began":16,"ended":17,"é":"x"}
+"""
+KEYED_SAID = ('audit fault: Order 3: client "c" read 100 "é":"x"%s, but 200 was known: line 1 '
+              '(client "a", commit 200 "é":"x"%s) had ended 2 before line 3 began\n')
+KEYED_AT = ('{"line":3,"client":"c","read":100,"began":16,"ended":17,'
+            '"members":{"é":"x","node":null,"nods":null}}')
+KEYED_BY = ('{"line":1,"client":"a","commit":200,"began":10,"ended":14,'
+            '"members":{"é":"x","node":[1],"nods":null}}')
+KEYED_FAULT = (f'{{"fault":"Order","at":{KEYED_AT},"late":2,"first":{KEYED_BY},"reason":"known",'
+               f'"known":200,"by":{KEYED_BY},"means":"ended"}}\n')
+KEYED_TOTALS = """\
+{"total":{"lines":3,"timed":3,"reads":2,"commits":1,"asks":0,"reports":0,"learns":0,"unreported":2,\
+"ordered":1},"arguments":{"complete":null,"margin":0,"by_key":true,"members":["é","node","nods"]}}
+{"faults":1,"Order":1,"Wrong":0,"NotAbove":0,"Twice":0,"Stray":0}
+{"client":"c","faults":1,"Order":1,"Wrong":0,"NotAbove":0,"Twice":0,"Stray":0}
+{"members":{"é":"x"},"faults":1,"Order":1,"Wrong":0,"NotAbove":0,"Twice":0,"Stray":0}
+{"members":{"node":null},"faults":1,"Order":1,"Wrong":0,"NotAbove":0,"Twice":0,"Stray":0}
+{"members":{"nods":null},"faults":1,"Order":1,"Wrong":0,"NotAbove":0,"Twice":0,"Stray":0}
+"""
+
+
 class OfLogs(unittest.TestCase):
     def test_each_reason(self):
         calls = [
@@ -285,7 +311,8 @@ class OfLogs(unittest.TestCase):
         # Above 32 bits, so that nothing may be cut off.
         far, version = 2**33, 2**63 + 2**40
         calls = [timed(Member.COMMIT, version, 1, 0, far), timed(Member.READ, 1, 2, 2 * far, None)]
-        known = Fault(1, FaultKind.ORDER, Reason.KNOWN, None, Known(version, Means.ENDED, 0))
+        known = Fault(1, FaultKind.ORDER, Reason.KNOWN, None, Known(version, Means.ENDED, 0),
+                      Late(0, far))
         self.assertEqual(audit(calls), [known])
         self.assertEqual(audit(calls, margin=far - 1), [known])
         self.assertEqual(audit(calls, margin=far), [])
@@ -294,6 +321,76 @@ class OfLogs(unittest.TestCase):
         self.assertEqual(audit([Call(Member.READ, 7, 1)]), [])
         self.assertEqual(len(audit([Call(Member.READ, 7, 1)], complete=0)), 1)
         self.assertEqual(audit([]), [])
+
+    def test_how_late(self):
+        found = audit([
+            timed(Member.COMMIT, 300, 1, 10, 20),
+            timed(Member.READ, 200, 2, 5, 13),  # outdates the next, before the first does
+            timed(Member.READ, 100, 3, 50, 51),  # 37 after that
+            timed(Member.READ, 250, 1, 20, 55),  # begins where its own client's commit had ended
+            timed(Member.COMMIT, 300, 4, 51, 52),  # not above its own version, of the first line
+            timed(Member.ASK, 9, 5, 60, 61),  # the read of 200 was the first above 9
+            timed(Member.ASK, 9, 5, 60, 62),  # so too; and both are drawn twice
+        ])
+        self.assertEqual([(it.line, it.kind.name, it.late) for it in found], [
+            (2, "ORDER", Late(1, 37)), (3, "ORDER", Late(0, 0)), (4, "NOT_ABOVE", Late(0, 31)),
+            (5, "NOT_ABOVE", Late(1, 47)), (5, "TWICE", None),
+            (6, "NOT_ABOVE", Late(1, 47)), (6, "TWICE", None),
+        ])
+
+    def test_keys(self):
+        known = Known(200, Means.ENDED, 0)
+        order = Fault(2, FaultKind.ORDER, Reason.KNOWN, None, known, Late(0, 2))
+        self.assertEqual([it.line for it in audit(KEYED)], [1, 2])
+        self.assertEqual(audit(KEYED, key=""), audit(KEYED))
+        self.assertEqual(audit_text(KEYED, key="é"), KEYED_SAID % ("", ""))
+        for key in ("é", "é".encode()):
+            self.assertEqual(audit(KEYED, key=key), [order])
+            with Audit(key=key) as found:
+                found.push(KEYED)
+                self.assertEqual((found.end(), found.faults()), (Status.FAULT, [order]))
+                self.assertEqual(found.text(), KEYED_SAID % ("", ""))
+        for log, wanted in (
+            ('{"client":"a","read":1,"é":[]}', LogRefused(Status.BAD_MEMBER, 1)),
+            ('{"client":"a","read":1}\n{"client":"a","learn":"a"}',
+             LogRefused(Status.BAD_MEMBER, 2, Member.LEARN)),
+        ):
+            for call in (audit, audit_text):
+                with self.assertRaises(LogRefused) as caught:
+                    call(log, key="é")
+                self.assertEqual(caught.exception, wanted)
+        for call in (Audit, lambda key: audit(KEYED, key=key)):
+            with self.assertRaises(Refused) as caught:
+                call(key=b"\xff")
+            self.assertEqual(caught.exception, Refused(Status.BAD_MEMBER))
+
+    def test_what_is_shown(self):
+        asked = {"key": "é", "show": ["node", "nods"]}
+        said = KEYED_SAID % ("", ' "node":[1]')
+        counts = "faults 1 Order 1 Wrong 0 NotAbove 0 Twice 0 Stray 0\n"
+        totals = ("audit total lines 3 timed 3 reads 2 commits 1 asks 0 reports 0 learns 0 "
+                  "unreported 2 ordered 1\n" + "".join(f"audit total {it}{counts}" for it in (
+                      "", 'client "c" ', '"é":"x" ', 'no "node" ', 'no "nods" ')))
+        for wanted, text in (
+            ({}, said),
+            ({"totals": True}, totals),
+            ({"all": True, "totals": True}, said + totals),
+            ({"totals": True, "json": True}, KEYED_TOTALS),
+            ({"json": True}, KEYED_FAULT),
+            ({"json": True, "all": True, "totals": True}, KEYED_FAULT + KEYED_TOTALS),
+        ):
+            self.assertEqual(audit_text(KEYED, **asked, **wanted), text)
+            with Audit(**asked, **wanted) as found:
+                found.push(KEYED)
+                self.assertEqual((found.end(), found.text()), (Status.FAULT, text))
+                if "json" in wanted:
+                    self.assertEqual(found.objects(), [json.loads(it) for it in text.splitlines()])
+        fine = KEYED.split("\n")[0]
+        self.assertEqual(audit_text(fine, **asked, totals=True, history=True),
+                         "audit ok lines 1 timed 1 reads 0 commits 1 asks 0 reports 0 learns 0 "
+                         "unreported 0 ordered 0\n"
+                         'history 0 ask 200 line 1 client "a" "é":"x" "node":[1]\n'
+                         'history 1 report 200 line 1 client "a" "é":"x" "node":[1]\n')
 
     def test_texts(self):
         fine = '{"client":"é","commit":1}\n{"client":"é","read":1}'
@@ -318,6 +415,14 @@ class OfLogs(unittest.TestCase):
                 self.assertEqual(audit_text(given(stale), **wanted), found)
         self.assertTrue(audit_text([Call(Member.READ, 1, 7), Call(Member.READ, 0, 7)])
                         .startswith("audit fault: Order 2: client 7 read 0, but 1 was known: "))
+        calls = [Call(Member.READ, 2, 7), Call(Member.READ, 1, 7)]
+        counts = "faults 1 Order 1 Wrong 0 NotAbove 0 Twice 0 Stray 0\n"
+        self.assertEqual(audit_text(calls, totals=True),
+                         "audit total lines 2 timed 0 reads 2 commits 0 asks 0 reports 0 learns 0 "
+                         f"unreported 2\naudit total {counts}audit total client 7 {counts}")
+        self.assertEqual(audit_text(calls, json=True),
+                         '{"fault":"Order","at":{"line":2,"client":7,"read":1},"reason":"known",'
+                         '"known":2,"by":{"line":1,"client":7,"read":2},"means":"own"}\n')
         # More than the first guess of how long a text is.
         lines = "\n".join('{"client":"a","read":%d}' % it for it in range(1000, 0, -1))
         self.assertEqual(audit_text(lines, all=True).count("\n"), 999)
@@ -398,17 +503,26 @@ class OfLogs(unittest.TestCase):
 
     def test_program(self):
         stale = b'{"client":"a","read":2}\n{"client":"a","read":1}\n{"client":"a","read":1}\n'
+        of_json = {"json": True, "totals": True}
         with tempfile.TemporaryDirectory() as room:
             log = Path(room, "log")
             log.write_bytes(stale)
             for words, given, status, out, err in (
                 ([log], b"", 4, audit_text(stale), ""),
-                (["--all", "-"], stale, 4, audit_text(stale, all=True), ""),
+                (["--all", "-"], stale, 4, audit_text(stale, all=True, totals=True), ""),
+                (["--summary", "-"], stale, 4, audit_text(stale, totals=True), ""),
+                (["--json", "-"], stale, 4, audit_text(stale, **of_json, all=True), ""),
+                (["--json", "--all", "--summary", "-"], stale, 4, audit_text(stale, **of_json), ""),
+                (["--key", "é", "--show=node,nods", "-"], KEYED.encode(), 4,
+                 audit_text(KEYED, key="é", show=["node", "nods"]), ""),
+                (["--json", "-"], stale[:24], 0, audit_text(stale[:24], json=True), ""),
                 (["-"], stale[:24], 0, audit_text(stale[:24]), ""),
                 (["--history", "-"], stale[:24], 0, audit_text(stale[:24], history=True), ""),
                 (["--complete=3", "-"], stale[:24], 4, audit_text(stale[:24], complete=3), ""),
                 (["-"], b"[", 1, "", "fdb_read_version: NOT_JSON 1\n"),
                 (["--margin=-1", "-"], stale, 2, "", "margin is out of range: -1\n"),
+                (["--key=", "-"], stale, 2, "", "--key names no member\n"),
+                (["--show=a,,b", "-"], stale, 2, "", "is empty or has a comma: ['a', '', 'b']\n"),
                 ([f"{room}/none"], b"", 5, "", f"No such file or directory: '{room}/none'\n"),
             ):
                 words = [sys.executable, "-m", "fdb_read_version", *words]
@@ -461,7 +575,8 @@ class OfWatches(unittest.TestCase):
         watch = Watch(5, margin=1)
         watch.push(STALE)
         self.assertEqual((watch.end(), watch.text()), (Status.OK, ALL_FINE % (2, 1, 0)))
-        for key, second, fault in (("é", "x", 1), ("é".encode(), "y", 0), ("", "y", 1)):
+        for key, second, fault in (("é", "x", 1), ("é".encode(), "y", 0), ("", "y", 1),
+                                   (None, "y", 1)):
             watch = Watch(2**40, key=key, totals=True, json=True)
             watch.push(COMMIT % ',"é":"x"' + READ % f',"é":"{second}"')
             self.assertEqual(watch.end(), Status.FAULT if fault else Status.OK)
@@ -470,6 +585,12 @@ class OfWatches(unittest.TestCase):
             total = next(it for it in objects if "total" in it)
             self.assertEqual(total["arguments"], {
                 "follow": 2**40, "margin": 0, "by_key": bool(key), "members": ["é"] if key else []})
+
+    def test_what_is_shown(self):
+        watch = Watch(5, key="é", show=("node", "nods"))
+        watch.push(KEYED)
+        self.assertEqual(watch.end(), Status.FAULT)
+        self.assertEqual(watch.text(), KEYED_SAID % ("", ' "node":[1]'))
 
     def test_what_is_left_out(self):
         commit = COMMIT.replace("%s", "")

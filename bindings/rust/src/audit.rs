@@ -32,10 +32,14 @@ impl Audit {
     ///
     /// # Errors
     /// `Memory`.
-    pub fn new(options: &AuditOptions, wanted: Wanted) -> Result<Audit, LogError> {
+    pub fn new(options: &AuditOptions<'_>, wanted: Wanted) -> Result<Audit, LogError> {
+        let (key, shown) = (options.key, options.shown);
         let (options, mut handle) = (raw_options(options, wanted), sys::FDB_AUDIT_NONE);
-        // SAFETY: the handle is none.
-        let status = unsafe { sys::fdb_audit_new(&options, &mut handle) };
+        let (name, names) = (key.as_ptr(), shown.as_ptr());
+        // SAFETY: the handle is none, and the lengths are those of the names.
+        let status = unsafe {
+            sys::fdb_audit_new(&options, name, key.len(), names, shown.len(), &mut handle)
+        };
         done(status, &sys::fdb_refused::default()).map(|()| Audit { handle })
     }
 

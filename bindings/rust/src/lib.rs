@@ -23,7 +23,7 @@ pub use grv_queue::{
 };
 pub use log::{
     audit_lines, audit_lines_text, audit_log, audit_log_text, AuditOptions, Call, Fault, FaultKind,
-    Line, LogError, Means, Member, Reason, Times, Wanted, Wrong,
+    Late, Line, LogError, Means, Member, Reason, Times, Wanted, Wrong,
 };
 pub use record::Record;
 pub use watch::{Watch, WatchOptions};

@@ -82,15 +82,28 @@ pub struct Line {
 /// let log = br#"{"client":"a","read":7}"#;
 /// assert_eq!(audit_log(log, &AuditOptions::default())?, []);
 /// // All calls are here, and all began with version 5: nobody reported 7.
-/// assert_eq!(audit_log(log, &AuditOptions { complete: Some(5), margin: 0 })?.len(), 1);
+/// let options = AuditOptions { complete: Some(5), ..AuditOptions::default() };
+/// assert_eq!(audit_log(log, &options)?.len(), 1);
+/// // Each register by itself is read at one version alone.
+/// let log = br#"{"client":"a","read":7,"register":"x"}
+/// {"client":"a","read":6,"register":"y"}"#;
+/// let options = AuditOptions { key: "register", ..AuditOptions::default() };
+/// assert_eq!(audit_log(log, &AuditOptions::default())?.len(), 1);
+/// assert_eq!(audit_log(log, &options)?, []);
 /// # Ok::<(), fdb_read_version::LogError>(())
 /// ```
 #[derive(Clone, Copy, Debug, Default, PartialEq, Eq, Hash, PartialOrd, Ord)]
-pub struct AuditOptions {
+pub struct AuditOptions<'a> {
     /// The version that all began with, where the log has all calls.
     pub complete: Option<u64>,
     /// How far the clocks of two clients may be apart, in the unit of the times.
     pub margin: u64,
+    /// The member that has a line's key, and each key is then judged by itself, as one register;
+    /// where it is empty there are no keys. A [`Line`] has no members.
+    pub key: &'a str,
+    /// The members that a text has beside each line that it tells, parted by commas, as
+    /// `fdb_audit --show` takes them; where it is empty there are none.
+    pub shown: &'a str,
 }
 
 /// What a text has besides the verdict.
@@ -101,6 +114,10 @@ pub struct AuditOptions {
 /// let wanted = Wanted { history: true, ..Wanted::default() };
 /// let text = audit_log_text(br#"{"client":"a","read":7}"#, &AuditOptions::default(), wanted)?;
 /// assert!(text.ends_with("read 7 line 1 client \"a\"\n"));
+/// let log = b"{\"client\":\"a\",\"read\":7}\n{\"client\":\"a\",\"read\":6}\n";
+/// let wanted = Wanted { totals: true, json: true, ..Wanted::default() };
+/// let text = audit_log_text(log, &AuditOptions::default(), wanted)?;
+/// assert!(text.starts_with("{\"total\":{\"lines\":2,"));
 /// # Ok::<(), fdb_read_version::LogError>(())
 /// ```
 #[derive(Clone, Copy, Debug, Default, PartialEq, Eq, Hash, PartialOrd, Ord)]
@@ -109,6 +126,11 @@ pub struct Wanted {
     pub all: bool,
     /// Of a log without a fault an order that explains it.
     pub history: bool,
+    /// Where a fault stands, how much was judged and how many faults there are of each kind;
+    /// without `all` these alone.
+    pub totals: bool,
+    /// JSON objects, one a line, and not sentences.
+    pub json: bool,
 }
 
 /// What can be wrong with a line; docs/FORMATS.md says what each means.
@@ -170,7 +192,7 @@ pub enum Means {
 /// ```
 /// use fdb_read_version::{audit_log, AuditOptions, Reason};
 ///
-/// let options = AuditOptions { complete: Some(5), margin: 0 };
+/// let options = AuditOptions { complete: Some(5), ..AuditOptions::default() };
 /// let found = audit_log(br#"{"client":"a","read":7}"#, &options)?;
 /// assert_eq!(found[0].reason, Reason::Unreported);
 /// # Ok::<(), fdb_read_version::LogError>(())
@@ -202,6 +224,27 @@ pub enum Reason {
     Undrawn,
 }
 
+/// By how much a call was late, and by which line. Lines are counted from 0.
+///
+/// ```
+/// use fdb_read_version::{audit_log, AuditOptions, Late};
+///
+/// let log = br#"{"client":"a","commit":200,"began":10,"ended":14}
+/// {"client":"b","read":100,"began":30,"ended":31}"#;
+/// let options = AuditOptions { margin: 15, ..AuditOptions::default() };
+/// assert_eq!(audit_log(log, &options)?[0].late, Some(Late { line: 0, by: 16 }));
+/// assert_eq!(audit_log(log, &AuditOptions { margin: 16, ..options })?, []);
+/// # Ok::<(), fdb_read_version::LogError>(())
+/// ```
+#[derive(Clone, Copy, Debug, PartialEq, Eq, Hash, PartialOrd, Ord)]
+pub struct Late {
+    /// The line that outdates the call and was the first to end.
+    pub line: u32,
+    /// From its end to where the call began, in the unit of the times: the fault stands under each
+    /// lesser margin. 0 where it had not ended by then.
+    pub by: u64,
+}
+
 /// A fault, and why it stands.
 ///
 /// ```
@@ -210,7 +253,7 @@ pub enum Reason {
 /// let log = br#"{"client":"a","read":2}
 /// {"client":"a","read":1}"#;
 /// let reason = Reason::Known { version: 2, means: Means::Own(0) };
-/// let fault = Fault { line: 1, kind: FaultKind::Order, reason };
+/// let fault = Fault { line: 1, kind: FaultKind::Order, reason, late: None };
 /// assert_eq!(audit_log(log, &AuditOptions::default())?, [fault]);
 /// # Ok::<(), fdb_read_version::LogError>(())
 /// ```
@@ -222,6 +265,9 @@ pub struct Fault {
     pub kind: FaultKind,
     /// Why.
     pub reason: Reason,
+    /// By how much the call was late: of `Order` and `NotAbove` in a log with times, where a line
+    /// of another call outdates it.
+    pub late: Option<Late>,
 }
 
 /// A member of a line.
@@ -415,13 +461,15 @@ fn raw_line(line: &Line) -> sys::fdb_call {
     }
 }
 
-pub(crate) fn raw_options(options: &AuditOptions, wanted: Wanted) -> sys::fdb_audit_options {
+pub(crate) fn raw_options(options: &AuditOptions<'_>, wanted: Wanted) -> sys::fdb_audit_options {
     sys::fdb_audit_options {
         start: options.complete.unwrap_or(0),
         margin: options.margin,
         complete: options.complete.is_some(),
         all: wanted.all,
         history: wanted.history,
+        totals: wanted.totals,
+        json: wanted.json,
     }
 }
 
@@ -456,7 +504,8 @@ pub(crate) fn fault_of(fault: &sys::fdb_fault) -> Result<Fault, LogError> {
         sys::FDB_FAULT_STRAY => FaultKind::Stray,
         other => return Err(LogError::Unknown(other)),
     };
-    Ok(Fault { line: fault.line, kind, reason: reason_of(fault)? })
+    let late = fault.has_late.then_some(Late { line: fault.first, by: fault.late });
+    Ok(Fault { line: fault.line, kind, reason: reason_of(fault)?, late })
 }
 
 /// What a call answers that only refuses.
@@ -515,11 +564,23 @@ pub(crate) fn text(call: impl FnMut(*mut u8, usize, &mut u64) -> u8) -> String {
     said(written(call))
 }
 
-/// All faults of a log of JSON Lines, by line: none exactly where some history explains it.
+/// What is found of a log of JSON Lines, once, whatever room it needs.
+fn found(log: &[u8], options: &AuditOptions<'_>, wanted: Wanted) -> Result<Audit, LogError> {
+    let mut audit = Audit::new(options, wanted)?;
+    audit.push(log)?;
+    audit.end()?;
+    Ok(audit)
+}
+
+/// All faults of a log of JSON Lines, by line: none exactly where some history explains it, or by
+/// key the lines of each.
 ///
 /// # Errors
 /// `Refused` for the first line that is wrong or for a text without a line, or `Memory`.
-pub fn audit_log(log: &[u8], options: &AuditOptions) -> Result<Vec<Fault>, LogError> {
+pub fn audit_log(log: &[u8], options: &AuditOptions<'_>) -> Result<Vec<Fault>, LogError> {
+    if !options.key.is_empty() {
+        return found(log, options, Wanted::default())?.faults();
+    }
     let options = raw_options(options, Wanted::default());
     let found = told(64, |found: &mut [sys::fdb_fault], size, refused| {
         let (at, length) = (found.as_mut_ptr(), found.len());
@@ -537,15 +598,12 @@ pub fn audit_log(log: &[u8], options: &AuditOptions) -> Result<Vec<Fault>, LogEr
 /// As [`audit_log`].
 pub fn audit_log_text(
     log: &[u8],
-    options: &AuditOptions,
+    options: &AuditOptions<'_>,
     wanted: Wanted,
 ) -> Result<String, LogError> {
-    if wanted.all || wanted.history {
-        // (what may be long is found once, whatever room it needs)
-        let mut audit = Audit::new(options, wanted)?;
-        audit.push(log)?;
-        audit.end()?;
-        return Ok(audit.text());
+    let has_members = !options.key.is_empty() || !options.shown.is_empty();
+    if wanted.all || wanted.history || has_members {
+        return Ok(found(log, options, wanted)?.text());
     }
     let options = raw_options(options, wanted);
     let text = told(4096, |text: &mut [u8], size, refused| {
@@ -562,7 +620,7 @@ pub fn audit_log_text(
 ///
 /// # Errors
 /// As [`audit_log`].
-pub fn audit_lines(lines: &[Line], options: &AuditOptions) -> Result<Vec<Fault>, LogError> {
+pub fn audit_lines(lines: &[Line], options: &AuditOptions<'_>) -> Result<Vec<Fault>, LogError> {
     let given: Vec<sys::fdb_call> = lines.iter().map(raw_line).collect();
     let options = raw_options(options, Wanted::default());
     let found = told(64, |found: &mut [sys::fdb_fault], size, refused| {
@@ -580,7 +638,7 @@ pub fn audit_lines(lines: &[Line], options: &AuditOptions) -> Result<Vec<Fault>,
 /// As [`audit_log`].
 pub fn audit_lines_text(
     lines: &[Line],
-    options: &AuditOptions,
+    options: &AuditOptions<'_>,
     wanted: Wanted,
 ) -> Result<String, LogError> {
     let given: Vec<sys::fdb_call> = lines.iter().map(raw_line).collect();
@@ -647,8 +705,21 @@ mod tests {
     #[test]
     fn numbers_of_faults() {
         let fault = |kind, reason, means| {
-            let (known, line, other, by, learnt) = (1 << 40, 2, 3, 4, 5);
-            fault_of(&sys::fdb_fault { known, line, other, by, learnt, kind, reason, means })
+            let (known, late, line, other, by, learnt, first) = (1 << 40, 1 << 41, 2, 3, 4, 5, 6);
+            let has_late = kind != 2;
+            fault_of(&sys::fdb_fault {
+                known,
+                late,
+                line,
+                other,
+                by,
+                learnt,
+                first,
+                kind,
+                reason,
+                means,
+                has_late,
+            })
         };
         let version = 1 << 40;
         let kinds = [
@@ -659,7 +730,8 @@ mod tests {
             FaultKind::Stray,
         ];
         for (number, kind) in (1..).zip(kinds) {
-            let wanted = Fault { line: 2, kind, reason: Reason::Unreported };
+            let late = (kind != FaultKind::Wrong).then_some(Late { line: 6, by: 1 << 41 });
+            let wanted = Fault { line: 2, kind, reason: Reason::Unreported, late };
             assert_eq!(fault(number, 2, 0), Ok(wanted));
         }
         let all = [Means::Start, Means::Ended(4), Means::Own(4), Means::Learnt { of: 4, by: 5 }];
@@ -694,13 +766,13 @@ mod tests {
             assert_eq!((raw.began, raw.ended, raw.has_times, raw.has_ended), given);
             assert!(!raw.has_client);
         }
-        for (complete, all, history) in
-            [(None, false, true), (Some(0), true, false), (None, true, true)]
-        {
-            let options = AuditOptions { complete, margin: 1 << 40 };
-            let raw = raw_options(&options, Wanted { all, history });
-            assert_eq!((raw.complete, raw.start, raw.margin), (complete.is_some(), 0, 1 << 40));
-            assert_eq!((raw.all, raw.history), (all, history));
+        for (number, complete) in [None, Some(0), Some(1 << 41), None].into_iter().enumerate() {
+            let [all, history, totals, json] = [0, 1, 2, 3].map(|it| it == number);
+            let options = AuditOptions { complete, margin: 1 << 40, ..AuditOptions::default() };
+            let raw = raw_options(&options, Wanted { all, history, totals, json });
+            assert_eq!((raw.complete, raw.start), (complete.is_some(), complete.unwrap_or(0)));
+            assert_eq!(raw.margin, 1 << 40);
+            assert_eq!((raw.all, raw.history, raw.totals, raw.json), (all, history, totals, json));
         }
     }
 }

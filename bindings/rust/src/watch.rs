@@ -11,18 +11,24 @@ use fdb_read_version_sys as sys;
 /// use fdb_read_version::{LogError, Watch, WatchOptions};
 ///
 /// let options = WatchOptions { totals: true, json: true, ..WatchOptions::default() };
-/// let mut watch = Watch::new(&options, "")?;
+/// let mut watch = Watch::new(&options)?;
 /// watch.push(b"{\"read\":7,\"began\":1,\"ended\":2}\n")?;
 /// assert!(!watch.end()?, "it has no fault");
 /// assert!(watch.text().starts_with("{\"total\":{\"lines\":1,\"reads\":1,"));
 /// # Ok::<(), LogError>(())
 /// ```
 #[derive(Clone, Copy, Debug, Default, PartialEq, Eq, Hash, PartialOrd, Ord)]
-pub struct WatchOptions {
+pub struct WatchOptions<'a> {
     /// How far behind the newest end a line may begin, in the unit of the times.
     pub behind: u64,
     /// How far the clocks of two clients may be apart, in that unit.
     pub margin: u64,
+    /// The member that has a line's key, and each key is then watched by itself; where it is empty
+    /// there are no keys.
+    pub key: &'a str,
+    /// The members that are told beside each line, parted by commas, as `fdb_audit --show` takes
+    /// them; where it is empty there are none.
+    pub shown: &'a str,
     /// Whether the end tells how much was read, and how many faults of each kind.
     pub totals: bool,
     /// Whether JSON objects are told, and not sentences.
@@ -35,7 +41,7 @@ pub struct WatchOptions {
 /// ```
 /// use fdb_read_version::{LogError, Watch, WatchOptions};
 ///
-/// let mut watch = Watch::new(&WatchOptions::default(), "")?;
+/// let mut watch = Watch::new(&WatchOptions::default())?;
 /// watch.push(b"{\"client\":\"a\",\"commit\":200,\"began\":10,\"ended\":14}\n{}\n")?;
 /// assert_eq!(watch.tell(true)?, "");
 /// assert!(watch.warnings().starts_with("fdb_audit: logs refused: NoCall 2: "));
@@ -52,7 +58,7 @@ pub struct Watch {
 
 has_handle!(Watch, sys::fdb_watch_free);
 
-fn raw_options(options: &WatchOptions) -> sys::fdb_watch_options {
+fn raw_options(options: &WatchOptions<'_>) -> sys::fdb_watch_options {
     sys::fdb_watch_options {
         behind: options.behind,
         margin: options.margin,
@@ -67,15 +73,18 @@ fn taken(status: u8) -> Result<(), LogError> {
 }
 
 impl Watch {
-    /// A watch of a log of which nothing has come. `key` names the member that has a line's key,
-    /// and each key is then watched by itself; where it is empty there are no keys.
+    /// A watch of a log of which nothing has come.
     ///
     /// # Errors
     /// `Memory`.
-    pub fn new(options: &WatchOptions, key: &str) -> Result<Watch, LogError> {
+    pub fn new(options: &WatchOptions<'_>) -> Result<Watch, LogError> {
+        let (key, shown) = (options.key, options.shown);
         let (options, mut handle) = (raw_options(options), sys::FDB_WATCH_NONE);
-        // SAFETY: the handle is none, and the length that of the key.
-        let status = unsafe { sys::fdb_watch_new(&options, key.as_ptr(), key.len(), &mut handle) };
+        let (name, names) = (key.as_ptr(), shown.as_ptr());
+        // SAFETY: the handle is none, and the lengths are those of the names.
+        let status = unsafe {
+            sys::fdb_watch_new(&options, name, key.len(), names, shown.len(), &mut handle)
+        };
         taken(status).map(|()| Watch { handle })
     }
 

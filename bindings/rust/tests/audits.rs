@@ -2,7 +2,7 @@
 
 use fdb_read_version::{
     audit_lines, audit_lines_text, audit_log, audit_log_text, Audit, AuditOptions, Call, Fault,
-    FaultKind, Line, LogError, Means, Member, Reason, Times, Wanted, Wrong,
+    FaultKind, Late, Line, LogError, Means, Member, Reason, Times, Wanted, Wrong,
 };
 
 /// The same numbers on each machine (xorshift).
@@ -64,11 +64,12 @@ fn bytes_and_lines_agree() {
             lines.push(line);
         }
         let complete = (drawn.below(2) == 0).then_some(drawn.below(3));
-        let options = AuditOptions { complete, margin: drawn.below(3) };
+        let margin = drawn.below(3);
+        let options = AuditOptions { complete, margin, ..AuditOptions::default() };
         let log: String = lines.iter().map(written).collect();
         let found = audit_log(log.as_bytes(), &options).unwrap();
         assert_eq!(audit_lines(&lines, &options), Ok(found.clone()), "{log}");
-        let wanted = Wanted { all: true, history: false };
+        let wanted = Wanted { all: true, ..Wanted::default() };
         let text = audit_log_text(log.as_bytes(), &options, wanted).unwrap();
         assert_eq!(text.lines().count(), found.len().max(1), "{log}");
         let mut pieces = Audit::new(&options, wanted).unwrap();
@@ -103,8 +104,8 @@ fn by_hand() {
     let known = |version, means| Reason::Known { version, means };
     let learnt = Means::Learnt { of: 0, by: 1 };
     let reported = Reason::Reported { line: 5, version: 5, means: learnt };
-    let fault = |line, kind, reason| Fault { line, kind, reason };
-    let options = AuditOptions { complete: Some(2), margin: 0 };
+    let fault = |line, kind, reason| Fault { line, kind, reason, late: None };
+    let options = AuditOptions { complete: Some(2), ..AuditOptions::default() };
     let wanted = vec![
         fault(0, FaultKind::Twice, Reason::Drawn(3)),
         fault(2, FaultKind::Order, known(5, learnt)),
@@ -121,13 +122,15 @@ fn by_hand() {
     assert_eq!(audit_lines(&lines, &options), Ok(wanted));
     let said = "audit fault: Twice 1: client 1 drew 5, and so did line 4 (client 1, ask 5)\n";
     for (all, history, count) in [(false, true, 1), (true, false, 11), (true, true, 11)] {
-        let text = audit_lines_text(&lines, &options, Wanted { all, history }).unwrap();
+        let wanted = Wanted { all, history, ..Wanted::default() };
+        let text = audit_lines_text(&lines, &options, wanted).unwrap();
         assert!(text.starts_with(said), "{text}");
         assert_eq!(text.lines().count(), count, "{text}");
     }
     let log = b"{\"client\":\"a\",\"commit\":1}";
     let text = |history| {
-        audit_log_text(log, &AuditOptions::default(), Wanted { all: true, history }).unwrap()
+        let wanted = Wanted { all: true, history, ..Wanted::default() };
+        audit_log_text(log, &AuditOptions::default(), wanted).unwrap()
     };
     let ok = "audit ok lines 1 timed 0 reads 0 commits 1 asks 0 reports 0 learns 0 unreported 0\n";
     let history = "history 0 ask 1 line 1 client \"a\"\nhistory 1 report 1 line 1 client \"a\"\n";
@@ -146,10 +149,113 @@ fn times_by_hand() {
         audit_lines(lines, &AuditOptions { margin, ..AuditOptions::default() }).unwrap()
     };
     let reason = Reason::Known { version, means: Means::Ended(0) };
-    let fault = Fault { line: 1, kind: FaultKind::Order, reason };
+    let late = Some(Late { line: 0, by: far });
+    let fault = Fault { line: 1, kind: FaultKind::Order, reason, late };
     assert_eq!((found(&lines, 0), found(&lines, far - 1)), (vec![fault], vec![fault]));
     assert_eq!(found(&lines, far), []);
     assert_eq!(found(&[line(Call::Commit(version), 0, None), read], 0), []);
+}
+
+#[test]
+fn how_late() {
+    let line = |client, call, began, ended| Line {
+        client: Some(client),
+        call,
+        times: Some(Times { began, ended: Some(ended) }),
+    };
+    let lines = [
+        line(1, Call::Commit(300), 10, 20),
+        line(2, Call::Read(200), 5, 13), // outdates the next, before the first does
+        line(3, Call::Read(100), 50, 51), // 37 after that
+        line(1, Call::Read(250), 20, 55), // its own client had ended at 20, where it begins
+        line(4, Call::Commit(300), 51, 52), // not above: as late as by its own version
+        line(5, Call::Ask(9), 60, 61),   // the read of 200 was the first above 9
+        line(5, Call::Ask(9), 60, 62),   // so too; and both are drawn twice
+    ];
+    let found: Vec<_> = audit_lines(&lines, &AuditOptions::default())
+        .unwrap()
+        .into_iter()
+        .map(|it| (it.line, it.kind, it.late.map(|late| (late.line, late.by))))
+        .collect();
+    let wanted = [
+        (2, FaultKind::Order, Some((1, 37))),
+        (3, FaultKind::Order, Some((0, 0))),
+        (4, FaultKind::NotAbove, Some((0, 31))),
+        (5, FaultKind::NotAbove, Some((1, 47))),
+        (5, FaultKind::Twice, None),
+        (6, FaultKind::NotAbove, Some((1, 47))),
+        (6, FaultKind::Twice, None),
+    ];
+    assert_eq!(found, wanted);
+}
+
+const KEYED: &str = r#"{"client":"a","commit":200,"began":10,"ended":14,"key":"x","node":[1]}
+{"client":"b","read":100,"began":15,"ended":16,"key":"y","node":2}
+{"client":"c","read":100,"began":16,"ended":17,"key":"x"}
+"#;
+const FAULT_IN_JSON: &str = concat!(
+    r#"{"fault":"Order","at":{"line":3,"client":"c","read":100,"began":16,"ended":17,"members":"#,
+    r#"{"key":"x","node":null,"nods":null}},"late":2,"first":{"line":1,"client":"a","commit":200,"#,
+    r#""began":10,"ended":14,"members":{"key":"x","node":[1],"nods":null}},"reason":"known","#,
+    r#""known":200,"by":{"line":1,"client":"a","commit":200,"began":10,"ended":14,"members":"#,
+    r#"{"key":"x","node":[1],"nods":null}},"means":"ended"}"#,
+    "\n",
+);
+const TOTALS_IN_JSON: &str = concat!(
+    r#"{"total":{"lines":3,"timed":3,"reads":2,"commits":1,"asks":0,"reports":0,"learns":0,"#,
+    r#""unreported":2,"ordered":1},"arguments":{"complete":null,"margin":0,"by_key":true,"#,
+    r#""members":["key","node","nods"]}}
+{"faults":1,"Order":1,"Wrong":0,"NotAbove":0,"Twice":0,"Stray":0}
+{"client":"c","faults":1,"Order":1,"Wrong":0,"NotAbove":0,"Twice":0,"Stray":0}
+{"members":{"key":"x"},"faults":1,"Order":1,"Wrong":0,"NotAbove":0,"Twice":0,"Stray":0}
+{"members":{"node":null},"faults":1,"Order":1,"Wrong":0,"NotAbove":0,"Twice":0,"Stray":0}
+{"members":{"nods":null},"faults":1,"Order":1,"Wrong":0,"NotAbove":0,"Twice":0,"Stray":0}
+"#,
+);
+
+#[test]
+fn by_key() {
+    let plain = AuditOptions::default();
+    let options = AuditOptions { key: "key", ..plain };
+    let found = |options| audit_log(KEYED.as_bytes(), &options).unwrap();
+    let lines: Vec<u32> = found(plain).iter().map(|it| it.line).collect();
+    assert_eq!(lines, [1, 2]);
+    let reason = Reason::Known { version: 200, means: Means::Ended(0) };
+    let late = Some(Late { line: 0, by: 2 });
+    assert_eq!(found(options), [Fault { line: 2, kind: FaultKind::Order, reason, late }]);
+    let said =
+        "audit fault: Order 3: client \"c\" read 100 \"key\":\"x\", but 200 was known: line 1 \
+                (client \"a\", commit 200 \"key\":\"x\") had ended 2 before line 3 began\n";
+    let text = audit_log_text(KEYED.as_bytes(), &options, Wanted::default());
+    assert_eq!(text, Ok(said.to_string()));
+    let refused = |line, wrong| Err(LogError::Refused { line, wrong });
+    let one = |log: &str| audit_log(log.as_bytes(), &options);
+    assert_eq!(one(r#"{"client":"a","read":1,"key":[]}"#), refused(1, Wrong::BadKey));
+    let learn = "{\"client\":\"a\",\"read\":1}\n{\"client\":\"a\",\"learn\":\"a\"}";
+    assert_eq!(one(learn), refused(2, Wrong::BadMember(Member::Learn)));
+    // Lines have no keys.
+    let lines = [untimed(1, Call::Read(2)), untimed(1, Call::Read(1))];
+    assert_eq!(audit_lines(&lines, &options), audit_lines(&lines, &plain));
+}
+
+#[test]
+fn what_is_shown() {
+    let text = |options, wanted| audit_log_text(KEYED.as_bytes(), options, wanted).unwrap();
+    let options = AuditOptions { shown: "node,nods", ..AuditOptions::default() };
+    let said = "audit fault: Order 2: client \"b\" read 100 \"node\":2, but 200 was known: line 1 \
+                (client \"a\", commit 200 \"node\":[1]) had ended 1 before line 2 began\n";
+    assert_eq!(text(&options, Wanted::default()), said);
+    let options = AuditOptions { key: "key", ..options };
+    let in_json = Wanted { json: true, ..Wanted::default() };
+    let totals = Wanted { totals: true, ..in_json };
+    assert_eq!(text(&options, in_json), FAULT_IN_JSON);
+    assert_eq!(text(&options, totals), TOTALS_IN_JSON);
+    let mut audit = Audit::new(&options, Wanted { all: true, ..totals }).unwrap();
+    for piece in KEYED.as_bytes().chunks(9) {
+        audit.push(piece).unwrap();
+    }
+    let all = format!("{FAULT_IN_JSON}{TOTALS_IN_JSON}");
+    assert_eq!((audit.end(), audit.text()), (Ok(true), all));
 }
 
 #[test]

@@ -13,7 +13,7 @@ fn said(line: u32) -> String {
 }
 
 fn opened(behind: u64, key: &str) -> Watch {
-    Watch::new(&WatchOptions { behind, ..WatchOptions::default() }, key).unwrap()
+    Watch::new(&WatchOptions { behind, key, ..WatchOptions::default() }).unwrap()
 }
 
 #[test]
@@ -37,7 +37,7 @@ fn a_fault_is_told_once() {
 #[test]
 fn what_waits() {
     let options = WatchOptions { behind: 5, totals: true, ..WatchOptions::default() };
-    let mut watch = Watch::new(&options, "").unwrap();
+    let mut watch = Watch::new(&options).unwrap();
     watch.push(format!("{COMMIT}{READ}").as_bytes()).unwrap();
     assert_eq!(watch.tell(true), Ok(String::new()));
     watch.push(b"{\"client\":\"b\",\"report\":200,\"began\":16,\"ended\":null}").unwrap();
@@ -54,19 +54,22 @@ fn what_waits() {
 #[test]
 fn what_is_asked() {
     let options = WatchOptions { behind: 5, margin: 1, ..WatchOptions::default() };
-    let mut watch = Watch::new(&options, "").unwrap();
+    let mut watch = Watch::new(&options).unwrap();
     watch.push(format!("{COMMIT}{READ}").as_bytes()).unwrap();
     assert_eq!(watch.end(), Ok(false));
     let fine = "audit ok lines 2 reads 1 commits 1 asks 0 reports 0 refused 0 early 0\n";
     assert_eq!(watch.text(), fine);
-    let options = WatchOptions { behind: 1 << 40, margin: 0, totals: true, json: true };
+    let (key, shown) = ("\u{e9}", "note");
+    let options = WatchOptions { behind: 1 << 40, margin: 0, key, shown, totals: true, json: true };
     for (second, is_fault) in [("x", true), ("y", false)] {
-        let mut watch = Watch::new(&options, "\u{e9}").unwrap();
+        let mut watch = Watch::new(&options).unwrap();
         let of_key = |line: &str, key: &str| line.replace('}', &format!(",\"\u{e9}\":\"{key}\"}}"));
         watch.push(of_key(COMMIT, "x").as_bytes()).unwrap();
         watch.push(of_key(READ, second).as_bytes()).unwrap();
         assert_eq!(watch.end(), Ok(is_fault));
-        let (text, by) = (watch.text(), "\"follow\":1099511627776,\"margin\":0,\"by_key\":true");
+        let text = watch.text();
+        let by = "\"follow\":1099511627776,\"margin\":0,\"by_key\":true,\
+                  \"members\":[\"\u{e9}\",\"note\"]}";
         assert!(text.starts_with(if is_fault { "{\"fault\":\"Order\"," } else { "{\"total\":" }));
         assert!(text.contains(by), "{text}");
     }

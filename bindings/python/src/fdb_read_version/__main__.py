@@ -5,7 +5,7 @@ import argparse
 import sys
 from typing import List, Optional
 
-from . import LogRefused, Refused, audit_text
+from . import Audit, LogRefused, Refused, Status
 
 # (2 is argparse's, of words that are refused)
 _FINE, _LOG_REFUSED, _NO_MEMORY, _FAULT, _NO_STREAM = 0, 1, 3, 4, 5
@@ -31,11 +31,34 @@ def main(words: Optional[List[str]] = None) -> int:
     reader.add_argument(
         "--margin", type=int, default=0, metavar="N", help="how far two clocks may be apart"
     )
-    reader.add_argument("--all", action="store_true", help="write all faults, not the first alone")
+    reader.add_argument("--key", metavar="MEMBER", help="judge each key, which it has, by itself")
+    reader.add_argument(
+        "--show", metavar="MEMBERS", help="members, parted by commas, to write with each line"
+    )
+    reader.add_argument(
+        "--all", action="store_true", help="write all faults, not the first alone, and totals"
+    )
+    reader.add_argument("--summary", action="store_true", help="write totals in place of faults")
+    reader.add_argument(
+        "--json", action="store_true", help="write JSON objects, one a line, of all faults"
+    )
     reader.add_argument("--history", action="store_true", help="write an order that explains it")
-    given = vars(reader.parse_args(words))
+    given = reader.parse_args(words)
     try:
-        text = audit_text(_read(given.pop("log")), **given)
+        if given.key == "":
+            raise ValueError("--key names no member")
+        with Audit(
+            complete=given.complete,
+            margin=given.margin,
+            key=given.key,
+            show=() if given.show is None else given.show.split(","),
+            all=(given.all or given.json) and not given.summary,
+            history=given.history,
+            totals=given.all or given.json or given.summary,
+            json=given.json,
+        ) as found:
+            found.push(_read(given.log))
+            status, text = found.end(), found.text()
         with open(1, "wb", closefd=False) as out:
             out.write(text.encode())
     except ValueError as error:
@@ -45,7 +68,7 @@ def main(words: Optional[List[str]] = None) -> int:
         if isinstance(error, OSError):
             return _NO_STREAM
         return _LOG_REFUSED if isinstance(error, LogRefused) else _NO_MEMORY
-    return _FAULT if text.startswith("audit fault") else _FINE
+    return _FAULT if status == Status.FAULT else _FINE
 
 
 if __name__ == "__main__":

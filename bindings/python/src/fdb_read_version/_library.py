@@ -134,6 +134,8 @@ class RawOptions(Structure):
         ("complete", c_bool),
         ("all", c_bool),
         ("history", c_bool),
+        ("totals", c_bool),
+        ("json", c_bool),
     ]
 
 
@@ -144,13 +146,16 @@ class RawRefused(Structure):
 class RawFault(Structure):
     _fields_ = [
         ("known", c_uint64),
+        ("late", c_uint64),
         ("line", c_uint32),
         ("other", c_uint32),
         ("by", c_uint32),
         ("learnt", c_uint32),
+        ("first", c_uint32),
         ("kind", c_uint8),
         ("reason", c_uint8),
         ("means", c_uint8),
+        ("has_late", c_bool),
     ]
 
 
@@ -217,13 +222,13 @@ DECLARED: Dict[str, Tuple[Any, List[Any]]] = {
     "fdb_audit_log_faults": _audit(_BYTES, RawFault),
     "fdb_audit_calls_text": _audit(_array(RawCall), c_uint8),
     "fdb_audit_calls_faults": _audit(_array(RawCall), RawFault),
-    "fdb_audit_new": (c_uint8, [POINTER(RawOptions), _AUDIT]),
+    "fdb_audit_new": (c_uint8, [POINTER(RawOptions), *_BYTES, *_BYTES, _AUDIT]),
     "fdb_audit_push": (c_uint8, [_AUDIT, *_BYTES, _REFUSED]),
     "fdb_audit_end": (c_uint8, [_AUDIT, _REFUSED]),
     "fdb_audit_text": (c_uint8, [_AUDIT, *_array(c_uint8), _SIZE]),
     "fdb_audit_faults": (c_uint8, [_AUDIT, *_array(RawFault), _SIZE]),
     "fdb_audit_free": (None, [_AUDIT]),
-    "fdb_watch_new": (c_uint8, [POINTER(RawWatchOptions), *_BYTES, _WATCH]),
+    "fdb_watch_new": (c_uint8, [POINTER(RawWatchOptions), *_BYTES, *_BYTES, _WATCH]),
     "fdb_watch_push": (c_uint8, [_WATCH, *_BYTES]),
     "fdb_watch_tell": (c_uint8, [_WATCH, c_bool]),
     "fdb_watch_end": (c_uint8, [_WATCH, _REFUSED]),

@@ -3,7 +3,7 @@ from __future__ import annotations
 
 from enum import IntEnum
 from operator import index
-from typing import Any, Type, TypeVar, Union
+from typing import Any, List, Optional, Sequence, Type, TypeVar, Union
 
 Text = Union[bytes, bytearray, memoryview, str]
 _T = TypeVar("_T")
@@ -59,3 +59,14 @@ def octets(name: str, value: Text) -> bytes:
     except TypeError:
         kind = type(value).__name__
         raise TypeError(f"{name} is neither like bytes nor a text: it is a {kind}") from None
+
+
+def members(key: Optional[Text], show: Sequence[str]) -> List[Any]:
+    """The member that has the keys and those that are shown, each text with its length."""
+    if isinstance(show, str):
+        raise TypeError(f"show is a text, and no sequence of names: {show!r}")
+    names = [instance("a shown member", it, str) for it in show]
+    if not all(names) or "," in "".join(names):
+        raise ValueError(f"a shown member is empty or has a comma: {names}")
+    texts = octets("key", "" if key is None else key), ",".join(names).encode()
+    return [it for text in texts for it in (text, len(text))]

@@ -1,14 +1,15 @@
 """The audit of a log of calls: its faults, with why each stands, or what is said of it."""
 from __future__ import annotations
 
+import json as written_json
 from ctypes import byref, c_uint8, c_uint64
 from dataclasses import dataclass
-from typing import Any, Iterable, List, Optional, Tuple, Union, cast
+from typing import Any, Iterable, List, Optional, Sequence, Tuple, Union, cast
 
 from ._handle import Handle, written
 from ._library import RawCall, RawFault, RawOptions, RawRefused, library
 from ._status import Refused, Status
-from ._values import Named, Text, flag, instance, named, number, octets
+from ._values import Named, Text, flag, instance, members, named, number, octets
 
 _ROOM_FOR_TEXT = 4096
 
@@ -109,11 +110,24 @@ class Known:
 
 
 @dataclass(frozen=True)
+class Late:
+    """By how much a call was late, and by which line, counted from 0.
+
+    That outdates the call and was the first to end: `by` is from its end to where the call began,
+    and the fault stands under each lesser margin; 0 where it had not ended by then.
+    """
+
+    line: int
+    by: int
+
+
+@dataclass(frozen=True)
 class Fault:
     """A fault, the line at which it stands, and why it stands. Lines are counted from 0.
 
-    `other` is the line that reported the version (REPORTED) or drew it (DRAWN), and `known` what was
-    known (KNOWN, REPORTED); else each is None.
+    `other` is the line that reported the version (REPORTED) or drew it (DRAWN), `known` what was
+    known (KNOWN, REPORTED), and `late` how late the call was (ORDER and NOT_ABOVE, in a log with
+    times, where a line of another call outdates it); else each is None.
     """
 
     line: int
@@ -121,6 +135,7 @@ class Fault:
     reason: Reason
     other: Optional[int] = None
     known: Optional[Known] = None
+    late: Optional[Late] = None
 
 
 class LogRefused(Refused):
@@ -144,16 +159,29 @@ class LogRefused(Refused):
 Log = Union[Text, Iterable[Call]]
 
 
-def audit(log: Log, *, complete: Optional[int] = None, margin: int = 0) -> List[Fault]:
+def audit(
+    log: Log,
+    *,
+    complete: Optional[int] = None,
+    margin: int = 0,
+    key: Optional[Text] = None,
+) -> List[Fault]:
     """All faults of a log, by line: none exactly where some history explains it.
 
     The log is JSON Lines, as docs/FORMATS.md has them, as bytes or a text, or an iterable of `Call`.
     `complete` is the version that all began with, where the log has all calls; `margin` says how far
-    the clocks of two clients may be apart, in the unit of the times. `LogRefused` is raised where a
+    the clocks of two clients may be apart, in the unit of the times. `key` names the member that
+    has a line's key, and each key is then judged by itself, as one register; where it is None or
+    empty there are no keys, and a `Call` has none (`ValueError`). `LogRefused` is raised where a
     line is wrong or a text has none, and `Refused` says MEMORY.
     """
+    given, lines, name = _log(log, key is not None)
+    if key is not None:
+        with Audit(complete=complete, margin=margin, key=key) as keyed:
+            keyed.push(given)
+            keyed.end()
+            return keyed.faults()
     options = _options(complete, margin)
-    given, lines, name = _log(log)
     _, found, size = _told(f"fdb_audit_{name}_faults", given, options, RawFault, lines)
     return [_fault(it) for it in found[:size]]
 
@@ -163,23 +191,40 @@ def audit_text(
     *,
     complete: Optional[int] = None,
     margin: int = 0,
+    key: Optional[Text] = None,
+    show: Sequence[str] = (),
     all: bool = False,
     history: bool = False,
+    totals: bool = False,
+    json: bool = False,
 ) -> str:
     """What `fdb_audit` prints of a log, as `audit` takes it.
 
     That is the first fault, or with `all` each, and why; or how much a verdict without a fault
-    stands on, and with `history` an order that explains the lines. An iterable of `Call` names a
-    client by its number.
+    stands on, and with `history` an order that explains the lines. `totals` say, where a fault
+    stands, how much was judged and how many faults there are of each kind; without `all` these
+    alone. With `json` it is objects, one a line, and not sentences. `show` names members that are
+    told beside each line; a name that is empty or has a comma is a `ValueError`. An iterable of
+    `Call` has no members, and names a client by its number.
     """
-    given, _, name = _log(log)
-    if name == "log" and (all or history):
+    has_members = key is not None or len(show) > 0
+    given, _, name = _log(log, has_members)
+    if name == "log" and (all or history or has_members):
         # (what may be long is found once, whatever room it needs)
-        with Audit(complete=complete, margin=margin, all=all, history=history) as found:
+        with Audit(
+            complete=complete,
+            margin=margin,
+            key=key,
+            show=show,
+            all=all,
+            history=history,
+            totals=totals,
+            json=json,
+        ) as found:
             found.push(given)
             found.end()
             return found.text()
-    options = _options(complete, margin, all, history)
+    options = _options(complete, margin, all, history, totals, json)
     _, text, size = _told(f"fdb_audit_{name}_text", given, options, c_uint8, _ROOM_FOR_TEXT)
     return str(memoryview(text)[:size], "utf-8")
 
@@ -187,8 +232,9 @@ def audit_text(
 class Audit(Handle):
     """An audit of JSON Lines that come piece by piece, and then what it found.
 
-    It keeps the log's lines and not their bytes. `complete` and `margin` are those of `audit`, `all`
-    and `history` those of `audit_text`. `Refused` says MEMORY.
+    It keeps the log's lines and not their bytes. `complete`, `margin` and `key` are those of
+    `audit`, and the rest those of `audit_text`. `Refused` says MEMORY, or BAD_MEMBER where `key`
+    is no UTF-8.
 
     Threads may share one: their calls wait for one another. It is freed by `close`, at the end of a
     `with`, or when nobody has it any more, and can be neither copied nor pickled.
@@ -201,11 +247,15 @@ class Audit(Handle):
         *,
         complete: Optional[int] = None,
         margin: int = 0,
+        key: Optional[Text] = None,
+        show: Sequence[str] = (),
         all: bool = False,
         history: bool = False,
+        totals: bool = False,
+        json: bool = False,
     ) -> None:
-        options = _options(complete, margin, all, history)
-        self._open(library.fdb_audit_new, byref(options))
+        options = _options(complete, margin, all, history, totals, json)
+        self._open(library.fdb_audit_new, byref(options), *members(key, show))
 
     def push(self, piece: Text) -> None:
         """Takes the next bytes of the log, cut anywhere.
@@ -228,13 +278,22 @@ class Audit(Handle):
         """What was found, as `audit_text` has it: empty where nothing was found yet."""
         return str(self._call(written, library.fdb_audit_text, c_uint8), "utf-8")
 
+    def objects(self) -> List[Any]:
+        """What was found with `json`, as values of Python."""
+        return objects_in(self.text())
+
     def faults(self) -> List[Fault]:
         """All faults that were found, by line."""
         return [_fault(it) for it in self._call(written, library.fdb_audit_faults, RawFault)]
 
 
 def _options(
-    complete: Optional[int], margin: int, all: bool = False, history: bool = False
+    complete: Optional[int],
+    margin: int,
+    all: bool = False,
+    history: bool = False,
+    totals: bool = False,
+    json: bool = False,
 ) -> RawOptions:
     return RawOptions(
         0 if complete is None else number("complete", complete),
@@ -242,17 +301,24 @@ def _options(
         complete is not None,
         flag("all", all),
         flag("history", history),
+        flag("totals", totals),
+        flag("json", json),
     )
 
 
-def _log(log: Log) -> Tuple[Any, int, str]:
-    """What goes to the library, how many lines it may have, and the word of the call for it."""
+def _log(log: Log, has_members: bool) -> Tuple[Any, int, str]:
+    """What goes to the library, how many lines it may have, and the word of the call for it.
+
+    Calls have no members.
+    """
     try:
         text = octets("the log", cast(Text, log))
         return text, text.count(b"\n") + 1, "log"
     except TypeError:
         if not isinstance(log, Iterable):
             raise
+    if has_members:
+        raise ValueError("a call has no members: neither a key nor one that is shown")
     raw = [instance("a line", it, Call)._raw() for it in cast("Iterable[Call]", log)]
     return (RawCall * len(raw))(*raw), len(raw), "calls"
 
@@ -269,6 +335,11 @@ def _told(
             break
         room = size.value
     return verdict(status, refused), found, size.value
+
+
+def objects_in(text: str) -> List[Any]:
+    """The objects of a text that has one a line."""
+    return [written_json.loads(it) for it in text.split("\n")[:-1]]
 
 
 def verdict(status: int, refused: RawRefused) -> Status:
@@ -289,6 +360,7 @@ def _fault(raw: RawFault) -> Fault:
         reason,
         raw.other if has_other else None,
         _known(raw) if reason in (Reason.KNOWN, Reason.REPORTED) else None,
+        Late(raw.first, raw.late) if raw.has_late else None,
     )
 
 

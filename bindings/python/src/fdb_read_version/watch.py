@@ -1,15 +1,14 @@
 """The watch of a log of calls that grows."""
 from __future__ import annotations
 
-import json as written_json
 from ctypes import byref, c_uint8
-from typing import Any, List, Tuple
+from typing import Any, List, Optional, Sequence, Tuple
 
 from ._handle import Handle, written
 from ._library import RawRefused, RawWatchOptions, library
 from ._status import Refused, Status
-from ._values import Text, flag, number, octets
-from .log import verdict
+from ._values import Text, flag, members, number, octets
+from .log import objects_in, verdict
 
 
 class Watch(Handle):
@@ -17,9 +16,11 @@ class Watch(Handle):
 
     A line begins at most so far `behind` the newest end, and the clocks of two clients are at most
     `margin` apart, both in the unit of the times. `key` names the member that has a line's key, and
-    each key is then watched by itself; where it is empty there are no keys. With `totals` the end
-    tells how much was read, and how many faults of each kind; with `json` objects are told, and not
-    sentences. `Refused` says MEMORY.
+    each key is then watched by itself; where it is None or empty there are no keys. `show` names
+    members that are told beside each line; a name that is empty or has a comma is a `ValueError`.
+    With `totals` the end tells how much was read, and how many faults of each kind; with `json`
+    objects are told, and not sentences. `Refused` says MEMORY, or BAD_MEMBER where `key` is no
+    UTF-8.
 
     Threads may share one: their calls wait for one another. It is freed by `close`, at the end of a
     `with`, or when nobody has it any more, and can be neither copied nor pickled.
@@ -32,7 +33,8 @@ class Watch(Handle):
         behind: int,
         *,
         margin: int = 0,
-        key: Text = "",
+        key: Optional[Text] = None,
+        show: Sequence[str] = (),
         totals: bool = False,
         json: bool = False,
     ) -> None:
@@ -42,8 +44,7 @@ class Watch(Handle):
             flag("totals", totals),
             flag("json", json),
         )
-        name = octets("key", key)
-        self._open(library.fdb_watch_new, byref(options), name, len(name))
+        self._open(library.fdb_watch_new, byref(options), *members(key, show))
 
     def push(self, piece: Text) -> None:
         """Takes the next bytes of the log, cut anywhere; a line that is refused is left out.
@@ -86,7 +87,7 @@ class Watch(Handle):
 
     def objects(self) -> List[Any]:
         """What was said last with `json`, as values of Python."""
-        return [written_json.loads(it) for it in self.text().split("\n")[:-1]]
+        return objects_in(self.text())
 
     def warnings(self) -> str:
         """What came with that: a line for each line that was left out, with its number and why."""

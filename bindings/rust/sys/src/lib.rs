@@ -191,6 +191,8 @@ pub struct fdb_audit_options {
     pub complete: bool,
     pub all: bool,
     pub history: bool,
+    pub totals: bool,
+    pub json: bool,
 }
 
 #[repr(C)]
@@ -204,13 +206,16 @@ pub struct fdb_refused {
 #[derive(Clone, Copy, Debug, Default)]
 pub struct fdb_fault {
     pub known: u64,
+    pub late: u64,
     pub line: u32,
     pub other: u32,
     pub by: u32,
     pub learnt: u32,
+    pub first: u32,
     pub kind: u8,
     pub reason: u8,
     pub means: u8,
+    pub has_late: bool,
 }
 
 #[repr(C)]
@@ -340,7 +345,14 @@ extern "C" {
         size: *mut u64,
         refused: *mut fdb_refused,
     ) -> u8;
-    pub fn fdb_audit_new(options: *const fdb_audit_options, audit: *mut fdb_audit) -> u8;
+    pub fn fdb_audit_new(
+        options: *const fdb_audit_options,
+        key: *const u8,
+        key_length: usize,
+        shown: *const u8,
+        shown_length: usize,
+        audit: *mut fdb_audit,
+    ) -> u8;
     pub fn fdb_audit_push(
         audit: *mut fdb_audit,
         bytes: *const u8,
@@ -365,6 +377,8 @@ extern "C" {
         options: *const fdb_watch_options,
         key: *const u8,
         key_length: usize,
+        shown: *const u8,
+        shown_length: usize,
         watch: *mut fdb_watch,
     ) -> u8;
     pub fn fdb_watch_push(watch: *mut fdb_watch, bytes: *const u8, bytes_length: usize) -> u8;
