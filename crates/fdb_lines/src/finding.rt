@@ -91,7 +91,7 @@ pub fn first_finding(
 {
     let made = tables_of(alloc, log, opts)?;
     let tables = Tables::new(log, opts, &made);
-    first_in(alloc, &tables)
+    first_between(alloc, &tables, 0, log.lines().len())
 }
 
 /// The first fault of a log, as [`first_finding`] finds it, by threads.
@@ -162,20 +162,6 @@ pub(crate) fn findings_in(alloc: Global, tables: &Tables<'_>) -> Result<Vec<Find
         add_findings(&mut findings, tables, place)?;
     }
     Ok(findings)
-}
-
-/// The first fault of a log, by its tables.
-fn first_in(alloc: Global, tables: &Tables<'_>) -> Result<Option<Finding>, AllocError>
-    ensures first { IfOk result
-        (λ first. option_map found_of first ≡ slice_get (faults_of (case_in tables.now)) 0) }
-    ensures explained { IfOk result
-        (λ first. first ≡ None ↔ AreExplained (case_in tables.now)) }
-    ensures reason { IfOk result
-        (λ first. IfSome first (HasReason (lines_of tables.now.log) tables.now.opts)) }
-    ensures late { IfOk result
-        (λ first. IfSome first (HasLate (lines_of tables.now.log) tables.now.opts)) }
-{
-    first_between(alloc, tables, 0, tables.lines().len())
 }
 
 /// The first fault at the lines from one place on and before another.
