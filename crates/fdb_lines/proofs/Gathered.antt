@@ -263,29 +263,30 @@ module _ (log : Lines) (opts : AuditOpts) (keys : List (Option ℕ)) where
   placed_all places [] = refl
   placed_all places (x ∷ xs) = ap (λ (rest : List Found). placed_found places x.found ∷ rest) (placed_all places xs)
 
+  -- what holds at a place among the lines of a key holds where that line stands
+  whose : (key : Option ℕ) (j : ℕ) → j < length (places_of keys key) → key ≡ key_at keys (slice_index (places_of keys key) j)
+  whose key j lt = sym (same_is _ _ (place_is keys key (length keys) j lt).1)
+
+  at_its_place : (P : Option ℕ → ℕ → Type 0) (key : Option ℕ) (j : ℕ) → j < length (places_of keys key) → P key j
+      → P (key_at keys (slice_index (places_of keys key) j)) (place_among keys (slice_index (places_of keys key) j))
+  at_its_place P key j lt has =
+      subst (λ q. P q (length (places_below keys q (slice_index (places_of keys key) j)))) (whose key j lt) (subst (P key) (sym (place_is keys key (length keys) j lt).2) has)
+
   reason_here : (key : Option ℕ) (finding : Finding) → finding.found.line < length (places_of keys key) → HasReason (lines_of_key log keys key) opts finding
       → HasReasonByKey log keys opts (placed_finding (places_of keys key) finding)
-  reason_here key finding lt has =
-      let k = slice_index (places_of keys key) finding.found.line in
-      let is = place_is keys key (length keys) finding.found.line lt in
-      let its : key ≡ key_at keys k = sym (same_is _ _ is.1) in
-      let at = subst (λ j. IsReason (lines_of_key log keys key) opts j finding.found.fault finding.reason) (sym is.2) has in (
-        finding.reason,
-        subst (λ q. IsReason (lines_of_key log keys q) opts (length (places_below keys q k)) finding.found.fault finding.reason) its at,
-        ap (λ q. placed_reason (places_of keys q) finding.reason) its,
-      )
+  reason_here key finding lt has = (
+    finding.reason,
+    at_its_place (λ q j. IsReason (lines_of_key log keys q) opts j finding.found.fault finding.reason) key finding.found.line lt has,
+    ap (λ q. placed_reason (places_of keys q) finding.reason) (whose key finding.found.line lt),
+  )
 
   late_here : (key : Option ℕ) (finding : Finding) → finding.found.line < length (places_of keys key) → HasLate (lines_of_key log keys key) opts finding
       → HasLateByKey log keys opts (placed_finding (places_of keys key) finding)
-  late_here key finding lt has =
-      let k = slice_index (places_of keys key) finding.found.line in
-      let is = place_is keys key (length keys) finding.found.line lt in
-      let its : key ≡ key_at keys k = sym (same_is _ _ is.1) in
-      let at = subst (λ j. IsLateAt (lines_of_key log keys key) opts j finding.found.fault finding.late) (sym is.2) has in (
-        finding.late,
-        subst (λ q. IsLateAt (lines_of_key log keys q) opts (length (places_below keys q k)) finding.found.fault finding.late) its at,
-        ap (λ q. placed_late (places_of keys q) finding.late) its,
-      )
+  late_here key finding lt has = (
+    finding.late,
+    at_its_place (λ q j. IsLateAt (lines_of_key log keys q) opts j finding.found.fault finding.late) key finding.found.line lt has,
+    ap (λ q. placed_late (places_of keys q) finding.late) (whose key finding.found.line lt),
+  )
 
   pub gathered_more : (n : ℕ) (found here new : List Finding) (part : Lines) (places : List ℕ) → n < length (keys_of keys)
       → places ≡ places_of keys (key_at (keys_of keys) n) → part ≡ part_of log places → new ≡ found ++ map (placed_finding places) here

@@ -1,5 +1,5 @@
 -- The faults of a log with keys: none exactly where the lines of each key are explained.
-use Rattle.std.proofs.Common.{◌≡◌, ◌↔◌, ℕ, zero, suc, ◌<◌, Bool, true, false, cond, List, [], ◌∷◌, Option, length, slice_index, refl, ap, sym, subst, ◌∙◌, inl, inr, arith, length-append}
+use Rattle.std.proofs.Common.{◌≡◌, ◌↔◌, ℕ, zero, suc, ◌<◌, Bool, true, false, cond, List, [], ◌∷◌, ◌++◌, Option, length, slice_index, refl, ap, sym, subst, ◌∙◌, inl, inr, arith, length-append}
 use Rattle.std.specs.List.{All}
 use Rattle.std.proofs.lemmas.Bool.{cases_lt}
 use Rattle.std.proofs.lemmas.List.{length-map}
@@ -17,39 +17,23 @@ use Rattle.fdb_lines.proofs.Listed.{explained_by_length}
 
 -- ---- lists of faults that are empty
 
-none_below : (c : Case) (n : ℕ) → ((j : ℕ) → j < n → length (faults_at c j) ≡ 0) → length (faults_below c n) ≡ 0
-none_below c zero none = refl
-none_below c (suc n) none =
-    let below = none_below c n (λ j lt. none j (omega arith)) in
-    let here = none n (omega arith) in
-    omega (arith, length-append (faults_below c n) (faults_at c n))
+module _ (at below : ℕ → List Found) (first : length (below 0) ≡ 0) (more : (n : ℕ) → below (suc n) ≡ below n ++ at n) where
+  none_below : (n : ℕ) → ((j : ℕ) → j < n → length (at j) ≡ 0) → length (below n) ≡ 0
+  none_below zero none = first
+  none_below (suc n) none =
+      let before = none_below n (λ j lt. none j (omega arith)) in
+      let here = none n (omega arith) in
+      omega (arith, ap length (more n), length-append (below n) (at n))
 
-none_at : (c : Case) (n : ℕ) → length (faults_below c n) ≡ 0 → (j : ℕ) → j < n → length (faults_at c j) ≡ 0
-none_at c zero none j lt = absurd (omega arith)
-none_at c (suc n) none j lt =
-    let sum = length-append (faults_below c n) (faults_at c n) in
-    elim (cases_lt j n) [
-      | inl old ↦ none_at c n (omega arith) j old
-      | inr ge ↦ let same : n ≡ j = omega arith in subst (λ m. length (faults_at c m) ≡ 0) same (omega arith)
-    ]
-
-none_below_by_key : (log : Lines) (keys : List (Option ℕ)) (opts : AuditOpts) (n : ℕ) → ((k : ℕ) → k < n → length (faults_at_by_key log keys opts k) ≡ 0)
-    → length (faults_below_by_key log keys opts n) ≡ 0
-none_below_by_key log keys opts zero none = refl
-none_below_by_key log keys opts (suc n) none =
-    let below = none_below_by_key log keys opts n (λ k lt. none k (omega arith)) in
-    let here = none n (omega arith) in
-    omega (arith, length-append (faults_below_by_key log keys opts n) (faults_at_by_key log keys opts n))
-
-none_at_by_key : (log : Lines) (keys : List (Option ℕ)) (opts : AuditOpts) (n : ℕ) → length (faults_below_by_key log keys opts n) ≡ 0
-    → (k : ℕ) → k < n → length (faults_at_by_key log keys opts k) ≡ 0
-none_at_by_key log keys opts zero none k lt = absurd (omega arith)
-none_at_by_key log keys opts (suc n) none k lt =
-    let sum = length-append (faults_below_by_key log keys opts n) (faults_at_by_key log keys opts n) in
-    elim (cases_lt k n) [
-      | inl old ↦ none_at_by_key log keys opts n (omega arith) k old
-      | inr ge ↦ let same : n ≡ k = omega arith in subst (λ m. length (faults_at_by_key log keys opts m) ≡ 0) same (omega arith)
-    ]
+  none_at : (n : ℕ) → length (below n) ≡ 0 → (j : ℕ) → j < n → length (at j) ≡ 0
+  none_at zero none j lt = absurd (omega arith)
+  none_at (suc n) none j lt =
+      let all = ap length (more n) in
+      let sum = length-append (below n) (at n) in
+      elim (cases_lt j n) [
+        | inl old ↦ none_at n (omega arith) j old
+        | inr ge ↦ let same : n ≡ j = omega arith in subst (λ m. length (at m) ≡ 0) same (omega arith)
+      ]
 
 -- ---- none of the whole log exactly where none of any key
 
@@ -68,19 +52,19 @@ explained log keys opts as_many = (
       let places = places_of keys key in
       let size = length-map places (line_at log.lines) in
       (explained_by_length (lines_of_key log keys key) opts _ refl).0
-      (none_below (case_of_key log keys opts key) (length (lines_of_key log keys key).lines) (λ j lt.
+      (none_below (faults_at (case_of_key log keys opts key)) (faults_below (case_of_key log keys opts key)) refl (λ n. refl) (length (lines_of_key log keys key).lines) (λ j lt.
       let within : j < length places = omega arith in
       let is = place_is keys key (length keys) j within in
       let inside = is.0 in
       sym (told log keys opts key (slice_index places j) j (same_is _ _ is.1) is.2)
-      ∙ none_at_by_key log keys opts (length log.lines) none (slice_index places j) (omega arith))),
-  λ some. none_below_by_key log keys opts (length log.lines) (λ k lt.
+      ∙ none_at (faults_at_by_key log keys opts) (faults_below_by_key log keys opts) refl (λ n. refl) (length log.lines) none (slice_index places j) (omega arith))),
+  λ some. none_below (faults_at_by_key log keys opts) (faults_below_by_key log keys opts) refl (λ n. refl) (length log.lines) (λ k lt.
       let key = key_at keys k in
       let size = length-map (places_of keys key) (line_at log.lines) in
       let has = has_place keys key (length keys) k (same_self key) (omega arith) in
       let within = has.0 in
       told log keys opts key k (place_among keys k) refl refl
-      ∙ none_at (case_of_key log keys opts key) (length (lines_of_key log keys key).lines) ((explained_by_length (lines_of_key log keys key) opts _ refl).1 (some key)) (place_among keys k) (omega arith)),
+      ∙ none_at (faults_at (case_of_key log keys opts key)) (faults_below (case_of_key log keys opts key)) refl (λ n. refl) (length (lines_of_key log keys key).lines) ((explained_by_length (lines_of_key log keys key) opts _ refl).1 (some key)) (place_among keys k) (omega arith)),
 )
 
 -- ---- the faults at a line

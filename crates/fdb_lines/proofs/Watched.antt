@@ -43,16 +43,9 @@ of_five p v w x y z =
 at_line : (test : ℕ → Bool) (c : Case) (k : ℕ) (b : Bool) → test k ≡ b → filter (passes test) (faults_at c k) ≡ cond b (told_at c k) []
 at_line test c k b e =
     of_five (passes test) (found_if c Order k) (found_if c Wrong k) (found_if c NotAbove k) (found_if c Twice k) (found_if c Stray k)
-    ∙ (ap (λ (l : List Found). l ++ filter (passes test) (found_if c Wrong k) ++ filter (passes test) (found_if c NotAbove k) ++ filter (passes test) (found_if c Twice k)
-    ++ filter (passes test) (found_if c Stray k)) (of_fault test c k Order b e)
-    ∙ (ap (λ (l : List Found). cond b (found_if c Order k) [] ++ l ++ filter (passes test) (found_if c NotAbove k) ++ filter (passes test) (found_if c Twice k)
-    ++ filter (passes test) (found_if c Stray k)) (of_fault test c k Wrong false refl)
-    ∙ (ap (λ (l : List Found). cond b (found_if c Order k) [] ++ [] ++ l ++ filter (passes test) (found_if c Twice k) ++ filter (passes test) (found_if c Stray k))
-    (of_fault test c k NotAbove b e)
-    ∙ (ap (λ (l : List Found). cond b (found_if c Order k) [] ++ [] ++ cond b (found_if c NotAbove k) [] ++ l ++ filter (passes test) (found_if c Stray k))
-    (of_fault test c k Twice false refl)
-    ∙ (ap (λ (l : List Found). cond b (found_if c Order k) [] ++ [] ++ cond b (found_if c NotAbove k) [] ++ [] ++ l) (of_fault test c k Stray false refl)
-    ∙ both_of b)))))
+    ∙ ((λ i. of_fault test c k Order b e i ++ of_fault test c k Wrong false refl i ++ of_fault test c k NotAbove b e i ++ of_fault test c k Twice false refl i
+    ++ of_fault test c k Stray false refl i)
+    ∙ both_of b)
   where
     both_of : (b : Bool) → cond b (found_if c Order k) [] ++ [] ++ cond b (found_if c NotAbove k) [] ++ [] ++ [] ≡ cond b (told_at c k) []
     both_of true = rw (append-nil {A = Found}, append-nil {A = Found}, append-nil {A = Found}) refl

@@ -91,7 +91,7 @@ pub fn first_finding(
 {
     let made = tables_of(alloc, log, opts)?;
     let tables = Tables::new(log, opts, &made);
-    first_in(alloc, &tables)
+    first_between(alloc, &tables, 0, log.lines().len())
 }
 
 /// The first fault of a log, as [`first_finding`] finds it, by threads.
@@ -109,59 +109,8 @@ pub fn first_finding_by<R: Threads + Sync>(
         (λ first. IfSome first (HasReason (lines_of log.now) opts.now)) }
     ensures late { IfOk result (λ first. IfSome first (HasLate (lines_of log.now) opts.now)) }
 {
-    let made = tables_by(rt, alloc, log, opts)?;
-    first_in_by(rt, alloc, log, opts, &made)
-}
-
-/// The faults of a log, by its tables.
-pub(crate) fn findings_in(alloc: Global, tables: &Tables<'_>) -> Result<Vec<Finding>, AllocError>
-    ensures listed { IfOk result (λ findings. map found_of findings.items
-        ≡ faults_of (case_in tables.now)) }
-    ensures explained { IfOk result (λ findings. length findings.items ≡ 0
-        ↔ AreExplained (case_in tables.now)) }
-    ensures reasons { IfOk result (λ findings. All (HasReason (lines_of tables.now.log)
-        tables.now.opts) findings.items) }
-    ensures late { IfOk result (λ findings. All (HasLate (lines_of tables.now.log)
-        tables.now.opts) findings.items) }
-{
-    let mut findings = Vec::new(alloc);
-    for place in 0..tables.lines().len() {
-        add_findings(&mut findings, tables, place)?;
-    }
-    Ok(findings)
-}
-
-/// The first fault of a log, by its tables.
-fn first_in(alloc: Global, tables: &Tables<'_>) -> Result<Option<Finding>, AllocError>
-    ensures first { IfOk result
-        (λ first. option_map found_of first ≡ slice_get (faults_of (case_in tables.now)) 0) }
-    ensures explained { IfOk result
-        (λ first. first ≡ None ↔ AreExplained (case_in tables.now)) }
-    ensures reason { IfOk result
-        (λ first. IfSome first (HasReason (lines_of tables.now.log) tables.now.opts)) }
-    ensures late { IfOk result
-        (λ first. IfSome first (HasLate (lines_of tables.now.log) tables.now.opts)) }
-{
-    first_between(alloc, tables, 0, tables.lines().len())
-}
-
-/// The same, by two threads.
-fn first_in_by<R: Threads + Sync>(
-    rt: &R,
-    alloc: Global,
-    log: &Log,
-    opts: &AuditOpts,
-    made: &Made,
-) -> Result<Option<Finding>, AllocError>
-    requires { AreTables (lines_of log.now) opts.now made.now }
-    ensures first { IfOk result (λ first. option_map found_of first
-        ≡ slice_get (faults_of (case_of (lines_of log.now) opts.now)) 0) }
-    ensures explained { IfOk result
-        (λ first. first ≡ None ↔ AreExplained (case_of (lines_of log.now) opts.now)) }
-    ensures reason { IfOk result
-        (λ first. IfSome first (HasReason (lines_of log.now) opts.now)) }
-    ensures late { IfOk result (λ first. IfSome first (HasLate (lines_of log.now) opts.now)) }
-{
+    let tables = tables_by(rt, alloc, log, opts)?;
+    let made = &tables;
     let all = log.lines().len();
     let half = all / 2;
     let (above, below) = join(
@@ -195,6 +144,24 @@ fn first_in_by<R: Threads + Sync>(
         Some(first) => Ok(Some(first)),
         None => Ok(below),
     }
+}
+
+/// The faults of a log, by its tables.
+pub(crate) fn findings_in(alloc: Global, tables: &Tables<'_>) -> Result<Vec<Finding>, AllocError>
+    ensures listed { IfOk result (λ findings. map found_of findings.items
+        ≡ faults_of (case_in tables.now)) }
+    ensures explained { IfOk result (λ findings. length findings.items ≡ 0
+        ↔ AreExplained (case_in tables.now)) }
+    ensures reasons { IfOk result (λ findings. All (HasReason (lines_of tables.now.log)
+        tables.now.opts) findings.items) }
+    ensures late { IfOk result (λ findings. All (HasLate (lines_of tables.now.log)
+        tables.now.opts) findings.items) }
+{
+    let mut findings = Vec::new(alloc);
+    for place in 0..tables.lines().len() {
+        add_findings(&mut findings, tables, place)?;
+    }
+    Ok(findings)
 }
 
 /// The first fault at the lines from one place on and before another.

@@ -67,7 +67,7 @@ pub fn orders_by_key(
     Ok(Err(found))
 }
 
-/// OrderSteps, with their lines told of the whole log.
+/// Steps, with their lines told of the whole log.
 fn placed_steps(
     alloc: Global,
     places: &[u32],

@@ -6,14 +6,14 @@ ghost use Rattle.fdb_lines.specs.Log.{lines_of};
 ghost use Rattle.fdb_lines.specs.declared.exposure.Exposure.TheVariants.{Drawn, Shown};
 ghost use Rattle.fdb_lines.specs.private.EndTable.{AreSettled};
 ghost use Rattle.fdb_lines.specs.private.Known.{AreEnds};
-ghost use Rattle.fdb_lines.specs.private.Locators.{AreLocators};
-ghost use Rattle.fdb_lines.specs.private.Tables.{has_ask, AreDrawnIn, AreKnownIn, AreTables};
+ghost use Rattle.fdb_lines.specs.private.Tables.{has_ask, AreDrawnIn, AreKnownIn, AreLocated};
+ghost use Rattle.fdb_lines.specs.private.Tables.{AreTables};
 
 use crate::end_table::EndTable;
 use crate::exposure::Exposure;
 use crate::known::{known_by_time, table_of};
 use crate::line::Line;
-use crate::line_kind::LineKind;
+use crate::line_kind::LineKind::{self, Asks, Draws, Nameless, Owned, Raises, Reports};
 use crate::locators::Locators;
 use crate::log::Log;
 use crate::opts::AuditOpts;
@@ -34,12 +34,12 @@ pub(crate) fn tables_of(alloc: Global, log: &Log, opts: &AuditOpts) -> Result<Ma
     let shown = known(alloc, log, opts, Exposure::Shown, &firsts, &own)?;
     drop(own);
     let drawn = known_draws(alloc, log, opts)?;
-    let reports = Locators::new(alloc, start, lines, &shown, LineKind::Reports)?;
-    let raises = Locators::new(alloc, start, lines, &shown, LineKind::Raises)?;
-    let draws = Locators::new(alloc, start, lines, &shown, LineKind::Draws)?;
-    let asks = Locators::new(alloc, start, lines, &shown, LineKind::Asks)?;
-    let owned = Locators::new(alloc, start, lines, &shown, LineKind::Owned)?;
-    let nameless = Locators::new(alloc, start, lines, &shown, LineKind::Nameless)?;
+    let reports = Locators::new(alloc, start, lines, &shown, Reports)?;
+    let raises = Locators::new(alloc, start, lines, &shown, Raises)?;
+    let draws = Locators::new(alloc, start, lines, &shown, Draws)?;
+    let asks = Locators::new(alloc, start, lines, &shown, Asks)?;
+    let owned = Locators::new(alloc, start, lines, &shown, Owned)?;
+    let nameless = Locators::new(alloc, start, lines, &shown, Nameless)?;
     Ok(Made {
         shown,
         drawn,
@@ -73,15 +73,7 @@ pub(crate) fn tables_by<R: Threads + Sync>(
     let start = opts.start();
     let known = shown.as_slice();
     let ((reports, raises), (draws, owned)) = four_locators(rt, alloc, start, lines, known);
-    let (asks, nameless) = two_locators(
-        rt,
-        alloc,
-        start,
-        lines,
-        known,
-        LineKind::Asks,
-        LineKind::Nameless,
-    );
+    let (asks, nameless) = two_locators(rt, alloc, start, lines, known, Asks, Nameless);
     let reports = reports?;
     let raises = raises?;
     let draws = draws?;
@@ -184,51 +176,27 @@ fn four_locators<R: Threads + Sync>(
     (Result<Locators, AllocError>, Result<Locators, AllocError>),
 )
     requires { length lines.now ≤ 4294967295 }
-    ensures reports { IfOk result.0.0 (λ table. AreLocators LineKind.Reports start
-        lines.now known.now (length lines.now) table.locators.items) }
-    ensures raises { IfOk result.0.1 (λ table. AreLocators LineKind.Raises start
-        lines.now known.now (length lines.now) table.locators.items) }
-    ensures draws { IfOk result.1.0 (λ table. AreLocators LineKind.Draws start
-        lines.now known.now (length lines.now) table.locators.items) }
-    ensures owned { IfOk result.1.1 (λ table. AreLocators LineKind.Owned start
-        lines.now known.now (length lines.now) table.locators.items) }
+    ensures reports { IfOk result.0.0 (AreLocated start lines.now known.now LineKind.Reports) }
+    ensures raises { IfOk result.0.1 (AreLocated start lines.now known.now LineKind.Raises) }
+    ensures draws { IfOk result.1.0 (AreLocated start lines.now known.now LineKind.Draws) }
+    ensures owned { IfOk result.1.1 (AreLocated start lines.now known.now LineKind.Owned) }
 {
     join(
         rt,
         || -> (Result<Locators, AllocError>, Result<Locators, AllocError>)
             requires { IsSync R.row × (length lines.now ≤ 4294967295) }
-            ensures reports { IfOk result.0 (λ table. AreLocators LineKind.Reports start
-                lines.entry.now known.entry.now (length lines.entry.now) table.locators.items) }
-            ensures raises { IfOk result.1 (λ table. AreLocators LineKind.Raises start
-                lines.entry.now known.entry.now (length lines.entry.now) table.locators.items) }
-        {
-            two_locators(
-                rt,
-                alloc,
-                start,
-                lines,
-                known,
-                LineKind::Reports,
-                LineKind::Raises,
-            )
-        },
+            ensures reports { IfOk result.0
+                (AreLocated start lines.entry.now known.entry.now LineKind.Reports) }
+            ensures raises { IfOk result.1
+                (AreLocated start lines.entry.now known.entry.now LineKind.Raises) }
+        { two_locators(rt, alloc, start, lines, known, Reports, Raises) },
         || -> (Result<Locators, AllocError>, Result<Locators, AllocError>)
             requires { IsSync R.row × (length lines.now ≤ 4294967295) }
-            ensures draws { IfOk result.0 (λ table. AreLocators LineKind.Draws start
-                lines.entry.now known.entry.now (length lines.entry.now) table.locators.items) }
-            ensures owned { IfOk result.1 (λ table. AreLocators LineKind.Owned start
-                lines.entry.now known.entry.now (length lines.entry.now) table.locators.items) }
-        {
-            two_locators(
-                rt,
-                alloc,
-                start,
-                lines,
-                known,
-                LineKind::Draws,
-                LineKind::Owned,
-            )
-        },
+            ensures draws { IfOk result.0
+                (AreLocated start lines.entry.now known.entry.now LineKind.Draws) }
+            ensures owned { IfOk result.1
+                (AreLocated start lines.entry.now known.entry.now LineKind.Owned) }
+        { two_locators(rt, alloc, start, lines, known, Draws, Owned) },
     )
 }
 
@@ -243,22 +211,18 @@ fn two_locators<R: Threads + Sync>(
     other: LineKind,
 ) -> (Result<Locators, AllocError>, Result<Locators, AllocError>)
     requires { length lines.now ≤ 4294967295 }
-    ensures one { IfOk result.0 (λ table. AreLocators one start lines.now known.now
-        (length lines.now) table.locators.items) }
-    ensures other { IfOk result.1 (λ table. AreLocators other start lines.now known.now
-        (length lines.now) table.locators.items) }
+    ensures one { IfOk result.0 (AreLocated start lines.now known.now one) }
+    ensures other { IfOk result.1 (AreLocated start lines.now known.now other) }
 {
     join(
         rt,
         || -> Result<Locators, AllocError>
             requires { length lines.now ≤ 4294967295 }
-            ensures { IfOk result (λ table. AreLocators one start lines.entry.now
-                known.entry.now (length lines.entry.now) table.locators.items) }
+            ensures { IfOk result (AreLocated start lines.entry.now known.entry.now one) }
         { Locators::new(alloc, start, lines, known, one) },
         || -> Result<Locators, AllocError>
             requires { length lines.now ≤ 4294967295 }
-            ensures { IfOk result (λ table. AreLocators other start lines.entry.now
-                known.entry.now (length lines.entry.now) table.locators.items) }
+            ensures { IfOk result (AreLocated start lines.entry.now known.entry.now other) }
         { Locators::new(alloc, start, lines, known, other) },
     )
 }

@@ -18,6 +18,7 @@ use Rattle.fdb_lines.specs.declared.tables.Made.{Made}
 use Rattle.fdb_lines.specs.declared.fault.Found.{Found}
 use Rattle.fdb_lines.specs.declared.reason.Finding.{Finding}
 use Rattle.fdb_lines.specs.declared.locator.Locator.{Locator}
+use Rattle.fdb_lines.specs.declared.locators.Locators.{Locators}
 use Rattle.fdb_lines.specs.declared.reason.Witness.{Witness}
 use Rattle.fdb_lines.specs.Audit.{case_of, start_of}
 use Rattle.fdb_lines.specs.Before.{comes_before}
@@ -37,6 +38,10 @@ AreKnownIn log opts seen = AreKnown (comes_before log.timed opts.margin log.line
 
 abbrev pub AreLocatorsIn : Lines → AuditOpts → LineKind → List (Option Witness) → List Locator → Type 0
 AreLocatorsIn log opts line_kind known = AreLocators line_kind (start_of opts.complete) log.lines known (length log.lines)
+
+-- a table has the locators of all lines
+abbrev pub AreLocated : ℕ → List Line → List (Option Witness) → LineKind → Locators → Type 0
+AreLocated start lines known line_kind table = AreLocators line_kind start lines known (length lines) table.locators.items
 
 abbrev pub has_ask : List Line → Bool
 has_ask lines = list_any (λ (line : Line). is_ask (kind_of line.call)) lines

@@ -1,6 +1,5 @@
 use Rattle.std.proofs.Common.{◌≡◌, ℕ, ◌+◌, Bool, true, false, cond, List, [], ◌∷◌, ◌++◌, length, refl, ap, subst, sym, ◌∙◌, arith, add-one, append-nil}
 use Rattle.fdb_lines.specs.Carried.{open_count, places_where, StandFor}
-use Rattle.fdb_lines.specs.Log.{lines_of}
 use Rattle.fdb_lines.specs.private.Standing.{is_kept}
 use Rattle.fdb_lines.proofs.Staying.{they_are_few, they_stand}
 use Rattle.fdb_lines.proofs.carrying.standing.Goals as goal
@@ -24,22 +23,8 @@ loop-place-preserved c =
           rw (here, append-nil, w.places-is, c.loop-place.invariant) refl
     ])
 
-pub returns-clause-stand : goal.returns-clause-stand
-returns-clause-stand c =
-    let log = lines_of c.args.log.now in
-    let lines = c.lines-lines.result.now in
-    let test = is_kept c.args.margin c.args.at lines c.newest_past-shown.result c.newest_past-known.result in
-    let most = c.loop-place.auto.place-end in
-    let least = c.loop-place-test.false in
-    let all : c.loop-place.place ≡ length lines = omega arith in
-    let is : c.loop-place.places.items ≡ places_where test (length lines) = c.loop-place.invariant ∙ ap (places_where test) all in
-    subst (λ ls. StandFor c.args.margin c.args.at ls c.loop-place.places.items) c.lines-lines.ensures
-    (subst (StandFor c.args.margin c.args.at lines) (sym is)
-    (they_stand c.args.margin c.args.at lines c.newest_past-shown.result c.newest_past-known.result c.newest_past-shown.ensures c.newest_past-known.ensures))
-
-pub returns-clause-few : goal.returns-clause-few
-returns-clause-few c =
-    let log = lines_of c.args.log.now in
+pub returns : goal.returns
+returns c =
     let lines = c.lines-lines.result.now in
     let test = is_kept c.args.margin c.args.at lines c.newest_past-shown.result c.newest_past-known.result in
     let most = c.loop-place.auto.place-end in
@@ -48,4 +33,9 @@ returns-clause-few c =
     let is : c.loop-place.places.items ≡ places_where test (length lines) = c.loop-place.invariant ∙ ap (places_where test) all in
     let few = they_are_few c.args.margin c.args.at lines c.newest_past-shown.result c.newest_past-known.result c.newest_past-shown.ensures c.newest_past-known.ensures in
     let same = ap (open_count c.args.margin c.args.at) c.lines-lines.ensures in
-    omega (arith, ap length is)
+    record {
+      stand = subst (λ ls. StandFor c.args.margin c.args.at ls c.loop-place.places.items) c.lines-lines.ensures
+          (subst (StandFor c.args.margin c.args.at lines) (sym is)
+          (they_stand c.args.margin c.args.at lines c.newest_past-shown.result c.newest_past-known.result c.newest_past-shown.ensures c.newest_past-known.ensures));
+      few = omega (arith, ap length is);
+    }

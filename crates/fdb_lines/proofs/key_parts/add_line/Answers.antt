@@ -31,61 +31,35 @@ returns-in-Err-clause-stays c =
       sym (ap (set parts place) is ∙ set-get_or parts place it),
     )
 
-pub returns-clause-opened : goal.returns-clause-opened
-returns-clause-opened c =
+pub returns : goal.returns
+returns c =
     let parts = c.args.parts.now.items in
     let place = c.args.place in
     let places = c.args.open_parts.now.items in
     let new = c.push-2.new.self in
+    let was = c.index_mut.result.now in
+    let is : was ≡ get_or parts place new = c.index_mut.ensures.value ∙ get_or_default parts place was new c.requires.within in
     let open_flag = λ (part : KeyPart). part.is_open in
     let flags = flags_of parts in
     let size = length-map parts open_flag in
     let it = c.index.result.now in
     let flag : flag_at flags place ≡ it.is_open = get_or-map open_flag parts place it false c.requires.within ∙ sym (ap open_flag c.index.ensures) in
     let are : flags_of (set parts place new) ≡ set flags place true = map-set open_flag parts place new ∙ ap (set flags place) c.push-2.ensures.opened in
-    elim c.if-not-index.branch [
-      | then-not-index+in_default w ↦
-          let listed : c.if-not-index.open_parts.items ≡ places ++ place ∷ [] = ap (λ (v : Rattle.std.specs.Prelude.Vec ℕ _). v.items) w.open_parts-is ∙ w.in_default.ensures.items in
-          subst (λ (fs : List Bool). AreOpen fs c.if-not-index.open_parts.items) (sym are)
-          (subst (AreOpen (set flags place true)) (sym listed)
-          (opened_more flags places place c.requires.opened (let within = c.requires.within in omega arith) (flag ∙ w.if-not-index.true)))
-      | else-not-index w ↦
-          let listed : c.if-not-index.open_parts.items ≡ places = ap (λ (v : Rattle.std.specs.Prelude.Vec ℕ _). v.items) w.open_parts-is in
-          subst (λ (fs : List Bool). AreOpen fs c.if-not-index.open_parts.items) (sym are)
-          (subst (AreOpen (set flags place true)) (sym listed) (opened_still flags places place c.requires.opened (flag ∙ w.if-not-index.false)))
-    ]
-
-pub returns-clause-stays : goal.returns-clause-stays
-returns-clause-stays c =
-    let parts = c.args.parts.now.items in
-    let place = c.args.place in
-    let new = c.push-2.new.self in
-    let was = c.index_mut.result.now in
-    let is : was ≡ get_or parts place new = c.index_mut.ensures.value ∙ get_or_default parts place was new c.requires.within in
-    (new, subst (λ (old : KeyPart). HasStayed old new) is c.push-2.ensures.stays, subst (λ (old : KeyPart). IsAs old new) is c.push-2.ensures.alike, refl)
-
-pub returns-clause-ok : goal.returns-clause-ok
-returns-clause-ok c =
-    let parts = c.args.parts.now.items in
-    let place = c.args.place in
-    let new = c.push-2.new.self in
-    let was = c.index_mut.result.now in
-    let is : was ≡ get_or parts place new = c.index_mut.ensures.value ∙ get_or_default parts place was new c.requires.within in
-    on_ok_weaker c.push-2.result (λ more. (
-      new,
-      subst (λ (old : KeyPart). HasOneMore c.args.line c.args.number old new) is more,
-      refl,
-    )) c.push-2.ensures.ok
-
-pub returns-clause-err : goal.returns-clause-err
-returns-clause-err c =
-    let parts = c.args.parts.now.items in
-    let place = c.args.place in
-    let new = c.push-2.new.self in
-    let was = c.index_mut.result.now in
-    let is : was ≡ get_or parts place new = c.index_mut.ensures.value ∙ get_or_default parts place was new c.requires.within in
-    on_err_weaker c.push-2.result (λ more. (
-      new,
-      subst (λ (old : KeyPart). HasNoMore old new) is more,
-      refl,
-    )) c.push-2.ensures.err
+    record {
+      opened =
+          elim c.if-not-index.branch [
+            | then-not-index+in_default w ↦
+                let listed : c.if-not-index.open_parts.items ≡ places ++ place ∷ [] = ap (λ (v : Rattle.std.specs.Prelude.Vec ℕ _). v.items) w.open_parts-is ∙ w.in_default.ensures.items in
+                subst (λ (fs : List Bool). AreOpen fs c.if-not-index.open_parts.items) (sym are)
+                (subst (AreOpen (set flags place true)) (sym listed)
+                (opened_more flags places place c.requires.opened (let within = c.requires.within in omega arith) (flag ∙ w.if-not-index.true)))
+            | else-not-index w ↦
+                let listed : c.if-not-index.open_parts.items ≡ places = ap (λ (v : Rattle.std.specs.Prelude.Vec ℕ _). v.items) w.open_parts-is in
+                subst (λ (fs : List Bool). AreOpen fs c.if-not-index.open_parts.items) (sym are)
+                (subst (AreOpen (set flags place true)) (sym listed) (opened_still flags places place c.requires.opened (flag ∙ w.if-not-index.false)))
+          ];
+      stays = (new, subst (λ (old : KeyPart). HasStayed old new) is c.push-2.ensures.stays, subst (λ (old : KeyPart). IsAs old new) is c.push-2.ensures.alike, refl);
+      untimed = c.push-2.ensures.untimed;
+      ok = on_ok_weaker c.push-2.result (λ more. (new, subst (λ (old : KeyPart). HasOneMore c.args.line c.args.number old new) is more, refl)) c.push-2.ensures.ok;
+      err = on_err_weaker c.push-2.result (λ more. (new, subst (λ (old : KeyPart). HasNoMore old new) is more, refl)) c.push-2.ensures.err;
+    }

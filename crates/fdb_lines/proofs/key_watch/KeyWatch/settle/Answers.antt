@@ -1,4 +1,4 @@
-use Rattle.std.proofs.Common.{◌≡◌, ◌<◌, ◌≤◌, get_or, List, Some, ℕ, length, max, ap, sym, subst, ◌∙◌, arith}
+use Rattle.std.proofs.Common.{◌≡◌, ◌<◌, ◌≤◌, get_or, List, Some, ℕ, length, max, refl, ap, sym, subst, ◌∙◌, arith}
 use Rattle.std.specs.BTreeMap.{get}
 use Rattle.std.specs.List.{All, filter}
 use Rattle.std.specs.Ordering.{nat_cmp}
@@ -46,8 +46,8 @@ invariant_of-self-2 c =
           (opened_kept (flags_of old) (flags_of new) places watch.opened (flags_on at old places nexts entries new given watch.opened next put));
     }
 
-pub returns-clause-told : goal.returns-clause-told
-returns-clause-told c = λ lines keys seen.
+pub returns : goal.returns
+returns c =
     let watch = c.args.self.now in
     let at = c.max-at.result in
     let old = watch.parts.items in
@@ -63,48 +63,20 @@ returns-clause-told c = λ lines keys seen.
     let most : at ≡ max watch.from c.args.at = (let is = c.max-at.ensures in omega arith) in
     let late : watch.from ≤ at = omega arith in
     let are = entries_on at old places nexts entries new given watch.opened next put watch.margin watch.horizon watch.from late watch.alike in
-    subst (λ m. AreTold (Some m) lines keys old given) most (told_by_key (Some at) old places given watch.opened are lines keys seen.names seen.each)
-
-pub returns-clause-rest : goal.returns-clause-rest
-returns-clause-rest c = λ lines keys seen i d lt.
-    let watch = c.args.self.now in
-    let at = c.max-at.result in
-    let old = watch.parts.items in
-    let places = watch.open_parts.items in
-    let nexts = c.in_ok-next.next.parts.items in
-    let entries = c.in_ok-next.next.told.items in
-    let new = c.put_parts.new.parts.items in
-    let given = c.put_parts.new.told.items in
-    let next : AreNext at old places nexts entries =
-    subst (λ (ps : List KeyPart). AreNext at ps places nexts entries) c.deref.ensures.value
-    (subst (λ (xs : List ℕ). AreNext at c.deref.result.now xs nexts entries) c.deref-2.ensures.value c.in_ok-next.ensures) in
-    let put : ArePut old places nexts entries new given = subst (λ (xs : List ℕ). ArePut old xs nexts entries new given) c.deref-3.ensures.value c.put_parts.ensures in
-    let most : at ≡ max watch.from c.args.at = (let is = c.max-at.ensures in omega arith) in
-    let late : watch.from ≤ at = omega arith in
-    let are = entries_on at old places nexts entries new given watch.opened next put watch.margin watch.horizon watch.from late watch.alike in
-    subst (λ m. GoesOn m lines keys given (get_or old i d) (get_or new i d)) most
-    (goes_on at old places nexts entries new given watch.opened next put watch.margin watch.horizon watch.from late watch.alike lines keys
-    (nothing (Some at) old places given watch.opened are lines keys seen.names seen.each) i d lt)
-
-pub returns-clause-seen : goal.returns-clause-seen
-returns-clause-seen c = λ lines keys seen.
-    let watch = c.args.self.now in
-    let at = c.max-at.result in
-    let old = watch.parts.items in
-    let places = watch.open_parts.items in
-    let nexts = c.in_ok-next.next.parts.items in
-    let entries = c.in_ok-next.next.told.items in
-    let new = c.put_parts.new.parts.items in
-    let given = c.put_parts.new.told.items in
-    let next : AreNext at old places nexts entries =
-    subst (λ (ps : List KeyPart). AreNext at ps places nexts entries) c.deref.ensures.value
-    (subst (λ (xs : List ℕ). AreNext at c.deref.result.now xs nexts entries) c.deref-2.ensures.value c.in_ok-next.ensures) in
-    let put : ArePut old places nexts entries new given = subst (λ (xs : List ℕ). ArePut old xs nexts entries new given) c.deref-3.ensures.value c.put_parts.ensures in
-    let most : at ≡ max watch.from c.args.at = (let is = c.max-at.ensures in omega arith) in
-    let late : watch.from ≤ at = omega arith in
     record {
-      count = seen.count;
-      as_many = seen.as_many;
-      names = names_on at old places nexts entries new given watch.opened next put ∙ seen.names;
-      each = seen_on at old places nexts entries new given watch.opened next put lines keys seen.each;
+      told = λ lines keys seen.
+          subst (λ m. AreTold (Some m) lines keys old given) most (told_by_key (Some at) old places given watch.opened are lines keys seen.names seen.each);
+      rest = λ lines keys seen i d lt.
+          subst (λ m. GoesOn m lines keys given (get_or old i d) (get_or new i d)) most
+          (goes_on at old places nexts entries new given watch.opened next put watch.margin watch.horizon watch.from late watch.alike lines keys
+          (nothing (Some at) old places given watch.opened are lines keys seen.names seen.each) i d lt);
+      seen = λ lines keys seen. record {
+        count = seen.count;
+        as_many = seen.as_many;
+        names = names_on at old places nexts entries new given watch.opened next put ∙ seen.names;
+        each = seen_on at old places nexts entries new given watch.opened next put lines keys seen.each;
+      };
+      settled = most;
+      err = tt;
+      margin = (refl, refl);
     }

@@ -5,7 +5,7 @@ use Rattle.fdb_lines.specs.Log.{lines_of}
 use Rattle.fdb_lines.specs.Reasons.{found_of}
 use Rattle.fdb_lines.specs.private.Tables.{IsFirstBetween}
 use Rattle.fdb_lines.proofs.Listed.{first_after_none, first_of_all, first_of_more}
-use Rattle.fdb_lines.proofs.finding.first_in_by.Goals as goal
+use Rattle.fdb_lines.proofs.finding.first_finding_by.Goals as goal
 
 pub returns-in-Some : goal.returns-in-Some
 returns-in-Some g c =
@@ -17,8 +17,8 @@ returns-in-Some g c =
     let first = first_of_all log opts (Some c.in-Some.first) (first_of_more it 0 (all / 2) all c.in-Some.first.found (omega arith) (rw c.in-Some.is at above)) in
     record { first = first.0; explained = first.1; reason = search rules; late = search rules }
 
-pub returns-in-None : goal.returns-in-None
-returns-in-None g c =
+pub returns : goal.returns
+returns g c =
     let log = lines_of c.args.log.now in
     let opts = c.args.opts.now in
     let it = case_of log opts in
