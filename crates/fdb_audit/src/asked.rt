@@ -1,7 +1,7 @@
 //! What is asked of a log, and what is found: of all lines together, or by key.
 
-ghost use Rattle.std.specs.Prelude.{◌≡◌, ◌≢◌, ◌↔◌, All, IfErr, IfOk, IfSome, None, OnErr, OnOk, Option};
-ghost use Rattle.std.specs.Prelude.{length, map, option_map, slice_get};
+ghost use Rattle.std.specs.Prelude.{◌≡◌, ◌≢◌, ◌↔◌, All, IfErr, IfOk, IfSome, None, OnErr, OnOk};
+ghost use Rattle.std.specs.Prelude.{length, map, option_map, slice_get, Option};
 ghost use Rattle.fdb_lines.specs.Reasons.{found_of};
 ghost use Rattle.fdb_audit.specs.Judged.{faults_in, AreExplainedIn, HasLateIn, HasReasonIn};
 ghost use Rattle.fdb_audit.specs.Judged.{IsSummary};
@@ -94,10 +94,10 @@ impl Asked<'_> {
         ensures listed { IfOk result (λ it. IfErr it (λ found. map found_of found.items
             ≡ faults_in (log_in self.entry) (keys_in self.entry) self.entry.opts.now)) }
         ensures some { IfOk result (λ it. IfErr it (λ found. length found.items ≢ 0)) }
-        ensures reasons { IfOk result (λ it. IfErr it (λ found. All
-            (HasReasonIn (log_in self.entry) (keys_in self.entry) self.entry.opts.now) found.items)) }
-        ensures late { IfOk result (λ it. IfErr it (λ found. All
-            (HasLateIn (log_in self.entry) (keys_in self.entry) self.entry.opts.now) found.items)) }
+        ensures reasons { IfOk result (λ it. IfErr it (λ found. All (HasReasonIn
+            (log_in self.entry) (keys_in self.entry) self.entry.opts.now) found.items)) }
+        ensures late { IfOk result (λ it. IfErr it (λ found. All (HasLateIn
+            (log_in self.entry) (keys_in self.entry) self.entry.opts.now) found.items)) }
     {
         match self.keys {
             Some(keys) => match orders_by_key(alloc, self.printer.log, keys, self.opts)? {

@@ -63,11 +63,7 @@ pub(crate) struct FoundOf {
 }
 
 /// What is found of a log that was read.
-fn found_of(
-    alloc: Global,
-    named: &NamedLog,
-    asked: &AuditArguments,
-) -> Result<FoundOf, AllocError>
+fn found_of(alloc: Global, named: &NamedLog, asked: &AuditArguments) -> Result<FoundOf, AllocError>
     requires { HasOwnKeys (reading_of named.now) }
     ensures { IfOk result (λ it. IsFoundOf (reading_of named.now) (asked_in asked.now)
         it.first (string_bytes it.text) (map told it.faults.items)) }
@@ -82,11 +78,7 @@ fn found_of(
 }
 
 /// All faults of a log that was read, or of the lines of each key where their keys were kept.
-fn faults_of(
-    alloc: Global,
-    named: &NamedLog,
-    opts: &AuditOpts,
-) -> Result<Vec<Finding>, AllocError>
+fn faults_of(alloc: Global, named: &NamedLog, opts: &AuditOpts) -> Result<Vec<Finding>, AllocError>
     requires { HasOwnKeys (reading_of named.now) }
     ensures listed { IfOk result (λ found. map found_of found.items
         ≡ faults_in (reading_of named.now).log (keys_of_lines (reading_of named.now).keys)
@@ -125,7 +117,14 @@ impl Audited {
         ensures { IfOk result
             (λ audited. audited ≡ new_audit (asked_by options key.now shown.now)) }
     {
-        let asked = asked_with(alloc, opts_of(options), None, wanted_of(options), key, shown)?;
+        let asked = asked_with(
+            alloc,
+            opts_of(options),
+            None,
+            wanted_of(options),
+            key,
+            shown,
+        )?;
         let reader = LogReader::with_columns(alloc, asked.key.as_deref(), &asked.shown)?;
         Ok(Audited {
             asked,
