@@ -52,7 +52,11 @@ KINDS = [
 
 
 def a_read_each(proxies, turns):
-    """Rounds in which each desk has one read: of the first clients, and then of all others too."""
+    """Rounds in which each desk has one read: of the first clients, and then of all others too.
+
+    The record was raised before.
+    """
+    yield [do("ask", at=0), do("ask", at=9), do("report", num=2)]
     parts = [(0, kind) for kind in range(turns)]
     parts += [(part, kind) for kind in range(len(KINDS)) for part in range(1, CLIENTS // proxies)]
     for part, kind in parts:
