@@ -42,7 +42,7 @@ def sure_texts(program):
             )
 
 
-# So many rounds in which the first clients read, one at each desk, and the options of a round's reads.
+# So many rounds in which the first clients read, one at each desk, and a round's options in turn.
 TURNS = 400
 CLIENTS = 64
 KINDS = [

@@ -59,8 +59,8 @@ struct Visits {
     swaps: bool,
 }
 
-/// Whether each read came to what it should, unless a call was refused, and the GRV proxy of the last
-/// read.
+/// Whether each read came to what it should, unless a call was refused, and the GRV proxy of the
+/// last read.
 type Visited = (Result<bool, ClientError>, u32);
 
 impl<R: Wait> Workload<R> for Visits {
@@ -123,8 +123,8 @@ impl Visits {
         Ok(right)
     }
 
-    /// A read at the desk of a GRV proxy by a number, of which the one after the last is the first. Later
-    /// reads have numbers further beyond the last.
+    /// A read at the desk of a GRV proxy by a number, of which the one after the last is the first.
+    /// Later reads have numbers further beyond the last.
     fn read_at<J: Live, R: Wait>(
         &self,
         rt: &R,

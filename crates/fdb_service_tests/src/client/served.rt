@@ -62,8 +62,8 @@ impl<'w> Wanted<'w> {
     }
 }
 
-/// A client's first read, of which each option is another than that of a plain one, but for the flags.
-/// Behind so many calls any of them may be the plain one's, and the priority is any.
+/// A client's read behind so many calls. Of the first one each option is another than that of a
+/// plain one, but for the flags; of later ones any may be the plain one's.
 fn told_apart(line: &mut TableLine<'_>, calls: usize) -> GrvOpts {
     let flag = line.next_word().unwrap_or_default();
     let mut tags: Sequence<Tag> = Sequence::new(line.alloc);

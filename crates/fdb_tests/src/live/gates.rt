@@ -19,8 +19,8 @@ use std::thread::Threads;
 /// The first version. Those that are drawn go on beyond 2^32.
 const FIRST: u64 = 4_294_967_000;
 
-/// What is reported of a version in a turn: in rounds by two, all ways to have a lock, a metadata version
-/// and a minimum or none.
+/// What is reported of a version in a turn: in rounds by two, all ways to have a lock, a metadata
+/// version and a minimum or none.
 fn record_of(version: u64, turn: u64) -> Record
     ensures { result.version ≡ version }
 {
@@ -42,7 +42,7 @@ struct Calls<'a, J: Live, R> {
 }
 
 impl<J: Live, R: Wait> Calls<'_, J, R> {
-    /// Has every second turn, from the first one on or from the one after it, with the tokens in turn.
+    /// Has every second turn, from the first one or the one after it, with the tokens in turn.
     fn play(&self, tokens: &mut VecDeque<Seen<J>>, first: bool) {
         let mut position = 0;
         for place in 0..TURNS / 2 {
@@ -88,8 +88,8 @@ impl<J: Live, R: Wait> Calls<'_, J, R> {
         live.learn(self.rt, less, live.split(more));
     }
 
-    /// Reads with a number and without, as who has seen less and who has seen all. Where a report is held,
-    /// nothing of it is seen.
+    /// Reads with a number and without, as who has seen less and who has seen all. Where a report is
+    /// held, nothing of it is seen.
     fn read_beside(&self, token: &mut Seen<J>, position: u64) {
         let live = self.master.record();
         let mut reader = live.split(token);
@@ -102,8 +102,8 @@ impl<J: Live, R: Wait> Calls<'_, J, R> {
         }
     }
 
-    /// Where a report is held, makes requests that are refused: of number 0, and one that is too early,
-    /// where nothing was processed and where something was.
+    /// Where a report is held, makes requests that are refused: of number 0 and too early, where
+    /// nothing was processed and where something was.
     fn ask_beside(&self, token: &mut Seen<J>) {
         let Some(proxy) = token.reporter() else {
             self.gate.holds(false);
