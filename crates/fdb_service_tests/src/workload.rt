@@ -137,7 +137,12 @@ impl Visits {
         let limited = opts.priority == Priority::Default;
         let closed = self.closed == Some(proxy);
         let further = (place % 1_000) as u32 * cluster.config().grv_proxies;
-        match client.read_version(rt, &OpenGate, cluster.desk(number + further), opts) {
+        match client.read_version(
+            rt,
+            &OpenGate,
+            cluster.desk(number.saturating_add(further)),
+            opts,
+        ) {
             Ok(read) => Ok(!closed && self.is_limited(&read.limits, limited)),
             Err(ClientError::ProxyClosed) if closed => Ok(true),
             Err(cause) => Err(cause),
@@ -276,9 +281,14 @@ fn ran_at<R: Threads + Wait + Sync>(
     Ok(explained(alloc, &ran.run, clients, (asks, reads), closes)?)
 }
 
-/// Whether each read came to what it should. A GRV proxy that was refused memory has closed its desk.
+/// Whether each read came to what it should. A GRV proxy that was refused memory has closed its desk,
+/// and each other one served on.
 fn came_to((output, last): Visited, ends: &Ends) -> Result<bool, FinishError> {
-    let ended = ends.served.get(last as usize) == Some(&false);
+    let ended = ends
+        .served
+        .iter()
+        .enumerate()
+        .all(|(place, served)| *served == (place != last as usize));
     match output {
         Ok(right) if ends.all_served() => Ok(right),
         Err(ClientError::ProxyClosed) if !ended => Ok(false),

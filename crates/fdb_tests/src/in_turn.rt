@@ -17,7 +17,7 @@ pub(crate) const TURNS: u64 = 1_088;
 pub(crate) const ANSWERED: u64 = 768;
 
 /// How often who is held looks whether the next one passes meanwhile.
-const LOOKS: u32 = 7;
+const LOOKS: u32 = 4;
 
 /// Holds whose turn it is in a lock, until the next one has come to it and waits.
 #[derive(Drop)]

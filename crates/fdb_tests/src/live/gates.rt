@@ -105,23 +105,27 @@ impl<J: Live, R: Wait> Calls<'_, J, R> {
     /// Where a report is held, makes requests that are refused: of number 0 and too early, where
     /// nothing was processed and where something was.
     fn ask_beside(&self, token: &mut Seen<J>) {
-        let Some(proxy) = token.reporter() else {
-            self.gate.holds(false);
-            return;
-        };
         if self.gate.held != Place::ReportHeld {
             return;
         }
         for (num, processed) in [(0, 0), (0, 1), (u64::MAX, 0), (u64::MAX, 1)] {
-            let ask = Ask {
-                proxy,
-                num,
-                processed,
-                at: 0,
-            };
-            let found = self.master.ask(self.rt, &OpenGate, token, ask);
-            self.gate.holds(found.is_err());
+            self.ask_in_vain(token, num, processed);
         }
+    }
+
+    fn ask_in_vain(&self, token: &mut Seen<J>, num: u64, processed: u64) {
+        let Some(proxy) = token.reporter() else {
+            self.gate.holds(false);
+            return;
+        };
+        let ask = Ask {
+            proxy,
+            num,
+            processed,
+            at: 0,
+        };
+        let found = self.master.ask(self.rt, &OpenGate, token, ask);
+        self.gate.holds(found.is_err());
     }
 
     /// Asks, and reports what is answered. Answers the position then.
