@@ -42,8 +42,26 @@ def sure_texts(program):
             )
 
 
-# So many rounds in which each desk has one read.
+# So many rounds in which the first clients read, one at each desk, and a round's options in turn.
 TURNS = 400
+CLIENTS = 64
+KINDS = [
+    {}, {"priority": "system"}, {"priority": "batch", "at": 9},
+    {"lock_aware": True, "use_min": True, "tags": ["t"], "count": 101},
+]
+
+
+def a_read_each(proxies, turns):
+    """Rounds in which each desk has one read: of the first clients, and then of all others too.
+
+    The record was raised before.
+    """
+    yield [do("ask", at=0), do("ask", at=9), do("report", num=2)]
+    parts = [(0, kind) for kind in range(turns)]
+    parts += [(part, kind) for kind in range(len(KINDS)) for part in range(1, CLIENTS // proxies)]
+    for part, kind in parts:
+        opts = {"count": 9, **KINDS[kind % len(KINDS)]}
+        yield [do("grv", part * proxies + who, **opts) for who in range(proxies)]
 
 
 def each_desk(program):
@@ -53,9 +71,8 @@ def each_desk(program):
     """
     for proxies in range(2, 17):
         given = written(
-            [[do("grv", who, count=9) for who in range(proxies)]] * TURNS, clients=proxies, room=1,
-            normal=3,
+            [*a_read_each(proxies, TURNS)], clients=CLIENTS, room=1, normal=3,
         )
-        yield f"{proxies} clients and proxies", fault_of(
+        yield f"{proxies} proxies", fault_of(
             run([program, "--history", "--proxies", str(proxies)], given), expected(given, True)
         )

@@ -38,7 +38,15 @@ report 0 4 7000 => the minimum known committed version is above the version
 report 0 1 0 => not raised not changed at 5; log 1 => 14 calls at 4
 ";
 
+/// Reads with any options that are served, or not answered, of clients with up to 144 calls.
+const ANY_READS: &str = "
+*read 0 served => 100 at 0, read 0 dropped => the GRV proxy is closed
+*read 1 served min => 0 of 100 and 0 at 0
+*read 2 dropped aware => the GRV proxy is closed; *read 3 dropped both => the GRV proxy is closed
+";
+
 #[test]
 fn reads_at_a_desk(rt: HostRuntime) -> Result<(), Fail> {
-    play_texts(&rt, rt.alloc(), &[READS, MORE_READS], 0)
+    play_texts(&rt, rt.alloc(), &[READS, MORE_READS], 0)?;
+    play_texts(&rt, rt.alloc(), &[ANY_READS], 72)
 }

@@ -7,7 +7,8 @@ ghost use Rattle.fdb_queue.specs.Throttles.{is_throttle};
 
 use fdb_checks::{CaseError, TableLine, lines_of, tag};
 use fdb_client::{
-    Client, ClientError, Cluster, ClusterConfig, FinishError, SettledRun, Workload, run_workload,
+    Client, ClientError, Cluster, ClusterConfig, Ends, FinishError, SettledRun, Workload,
+    run_workload,
 };
 use fdb_history::{
     GrvOpts, Issued, MAX_VERSION, OpenGate, Priority, Record, Sequence, Tag, TagLimit,
@@ -58,65 +59,90 @@ struct Visits {
     swaps: bool,
 }
 
-impl<R: Wait> Workload<R> for Visits {
-    type Output = Result<bool, ClientError>;
+/// Whether each read came to what it should, unless a call was refused, and the GRV proxy of the
+/// last read.
+type Visited = (Result<bool, ClientError>, u32);
 
-    /// Answers whether each read came to what it should, unless a call is refused.
+impl<R: Wait> Workload<R> for Visits {
+    type Output = Visited;
+
     fn start<J: Live>(
         self,
         rt: &R,
         cluster: &Cluster<'_, J>,
         clients: &mut [Client<'_, J>],
-    ) -> Result<bool, ClientError> {
+    ) -> Visited {
         if let Some(number) = self.closed {
             cluster.desk(number).close(rt);
         }
-        let mut right = true;
-        for client in clients.iter_mut() {
-            right &= self.visits(rt, cluster, client)?;
-        }
+        let mut last = 0;
+        let found = self.visits_all(rt, cluster, clients, &mut last);
         if self.swaps && clients.len() > 1 {
             clients.swap(0, 1);
         }
-        Ok(right)
+        (found, last)
     }
 }
 
 impl Visits {
+    /// The calls of all clients, one after another.
+    fn visits_all<J: Live, R: Wait>(
+        &self,
+        rt: &R,
+        cluster: &Cluster<'_, J>,
+        clients: &mut [Client<'_, J>],
+        last: &mut u32,
+    ) -> Result<bool, ClientError> {
+        let mut right = true;
+        for client in clients.iter_mut() {
+            right &= self.visits(rt, cluster, client, last)?;
+        }
+        Ok(right)
+    }
+
     /// The calls of one client.
     fn visits<J: Live, R: Wait>(
         &self,
         rt: &R,
         cluster: &Cluster<'_, J>,
         client: &mut Client<'_, J>,
+        last: &mut u32,
     ) -> Result<bool, ClientError> {
         for _ in 0..self.asks {
             client.ask(rt, &OpenGate, 0, 0)?;
         }
         client.report(rt, &OpenGate, 1, true, Some([8; 10]), 0)?;
         let mut right = true;
-        for number in 0..=cluster.config().grv_proxies {
+        let grv_proxies = cluster.config().grv_proxies;
+        for number in 0..=grv_proxies {
+            *last = if number < grv_proxies { number } else { 0 };
             for place in 0..self.reads {
-                right &= self.read_at(rt, cluster, client, number, place)?;
+                right &= self.read_at(rt, cluster, client, (*last, number), place)?;
             }
         }
         Ok(right)
     }
 
-    /// A read at a desk, of which the one after the last is the first.
+    /// A read at the desk of a GRV proxy by a number, of which the one after the last is the first.
+    /// Later reads have numbers further beyond the last.
     fn read_at<J: Live, R: Wait>(
         &self,
         rt: &R,
         cluster: &Cluster<'_, J>,
         client: &mut Client<'_, J>,
-        number: u32,
+        (proxy, number): (u32, u32),
         place: u64,
     ) -> Result<bool, ClientError> {
         let opts = self.opts(place)?;
         let limited = opts.priority == Priority::Default;
-        let again = number == cluster.config().grv_proxies;
-        let closed = self.closed == Some(if again { 0 } else { number });
-        match client.read_version(rt, &OpenGate, cluster.desk(number), opts) {
+        let closed = self.closed == Some(proxy);
+        let further = (place % 1_000) as u32 * cluster.config().grv_proxies;
+        match client.read_version(
+            rt,
+            &OpenGate,
+            cluster.desk(number.saturating_add(further)),
+            opts,
+        ) {
             Ok(read) => Ok(!closed && self.is_limited(&read.limits, limited)),
             Err(ClientError::ProxyClosed) if closed => Ok(true),
             Err(cause) => Err(cause),
@@ -249,17 +275,23 @@ fn ran_at<R: Threads + Wait + Sync>(
     let (clients, closes) = (u64::from(config.clients), visits.closed.is_some());
     let asks = visits.asks;
     let ran = run_workload(rt, alloc, config, visits)?;
-    if !came_to(ran.output, ran.ends.all_served())? {
+    if !came_to(ran.output, &ran.ends)? {
         return Ok(false);
     }
     Ok(explained(alloc, &ran.run, clients, (asks, reads), closes)?)
 }
 
-/// Whether each read came to what it should. A GRV proxy that was refused memory has closed its desk.
-fn came_to(output: Result<bool, ClientError>, served: bool) -> Result<bool, FinishError> {
+/// Whether each read came to what it should. A GRV proxy that was refused memory has closed its desk,
+/// and each other one served on.
+fn came_to((output, last): Visited, ends: &Ends) -> Result<bool, FinishError> {
+    let ended = ends
+        .served
+        .iter()
+        .enumerate()
+        .all(|(place, served)| *served == (place != last as usize));
     match output {
-        Ok(right) if served => Ok(right),
-        Err(ClientError::ProxyClosed) if served => Ok(false),
+        Ok(right) if ends.all_served() => Ok(right),
+        Err(ClientError::ProxyClosed) if !ended => Ok(false),
         Ok(_) | Err(ClientError::Memory | ClientError::ProxyClosed) => Err(FinishError::Memory),
         Err(_) => Ok(false),
     }
@@ -342,7 +374,7 @@ fn close_each<R: Threads + Wait + Sync>(rt: &R, line: &mut TableLine<'_>) {
         let visits = Visits {
             alloc: line.alloc,
             asks: 1,
-            reads: 1,
+            reads: 3,
             tags: 1,
             count: 1,
             closed: Some(closed),

@@ -9,11 +9,15 @@ use std::sync::atomic::{AtomicBool, AtomicU64, Ordering};
 /// The most commit proxies there may be, each with a turn in each round.
 pub(crate) const PROXIES: u32 = 64;
 
-/// How many turns there are: 12 rounds, more turns than any power of two below 1,024.
-pub(crate) const TURNS: u64 = 768;
+/// How many turns there are: 17 rounds, so that more turns are had than 1,024. In each second round
+/// a version is drawn for each proxy, which are more than 512.
+pub(crate) const TURNS: u64 = 1_088;
+
+/// How many of the turns in the lock of the asks are answered: 12 rounds.
+pub(crate) const ANSWERED: u64 = 768;
 
 /// How often who is held looks whether the next one passes meanwhile.
-const LOOKS: u32 = 10;
+const LOOKS: u32 = 4;
 
 /// Holds whose turn it is in a lock, until the next one has come to it and waits.
 #[derive(Drop)]
@@ -93,15 +97,17 @@ impl Gate for InTurn {
 }
 
 /// The request of a proxy in its turn, and whether it is answered: by the next version or once more;
-/// and where the asks are held, each second one is refused, as number 0 is and one that is too early.
+/// and where the asks are held, some are refused, as number 0 is and one that is too early.
+/// In some rounds nothing was processed, in others all. Each second moment is before the last one.
 pub(crate) fn request(held: Place, turn: u64, proxy: u32) -> (Ask, bool)
     ensures { result.0.proxy ≡ proxy }
 {
     let round = turn / u64::from(PROXIES);
-    let (kind, drawn) = if held == Place::SequencerHeld {
-        (round % 4, (round + 3) / 4)
-    } else {
-        (round % 2, (round + 1) / 2)
+    let drawn = (round + 1) / 2;
+    let kind = match round % 2 {
+        0 => 0,
+        _ if held == Place::SequencerHeld => round / 2 % 3 + 1,
+        _ => 1,
     };
     let num = match kind {
         0 => drawn + 1,
@@ -112,8 +118,8 @@ pub(crate) fn request(held: Place, turn: u64, proxy: u32) -> (Ask, bool)
     let ask = Ask {
         proxy,
         num,
-        processed: 0,
-        at: turn,
+        processed: if round % 8 < 4 { 0 } else { drawn },
+        at: turn ^ 1,
     };
     (ask, kind < 2)
 }

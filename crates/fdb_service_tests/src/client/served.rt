@@ -62,21 +62,22 @@ impl<'w> Wanted<'w> {
     }
 }
 
-/// A read of which each option is another than that of a plain one, but for the flags.
-fn told_apart(line: &mut TableLine<'_>) -> GrvOpts {
+/// A client's read behind so many calls. Of the first one each option is another than that of a
+/// plain one, but for the flags; of later ones any may be the plain one's.
+fn told_apart(line: &mut TableLine<'_>, calls: usize) -> GrvOpts {
     let flag = line.next_word().unwrap_or_default();
     let mut tags: Sequence<Tag> = Sequence::new(line.alloc);
     let web = line.tag("web");
-    if tags.push(web).is_err() {
+    if calls / 3 % 2 == 0 && tags.push(web).is_err() {
         line.lacks();
     }
     GrvOpts {
-        priority: Priority::Batch,
-        count: 7,
+        priority: [Priority::Batch, Priority::Default, Priority::System][calls % 3],
+        count: if calls / 6 % 2 == 0 { 4_294_967_303 } else { 1 },
         tags,
-        lock_aware: flag == "aware",
-        at: 9,
-        use_min: flag == "min",
+        lock_aware: flag == "aware" || flag == "both",
+        at: if calls / 12 % 2 == 0 { 9 } else { 0 },
+        use_min: flag == "min" || flag == "both",
     }
 }
 
@@ -91,7 +92,7 @@ pub(crate) fn read<J: Live + Send + Sync, R: Threads + Wait + Sync>(
         return;
     };
     let way = line.word();
-    let opts = told_apart(line);
+    let opts = told_apart(line, client.calls().len());
     match Wanted::of(client, &opts, way) {
         Ok(wanted) => read_wanted(rt, service, served, client, &wanted, opts, line),
         Err(_) => line.lacks(),

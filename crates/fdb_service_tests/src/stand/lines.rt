@@ -4,7 +4,7 @@
 //!
 //! - `ask`: what it has processed, and a moment; `reask`: a number before these;
 //! - `report`: a number, a minimum known committed version, and perhaps `locked`;
-//! - `read`: how the test answers at a desk (`client/served.rt`), and perhaps `aware` or `min`;
+//! - `read`: how the test answers at a desk (`client/served.rt`), perhaps `aware`, `min` or `both`;
 //! - `tell` and `learn`: another client;
 //! - `log`: how many calls it has logged, and its position.
 //!

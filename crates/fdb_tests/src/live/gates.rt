@@ -5,26 +5,31 @@ ghost use Rattle.std.specs.Prelude.{◌≡◌, Contains, IsSome, None, true};
 ghost use Rattle.fdb_live.specs.Holding.{versions};
 ghost use Rattle.fdb_live.specs.Seen.{origin_of};
 
-use crate::in_turn::{InTurn, PROXIES, TURNS, request};
+use crate::in_turn::{ANSWERED, InTurn, PROXIES, TURNS, request};
 use fdb_checks::{CaseError, holds};
-use fdb_history::{Issued, Place, Record};
+use fdb_history::{Ask, Issued, OpenGate, Place, Record};
 use fdb_live::{Epoch, Live, LiveRecord, Master, Opened, Seen};
 use std::alloc::{AllocError, Global};
+use std::collections::VecDeque;
 use std::marker::Brand;
 use std::sync::Wait;
 use std::thread;
 use std::thread::Threads;
 
-/// What is reported of a version in a turn: in some rounds its minimum too, in others a lock.
+/// The first version. Those that are drawn go on beyond 2^32.
+const FIRST: u64 = 4_294_967_000;
+
+/// What is reported of a version in a turn: in rounds by two, all ways to have a lock, a metadata
+/// version and a minimum or none.
 fn record_of(version: u64, turn: u64) -> Record
     ensures { result.version ≡ version }
 {
-    let kind = turn / u64::from(PROXIES) % 3;
+    let kind = turn / u64::from(PROXIES) / 2 % 8;
     Record {
         version,
-        locked: kind == 2,
-        metadata: None,
-        min_known: if kind == 1 { version } else { 0 },
+        locked: kind % 2 == 1,
+        metadata: (kind / 2 % 2 == 1).then_some([8; 10]),
+        min_known: if kind > 3 { version } else { 0 },
     }
 }
 
@@ -37,40 +42,90 @@ struct Calls<'a, J: Live, R> {
 }
 
 impl<J: Live, R: Wait> Calls<'_, J, R> {
-    /// Has every second turn, from the first one on or from the one after it.
-    fn play(&self, tokens: &mut Vec<Seen<J>>, first: bool) {
+    /// Has every second turn, from the first one or the one after it, with the tokens in turn.
+    fn play(&self, tokens: &mut VecDeque<Seen<J>>, first: bool) {
         let mut position = 0;
         for place in 0..TURNS / 2 {
             let turn = if first { 2 * place } else { 2 * place + 1 };
             self.gate.waits_until(turn);
-            let (own, other) = (place as usize % 32, (place as usize + 1) % 32);
-            if own >= tokens.len() || other >= tokens.len() {
+            let Some(mut own) = tokens.pop_front() else {
                 self.gate.holds(false);
                 return;
+            };
+            if let Some(other) = tokens.front_mut() {
+                self.meet_beside(&mut own, other);
+                self.learn_beside(&mut own, other);
             }
-            let told = self.master.record().split(&mut tokens[other]);
-            self.call_beside(&mut tokens[own], told, position);
-            position = self.call(&mut tokens[own], turn);
+            self.read_beside(&mut own, position);
+            self.ask_beside(&mut own);
+            position = self.call(&mut own, turn);
+            self.gate.holds(tokens.push_back(own).is_ok());
         }
     }
 
-    /// Makes all calls that need no lock, with a token of more and with one of less. Where a report is
-    /// held, nothing of it is seen.
-    fn call_beside(&self, token: &mut Seen<J>, mut told: Seen<J>, position: u64)
-        requires { told.reporter ≡ None }
-    {
+    /// Compares tokens of less and of more, with and without a number.
+    fn meet_beside(&self, less: &mut Seen<J>, more: &mut Seen<J>) {
         let live = self.master.record();
-        live.meet(self.rt, token, &mut told);
-        let more = live.split(&mut told);
-        live.learn(self.rt, token, more);
+        let (mut one, mut another) = (live.split(less), live.split(more));
+        live.meet(self.rt, less, more);
+        live.meet(self.rt, more, less);
+        live.meet(self.rt, less, &mut another);
+        live.meet(self.rt, &mut another, less);
+        live.meet(self.rt, &mut one, &mut another);
+        live.meet(self.rt, &mut another, &mut one);
+        live.meet(self.rt, &mut one, less);
+    }
+
+    /// Learns more, as much and less, with a number and without.
+    fn learn_beside(&self, less: &mut Seen<J>, more: &mut Seen<J>) {
+        let live = self.master.record();
+        let (mut one, mut another) = (live.split(less), live.split(more));
+        live.learn(self.rt, &mut another, live.split(less));
+        live.learn(self.rt, more, live.split(less));
+        live.learn(self.rt, &mut one, live.split(more));
+        live.learn(self.rt, &mut one, another);
+        live.learn(self.rt, less, one);
+        live.learn(self.rt, less, live.split(more));
+    }
+
+    /// Reads with a number and without, as who has seen less and who has seen all. Where a report is
+    /// held, nothing of it is seen.
+    fn read_beside(&self, token: &mut Seen<J>, position: u64) {
+        let live = self.master.record();
         let mut reader = live.split(token);
         let found = live.read(self.rt, token).position;
         self.gate
             .holds(self.gate.held != Place::ReportHeld || found == position);
-        live.learn(self.rt, token, told);
-        live.meet(self.rt, &mut reader, token);
-        live.read(self.rt, &mut reader);
-        live.learn(self.rt, &mut reader, live.split(token));
+        for _ in 0..2 {
+            live.read(self.rt, &mut reader);
+            live.read(self.rt, token);
+        }
+    }
+
+    /// Where a report is held, makes requests that are refused: of number 0 and too early, where
+    /// nothing was processed and where something was.
+    fn ask_beside(&self, token: &mut Seen<J>) {
+        if self.gate.held != Place::ReportHeld {
+            return;
+        }
+        for (num, processed) in [(0, 0), (0, 1), (u64::MAX, 0), (u64::MAX, 1)] {
+            self.ask_in_vain(token, num, processed);
+        }
+    }
+
+    fn ask_in_vain(&self, token: &mut Seen<J>, num: u64, processed: u64) {
+        let Some(proxy) = token.reporter() else {
+            self.gate.holds(false);
+            return;
+        };
+        let ask = Ask {
+            proxy,
+            num,
+            processed,
+            at: 0,
+        };
+        let found = self.master.ask(self.rt, &OpenGate, token, ask);
+        self.gate.holds(found.is_err());
     }
 
     /// Asks, and reports what is answered. Answers the position then.
@@ -116,12 +171,12 @@ fn are_in_turn<J: Live + Send + Sync, R: Threads + Wait + Sync>(
     let Ok((master, _, tokens)) = opened.master::<J>() else {
         return Err(AllocError);
     };
-    let (mut evens, mut odds) = (Vec::new(alloc), Vec::new(alloc));
+    let (mut evens, mut odds) = (VecDeque::new(alloc), VecDeque::new(alloc));
     for token in tokens {
         if evens.len() == odds.len() {
-            evens.push(token)?;
+            evens.push_back(token)?;
         } else {
-            odds.push(token)?;
+            odds.push_back(token)?;
         }
     }
     let gate = InTurn::new(held);
@@ -136,7 +191,7 @@ fn are_in_turn<J: Live + Send + Sync, R: Threads + Wait + Sync>(
         || calls.play(&mut odds, false),
     );
     let all = held == Place::ReportHeld;
-    Ok(gate.was_passed(if all { TURNS } else { TURNS / 2 }))
+    Ok(gate.was_passed(if all { TURNS } else { ANSWERED }))
 }
 
 /// Has all commit proxies of a master have turns in a lock, in which each is held.
@@ -147,10 +202,10 @@ pub(crate) fn have_turns<R: Threads + Wait + Sync>(
 ) -> Result<(), CaseError> {
     let epoch = Epoch {
         before: 0,
-        recovery: 100,
+        recovery: FIRST,
     };
     let start = Record {
-        version: 100,
+        version: FIRST,
         locked: false,
         metadata: None,
         min_known: 0,
