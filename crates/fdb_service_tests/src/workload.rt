@@ -137,12 +137,8 @@ impl Visits {
         let limited = opts.priority == Priority::Default;
         let closed = self.closed == Some(proxy);
         let further = (place % 1_000) as u32 * cluster.config().grv_proxies;
-        match client.read_version(
-            rt,
-            &OpenGate,
-            cluster.desk(number.saturating_add(further)),
-            opts,
-        ) {
+        let desk = cluster.desk(number.saturating_add(further));
+        match client.read_version(rt, &OpenGate, desk, opts) {
             Ok(read) => Ok(!closed && self.is_limited(&read.limits, limited)),
             Err(ClientError::ProxyClosed) if closed => Ok(true),
             Err(cause) => Err(cause),
@@ -281,8 +277,8 @@ fn ran_at<R: Threads + Wait + Sync>(
     Ok(explained(alloc, &ran.run, clients, (asks, reads), closes)?)
 }
 
-/// Whether each read came to what it should. A GRV proxy that was refused memory has closed its desk,
-/// and each other one served on.
+/// Whether each read came to what it should. A GRV proxy that was refused memory has closed its
+/// desk, and each other one served on.
 fn came_to((output, last): Visited, ends: &Ends) -> Result<bool, FinishError> {
     let ended = ends
         .served

@@ -9,9 +9,10 @@ use std::sync::atomic::{AtomicBool, AtomicU64, Ordering};
 /// The most commit proxies there may be, each with a turn in each round.
 pub(crate) const PROXIES: u32 = 64;
 
-/// How many turns there are: 17 rounds, so that more turns are had than 1,024. In each second round
-/// a version is drawn for each proxy, which are more than 512.
-pub(crate) const TURNS: u64 = 1_088;
+/// How many turns there are: 18 rounds, so that more turns are had than 1,024. In each second round
+/// a version is drawn for each proxy, which are more than 512. The last of the asks are refused,
+/// since nobody would be held behind their reports.
+pub(crate) const TURNS: u64 = 1_152;
 
 /// How many of the turns in the lock of the asks are answered: 12 rounds.
 pub(crate) const ANSWERED: u64 = 768;

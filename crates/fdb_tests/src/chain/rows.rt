@@ -98,7 +98,7 @@ fn asks_in_turn<R: Wait>(rt: &R, sequencer: &Sequencer<FromHundred>, gate: &InTu
     }
 }
 
-/// Two threads ask for each of 64 proxies in 1,088 turns, in half of them for the next version.
+/// Two threads ask for each of 64 proxies in 1,152 turns, in half of them for the next version.
 fn two_threads<R: Threads + Wait + Sync>(rt: &R, alloc: Global) -> Result<(), Fail> {
     let sequencer: Sequencer<FromHundred> = Sequencer::new(RecentChain::new(
         alloc, 0, 100, PROXIES,

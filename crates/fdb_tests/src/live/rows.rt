@@ -112,7 +112,7 @@ fn each_kind_of_report_passes_the_gate(rt: HostRuntime) -> Result<(), Fail> {
     Ok(())
 }
 
-/// Each of 64 reporters is held in its lock in 1,088 turns, while the next makes each other call.
+/// Each of 64 reporters is held in its lock in 1,152 turns, while the next makes each other call.
 #[test]
 fn no_call_but_a_report_waits_for_one(rt: HostRuntime) -> Result<(), Fail> {
     Ok(have_turns(&rt, rt.alloc(), Place::ReportHeld)?)
