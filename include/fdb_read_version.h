@@ -42,7 +42,7 @@ extern "C" {
 
 /* The version of this header, and that of the library which is linked: 10,000 for a major one, 100
  * for a minor one, 1 for a patch. */
-#define FDB_READ_VERSION_VERSION 100
+#define FDB_READ_VERSION_VERSION 200
 uint32_t fdb_read_version_version(void);
 
 /* What a function answers: FDB_OK, or why it refuses. */

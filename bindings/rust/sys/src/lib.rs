@@ -6,7 +6,7 @@ use std::ffi::c_void;
 use std::ptr;
 
 /// The version of the header; `fdb_read_version_version` says that of the library.
-pub const FDB_READ_VERSION_VERSION: u32 = 100;
+pub const FDB_READ_VERSION_VERSION: u32 = 200;
 
 pub const FDB_OK: u8 = 0;
 pub const FDB_BAD_EPOCH: u8 = 1;
