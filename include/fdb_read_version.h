@@ -1,8 +1,8 @@
 /*
  * The part of FoundationDB's read-version path that one thread runs: the chain of commit versions,
  * the register and the queue of a GRV proxy (FoundationDB 7.1); and the audit of a log of calls, of
- * any system. Each function answers what the library's answers; that is proved, but for this
- * header, which a person wrote.
+ * any system. That each function does what stands here is proved, but for this header itself, which a
+ * person wrote.
  *
  *     cc prog.c libfdb_read_version.a liblibc_c.a
  *
@@ -19,14 +19,16 @@
  *
  * Nothing checks what C passes. What a comment says of an argument is the caller's to keep:
  *
- * - A pointer is not null, also where its length is 0, and what it points to is readable, or
- *   writable where it is not `const`. What is written overlaps with no other argument.
+ * - A pointer is not null, also where its length is 0 (any of its type will do, as where FDB_ROOM is
+ *   to tell a length), and what it points to is readable, or writable where it is not `const`. What
+ *   is written overlaps with no other argument.
  * - A `bool` is 0 or 1.
  * - A handle is one that stands here, of the kind that a function takes, written by these functions
- *   alone, and none exactly where its `at` is NULL. It is copied nowhere, and is used by one call at a
- *   time. Each may be used, and freed, on another thread than the one that made it, where a lock, a
- *   join or the like orders the calls. One that is not freed leaks; one that was freed is none. One
- *   that is none may be opened, or freed, which does nothing, and else not be used.
+ *   alone, and none exactly where its `at` is NULL, as where all is zeros. It may be moved, but of
+ *   copies only one is used, by one call at a time. Each may be used, and freed, on another thread
+ *   than the one that made it, where a lock, a join or the like orders the calls. One that is not
+ *   freed leaks; one that was freed is none. One that is none may be opened, or freed, which does
+ *   nothing, and else not be used.
  * - No function is called from a signal handler, nor in the forked child of a program with threads.
  */
 #ifndef FDB_READ_VERSION_H
@@ -41,11 +43,12 @@ extern "C" {
 #endif
 
 /* The version of this header, and that of the library which is linked: 10,000 for a major one, 100
- * for a minor one, 1 for a patch. */
-#define FDB_READ_VERSION_VERSION 200
+ * for a minor one, 1 for a patch, in which alone the two may differ. */
+#define FDB_READ_VERSION_VERSION 300
 uint32_t fdb_read_version_version(void);
 
-/* What a function answers: FDB_OK, or why it refuses. */
+/* What a function answers: FDB_OK, or why it refuses; of a log FDB_FAULT too, which is a verdict.
+ * Texts and docs/FORMATS.md write these names without FDB_, as NotJson. */
 enum {
     FDB_OK = 0,
     FDB_BAD_EPOCH = 1,        /* the recovery version is at most the epoch's end, or 2^63 or more */
@@ -137,8 +140,8 @@ typedef struct fdb_chain {
 #define FDB_CHAIN_NONE {NULL}
 
 /*
- * Opens a chain with no answers yet, for an epoch that begins with version `recovery`, after one
- * that ended with `epoch_end`, and for this many commit proxies. `*chain` must be FDB_CHAIN_NONE.
+ * Opens a chain with no answers yet, for an epoch that comes after one which ended with version
+ * `epoch_end`, begins with `recovery` and has this many commit proxies. `*chain` must be none.
  *
  * FDB_OK, else FDB_BAD_EPOCH, FDB_NO_PROXY or FDB_MEMORY, the first that stands; `*chain` is then
  * still none.
@@ -147,18 +150,21 @@ uint8_t fdb_chain_new(uint64_t epoch_end, uint64_t recovery, uint32_t proxies, f
 
 /*
  * Answers a request. One with its proxy's next number draws the next version; one whose answer is
- * kept gets it again, with `fresh` false. `*chain` must be a chain.
+ * kept gets it again, with `fresh` false, which changes nothing. Each proxy numbers its own, from 1
+ * on. `*chain` must be a chain.
  *
  * The first version is the recovery version, and its `prev` the end of the epoch before. Each other
- * is above the one before by the microseconds between the two requests, by 1 at least and 5,000,000
- * at most; a moment that goes back counts as none. A request that draws a version lets the answers
- * of its proxy up to its `processed` go, never its own; these numbers, and 0, are then forgotten.
- * An answer takes 72 bytes until it goes, and no more than that is kept: where proxies process what
- * they get, a chain stays as small as it is, and one that never does wants memory in the end.
+ * is above the one before by the microseconds from the request that drew that one to this, by 1 at
+ * least and 5,000,000 at most: by 1 where this moment is the earlier one, from which the next step
+ * then counts. A request that draws a version lets the answers of its proxy that are kept, up to its
+ * `processed`, go, never its own; these numbers, and 0, are then forgotten. An answer takes 72 bytes
+ * until it goes, and no more than that is kept: where proxies process what they get, a chain stays as
+ * small as it is, and one that never does wants memory in the end.
  *
  * FDB_OK, else FDB_UNKNOWN_PROXY, FDB_EARLY, FDB_FORGOTTEN, FDB_EXHAUSTED, the first that stands;
  * `answer->status` is the same, and a refusal leaves the chain as it was. FDB_MEMORY comes only
- * where a version would be drawn, and leaves chain and answer as they were. Constant time.
+ * where a version would be drawn, and leaves chain and answer, and so `answer->status`, as they were.
+ * Constant time.
  */
 uint8_t fdb_chain_ask(fdb_chain *chain, const fdb_ask *ask, fdb_answer *answer);
 
@@ -218,7 +224,7 @@ typedef struct fdb_request {
 
 /* The outcome of an operation, and what the queue then is. */
 typedef struct fdb_outcome {
-    uint64_t normal;        /* the budget of the normal rate: 2,000,000 are a transaction */
+    uint64_t normal;        /* the budget of the normal rate, of which FDB_TRANSACTION are one */
     uint64_t batch;         /* the budget of the batch rate */
     uint64_t system_waits;  /* how many system requests wait */
     uint64_t default_waits; /* how many default requests */
@@ -229,14 +235,18 @@ typedef struct fdb_outcome {
     uint8_t status;         /* FDB_OK, or the refusal */
 } fdb_outcome;
 
-/* A queue, or none. */
+/* A queue, or none. Its row is all that wait, in the order in which they start: the system requests,
+ * then the default ones, then the batch ones, each as they came. */
 typedef struct fdb_queue {
     void *at;
 } fdb_queue;
 #define FDB_QUEUE_NONE {NULL}
 
+#define FDB_TRANSACTION 2000000 /* what a transaction is of a budget: two seconds in microseconds */
+#define FDB_MOST_STARTED 10000  /* the most requests that a window starts */
+
 /*
- * Opens a queue in which nothing waits, with budgets of 0. `*queue` must be FDB_QUEUE_NONE.
+ * Opens a queue in which nothing waits, with budgets of 0. `*queue` must be none.
  *
  * FDB_OK, else FDB_BAD_CONFIG or FDB_MEMORY; `*queue` is then still none.
  */
@@ -254,16 +264,20 @@ uint8_t fdb_queue_new(const fdb_queue_config *config, fdb_queue *queue);
 uint8_t fdb_queue_offer(fdb_queue *queue, const fdb_request *request, fdb_outcome *outcome);
 
 /*
- * Holds a window, `elapsed` microseconds (1 to 10,000,000) after the last one: starts the longest
- * prefix of all that wait that the budgets allow, of 10,000 requests at most, and writes it to the
- * start of `started`, in order. This needs room for as many as wait, or for 10,000 where more do.
- * `*queue` must be a queue.
+ * Holds a window, `elapsed` microseconds (1 to 10,000,000) after the last one, or after the queue was
+ * opened: starts the first requests of the row, up to the first that may not start and
+ * FDB_MOST_STARTED at most, and writes them to the start of `started`, in order. This needs room for
+ * as many as wait, or for FDB_MOST_STARTED where more do. `*queue` must be a queue.
  *
- * A rate lets a request start where the transactions of this window, with it and with those before
- * it, are at most 100,000, and at most the rate and its budget together. Then its budget gains the
- * rate, and pays for what started, times `elapsed`: the batch one for all, and the normal one for
- * system and default requests. It is never below 0, and at most 100,000 transactions, or 10 where
- * nothing is left that it pays for.
+ * Let `sum` be the transactions of a request and of all that start before it in this window. A system
+ * request may start; a default one by the normal rate, and a batch one by both rates, where
+ *
+ *     sum * FDB_TRANSACTION <= rate * FDB_TRANSACTION + budget   and   sum <= 100,000
+ *
+ * Then a rate's budget becomes `budget + elapsed * (rate - paid)`, where `paid` are the transactions
+ * that started: for the batch rate all, for the normal rate those of system and default requests. It
+ * is 0 where that is below 0, and at most 100,000 transactions, or 10 where nothing is left in the
+ * row that it pays for.
  *
  * FDB_ROOM, else FDB_BAD_CONFIG for a time out of range, else FDB_MEMORY or FDB_OK. Of FDB_OK and
  * FDB_BAD_CONFIG `outcome->status` is the same, and the latter leaves the queue as it was. FDB_ROOM,
@@ -308,9 +322,9 @@ uint8_t fdb_queue_set_rates(fdb_queue *queue, uint64_t normal, uint64_t batch,
 bool fdb_queue_waits(fdb_queue *queue, uint64_t elapsed, uint64_t *windows);
 
 /*
- * Sets the throttle of a tag, of at most 16 bytes, at a priority, in the place of an older one:
- * `rate` transactions per second, until the moment `expires`. It is kept to be asked for: no
- * throttle changes what a queue lets in or starts. `*queue` must be a queue.
+ * Sets the throttle of a tag, of 0 to 16 bytes, at a priority, in the place of an older one:
+ * `rate` transactions per second, until the moment `expires`, in microseconds. It is kept to be asked
+ * for: no throttle changes what a queue lets in or starts. `*queue` must be a queue.
  *
  * FDB_OK, else FDB_BAD_OP (no such priority), FDB_TAG_TOO_LONG or FDB_MEMORY, the first that
  * stands; the queue is then as it was. Logarithmic time.
@@ -371,7 +385,7 @@ uint8_t fdb_queue_outcomes(const fdb_queue_config *config,
 
 /* ------------------------------------------------------------------------ the audit of a log -- */
 
-/* The members of a line. A call is one of FDB_READ to FDB_LEARN. */
+/* The members of a line of JSON. A call is one of FDB_READ to FDB_LEARN. */
 enum {
     FDB_CLIENT = 1, /* whose call it was */
     FDB_READ = 2,   /* a read got a version */
@@ -380,8 +394,25 @@ enum {
     FDB_REPORT = 5, /* a version was reported as committed */
     FDB_LEARN = 6,  /* from here on the client knows what another knew by the lines above */
     FDB_BEGAN = 7,  /* when a call began */
-    FDB_ENDED = 8   /* when it ended */
+    FDB_ENDED = 8,  /* when it ended */
+    FDB_KEY = 9     /* the key: it has the name that the caller gave */
 };
+
+/* The name of a member in a line, and "key" for the key; or NULL where there is no such member. */
+static inline const char *fdb_member_name(uint8_t member) {
+    switch (member) {
+    case FDB_CLIENT: return "client";
+    case FDB_READ: return "read";
+    case FDB_COMMIT: return "commit";
+    case FDB_ASK: return "ask";
+    case FDB_REPORT: return "report";
+    case FDB_LEARN: return "learn";
+    case FDB_BEGAN: return "began";
+    case FDB_ENDED: return "ended";
+    case FDB_KEY: return "key";
+    default: return NULL;
+    }
+}
 
 /* A line of a log, where that is an array: all have times, or none has. Set `has_client`,
  * `has_times` and `has_ended` beside the members that they stand for: one without its flag is passed
@@ -399,7 +430,8 @@ typedef struct fdb_call {
     bool has_ended;   /* whether it is known when the call ended */
 } fdb_call;
 
-/* What an audit is told beside the log, and what its text has. */
+/* What an audit is told beside the log, and what its text has: that of the program fdb_audit, whose
+ * --all is `all` and `totals`, --summary `totals` alone, and --json `json`, `all` and `totals`. */
 typedef struct fdb_audit_options {
     uint64_t start;  /* with `complete`, the version that all began with */
     uint64_t margin; /* how far the clocks of two clients may be apart, in the unit of the times */
@@ -414,7 +446,7 @@ typedef struct fdb_audit_options {
 /* Why a log is refused, beside the status. */
 typedef struct fdb_refused {
     uint64_t line;  /* the first line that is wrong, counted from 1; on FDB_EMPTY 0 */
-    uint8_t member; /* on FDB_BAD_MEMBER which, from FDB_CLIENT to FDB_ENDED, or 0: the key; else 0 */
+    uint8_t member; /* on FDB_BAD_MEMBER which, from FDB_CLIENT to FDB_KEY; else 0 */
 } fdb_refused;
 
 /* What can be wrong with a line. */
@@ -425,6 +457,18 @@ enum {
     FDB_FAULT_TWICE = 4,     /* a version was drawn twice, and not by commits alone */
     FDB_FAULT_STRAY = 5      /* a report of a version that others drew, or that nobody can have */
 };
+
+/* The name of what can be wrong, as a text has it, or NULL where there is no such kind. */
+static inline const char *fdb_fault_name(uint8_t kind) {
+    switch (kind) {
+    case FDB_FAULT_ORDER: return "Order";
+    case FDB_FAULT_WRONG: return "Wrong";
+    case FDB_FAULT_NOT_ABOVE: return "NotAbove";
+    case FDB_FAULT_TWICE: return "Twice";
+    case FDB_FAULT_STRAY: return "Stray";
+    default: return NULL;
+    }
+}
 
 /* Why a fault stands. */
 enum {
@@ -462,8 +506,17 @@ typedef struct fdb_fault {
 
 /*
  * Audits the log that a text of JSON Lines stands for (docs/FORMATS.md), and writes what is found
- * to the start of `text`, with no NUL: the counts of a log without a fault, with `history` an order
- * that explains it; or the first fault, with `all` each, and why it stands.
+ * to the start of `text`, in UTF-8, with no NUL: the counts of a log without a fault, with `history`
+ * an order that explains it; or the first fault, with `all` each, and why it stands. Each line of it
+ * ends with a line feed. Of
+ *
+ *     {"client":"a","commit":200,"began":10,"ended":14}
+ *     {"client":"b","read":100,"began":15,"ended":16}
+ *
+ * it is one line, which is broken here:
+ *
+ *     audit fault: Order 2: client "b" read 100, but 200 was known:
+ *         line 1 (client "a", commit 200) had ended 1 before line 2 began
  *
  * FDB_OK where some history explains the log, else FDB_FAULT; `*size` is how long the text is. Where
  * `text` is too short, FDB_ROOM goes before both: `*size` is then the length that it needs, and
@@ -492,8 +545,8 @@ uint8_t fdb_audit_log_faults(const uint8_t *log, size_t log_length,
                              fdb_refused *refused);
 
 /*
- * Audits a log whose lines are `calls`, and writes a text as fdb_audit_log_text does. It names a
- * client by its number: `client 2`.
+ * Audits a log whose lines are `calls`, and writes a text as fdb_audit_log_text does, with `client 2`
+ * for the client of that number.
  *
  * As fdb_audit_log_text, but of the first call that is wrong FDB_NO_CALL (`kind`), FDB_BAD_MEMBER
  * (FDB_LEARN: no call above is the teller's; FDB_ENDED: it ended before it began), FDB_TOO_MANY,
@@ -522,7 +575,7 @@ typedef struct fdb_audit {
  * Opens an audit of a text of JSON Lines of which nothing has come. `key` is the name, in UTF-8, of
  * the member that has a line's key, and each key is then judged by itself, as one register; `shown`
  * are the names of members that the text has beside each line that it tells, parted by commas. Either
- * may be empty: then there are no keys, and no member is shown. `*audit` must be FDB_AUDIT_NONE.
+ * may be empty: then there are no keys, and no member is shown. `*audit` must be none.
  *
  * FDB_OK, else FDB_BAD_MEMBER (`key` or `shown` is no UTF-8) or FDB_MEMORY; `*audit` is then still
  * none.
@@ -534,9 +587,9 @@ uint8_t fdb_audit_new(const fdb_audit_options *options, const uint8_t *key, size
  * Takes the next bytes of the text, cut anywhere. It keeps the log's lines and not their bytes.
  * `*audit` must be an audit.
  *
- * FDB_OK. Where a line is wrong it is refused as by fdb_audit_end, whatever may come after it;
- * that, as FDB_MEMORY, ends the audit, and what it kept of the log is freed. FDB_OVER where it was
- * over before; nothing has changed then. Linear in the bytes.
+ * FDB_OK, else the refusal of the first line that is wrong, as fdb_audit_log_text, and `*refused`
+ * says which, whatever may come after it; or FDB_MEMORY. Either ends the audit, and what it kept of
+ * the log is freed. FDB_OVER where it was over before; nothing has changed then. Linear in the bytes.
  */
 uint8_t fdb_audit_push(fdb_audit *audit, const uint8_t *bytes, size_t bytes_length,
                        fdb_refused *refused);
@@ -547,7 +600,7 @@ uint8_t fdb_audit_push(fdb_audit *audit, const uint8_t *bytes, size_t bytes_leng
  *
  * FDB_OK, FDB_FAULT or the refusal, as by fdb_audit_log_text for all bytes that have come; of a log
  * with keys FDB_BAD_MEMBER also where a client has learnt (FDB_LEARN), and where a key is no string and
- * no whole number (0). FDB_OVER where it was over before. FDB_MEMORY and a refusal find nothing.
+ * no whole number (FDB_KEY). FDB_OVER where it was over before. FDB_MEMORY and a refusal find nothing.
  * `n log n` in the lines, twice.
  */
 uint8_t fdb_audit_end(fdb_audit *audit, fdb_refused *refused);
@@ -589,7 +642,7 @@ typedef struct fdb_watch {
  * Opens a watch of a log of which nothing has come: what `fdb_audit --follow` is (docs/FORMATS.md).
  * `key` is the name, in UTF-8, of the member that has a line's key, and each key is then watched by
  * itself; `shown` are the members that the text has beside each line that it tells, as for
- * fdb_audit_new. `*watch` must be FDB_WATCH_NONE.
+ * fdb_audit_new. `*watch` must be none.
  *
  * FDB_OK, else FDB_BAD_MEMBER (`key` or `shown` is no UTF-8) or FDB_MEMORY; `*watch` is then still
  * none.
@@ -598,8 +651,9 @@ uint8_t fdb_watch_new(const fdb_watch_options *options, const uint8_t *key, size
                       const uint8_t *shown, size_t shown_length, fdb_watch *watch);
 
 /*
- * Takes the next bytes of a text of JSON Lines, cut anywhere. A line that is refused is left out,
- * and told among the warnings. `*watch` must be a watch.
+ * Takes the next bytes of a text of JSON Lines, cut anywhere. A line that is refused, also one without
+ * times, is left out, and told among the warnings by what says something next. `*watch` must be a
+ * watch.
  *
  * FDB_OK. FDB_MEMORY ends the watch: what it kept of the log is freed, what was said last stays.
  * FDB_OVER where it was over before; nothing has changed then. Linear in the bytes.
@@ -608,10 +662,12 @@ uint8_t fdb_watch_push(fdb_watch *watch, const uint8_t *bytes, size_t bytes_leng
 
 /*
  * Says what has become certain since it said so last: each stale read, and each version that was
- * drawn and is not above what its caller knew, once. It looks for them once 8,192 lines have come,
- * or with `is_idle`, which says that no more may come for a while. That, be it nothing, is then the
- * text, and the warnings have a line for each line that was refused since; what they were before is
- * gone. `*watch` must be a watch.
+ * drawn and is not above what its caller knew, once. It looks once 8,192 lines have come since it
+ * last did, or at once with `is_idle`, as where no more is there to be read: at each call that began
+ * more than `behind` before the newest end. A line that comes later and began as early is no refused
+ * one; its version counts, but it is judged only if it began at most `behind` before that. What is
+ * said, be it nothing, is then the text, and the warnings have a line for each line that was refused
+ * since; what they were before is gone. `*watch` must be a watch.
  *
  * FDB_OK, else FDB_OVER or FDB_MEMORY, as fdb_watch_push; text and warnings are then as they were.
  * `n log n` in the lines that are kept.
@@ -623,9 +679,9 @@ uint8_t fdb_watch_tell(fdb_watch *watch, bool is_idle);
  * warnings are that, as by fdb_watch_tell, and the watch is over. `*watch` must be a watch.
  *
  * FDB_FAULT where a fault was told, at any time. Else why the last line that was refused was, from
- * FDB_TOO_LONG to FDB_BAD_MEMBER, as fdb_audit_log_text (with `member` 0 where the key is no name),
- * and `*refused` says which; FDB_EMPTY where no line came. Else FDB_OK. FDB_OVER and FDB_MEMORY
- * leave text and warnings as they were. But for a refusal `*refused` is as it was.
+ * FDB_TOO_LONG to FDB_BAD_MEMBER, as fdb_audit_end, and `*refused` says which; FDB_EMPTY where no
+ * line came. Else FDB_OK. FDB_OVER and FDB_MEMORY leave text and warnings as they were. But for a
+ * refusal `*refused` is as it was.
  */
 uint8_t fdb_watch_end(fdb_watch *watch, fdb_refused *refused);
 

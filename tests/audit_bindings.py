@@ -161,7 +161,6 @@ def refused_audits(_program):
 def said_of(refused):
     """What the program says of a log that is refused."""
     member = f" {refused.member.name.lower()}" if refused.member else ""
-    member = " key" if refused.status.name == "BAD_MEMBER" and not member else member
     why = refusal(refused.line, f"{named(refused.status)}{member}")
     return f"fdb_audit: logs refused: {why}\n"
 

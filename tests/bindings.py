@@ -4,6 +4,7 @@ tools/bindings builds the library. A compiler, or cargo, that is not there leave
 """
 import os
 import random
+import re
 import shutil
 import subprocess
 import sys
@@ -12,7 +13,7 @@ import types
 
 import header
 import model
-from harness import ROOT, Ran, done, fault_of, files_below, run
+from harness import ROOT, Ran, done, fault_of, files_below, run, text_of
 
 OUT = f"{ROOT}/crates/fdb_c/out"
 SHARED, STATIC, OF_C = (
@@ -21,7 +22,7 @@ SHARED, STATIC, OF_C = (
 # (tools/bindings makes it last)
 NEEDED = [SHARED]
 PACKAGE = f"{ROOT}/bindings/python/src"
-CRATE = f"{ROOT}/bindings/rust"
+CRATE, README_OF_RUST = f"{ROOT}/bindings/rust", "bindings/rust/README.md"
 DIFFERENTIAL = f"{ROOT}/examples/differential/run.py"
 STRICT = ["-std=c11", "-O1", "-g", "-Wall", "-Wextra", "-Wpedantic", "-Werror"]
 SANITIZED = ["-fsanitize=address,undefined", "-fno-sanitize-recover=all"]
@@ -55,7 +56,7 @@ for name in ("Version", "Summary", "Author-email", "Requires-Python"):
 print(fdb_read_version.Chain(100, 200, 1).ask(0, 1, 5).version, len(fdb_read_version.__all__))
 """
 METADATA = b"""\
-0.2.0
+0.3.0
 The read-version path of FoundationDB 7.1, proved, and an audit of logs, from Python
 Joskleme maintainers <maintainers@users.noreply.joskleme.example>
 >=3.9
@@ -183,10 +184,10 @@ def fault_of_installed():
     with tempfile.TemporaryDirectory() as room:
         made = "import build_wheel, sys; print(build_wheel.build_sdist(sys.argv[1]))"
         ran = run([sys.executable, "-c", made, room], env=env)
-        if ran != done(b"fdb_read_version-0.2.0.tar.gz\n"):
+        if ran != done(b"fdb_read_version-0.3.0.tar.gz\n"):
             return f"the sdist: {ran}"
         how = ["--quiet", "--no-index", "--no-build-isolation", "--no-compile", "--target"]
-        words = ["pip", "install", *how, f"{room}/site", f"{room}/fdb_read_version-0.2.0.tar.gz"]
+        words = ["pip", "install", *how, f"{room}/site", f"{room}/fdb_read_version-0.3.0.tar.gz"]
         ran = run(words, seconds=SECONDS, env=env)
         if ran.status:
             return ran.err[-1000:].decode(errors="replace")
@@ -254,6 +255,24 @@ def records(_program):
 
 
 # ---- Rust
+
+
+def bare(text):
+    """Rust without comments, attributes, white space, numbers of variants and last commas."""
+    text = re.sub(r"//[^\n]*|#\[[^\n]*\]| = \d+|\s+", "", text)
+    return re.sub(r",([)}])", r"\1", text)
+
+
+def declared_in_rust(_program):
+    """What the README declares is what the sources do, and no public function is left out."""
+    sources = "\n".join(map(text_of, files_below("bindings/rust/src", ".rs")))
+    blocks = re.findall(r"^```rust,ignore\n(.*?)^```$", text_of(README_OF_RUST), re.M | re.S)
+    lines = [it.strip() for it in "".join(blocks).splitlines()]
+    for line in (it for it in lines if it.startswith("pub ")):
+        wanted = bare(line[:-1] + "{" if line.endswith(";") else line)
+        yield line, None if wanted in bare(sources) else "it is declared otherwise"
+    for name in sorted({*re.findall(r"\bpub fn (\w+)", sources)}):
+        yield name, None if f"pub fn {name}(" in "".join(blocks) else "it is left out"
 
 
 def of_rust(_program):

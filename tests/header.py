@@ -145,12 +145,19 @@ def compared(ours, theirs):
 
 
 def named(_program):
-    """Each status has its name, and the versions of header, library and packages are one."""
+    """Each status, member and kind of fault has its name, and all versions are one."""
     text = without_comments(HEADER)
-    statuses = re.findall(r"\b(FDB_\w+) = \d+", text[: text.index("};")])
-    names = re.findall(r'case (FDB_(\w+)): return "(\w+)";', text)
-    fault = None if [it for it, *_ in names] == statuses else "a status has no name"
-    yield "names of statuses", fault or next((it for it, a, b in names if a != b), None)
+    enums = [NUMBER_OF_C.findall(it) for it in re.findall(r"enum \{(.*?)\};", text, re.DOTALL)]
+    for function, first, spelled in (
+        ("fdb_status_name", "FDB_OK", str),
+        ("fdb_member_name", "FDB_CLIENT", str.lower),
+        ("fdb_fault_name", "FDB_FAULT_ORDER", lambda it: it[6:].title().replace("_", "")),
+    ):
+        numbers = next(names for names in enums if names[0][0] == first)
+        body = text[text.index(f"char *{function}(") :].partition("\n}")[0]
+        names = re.findall(r'case (\w+): return "(\w+)";', body)
+        wanted = [(name, spelled(name[4:])) for name, _number in numbers]
+        yield f"names by {function}", None if names == wanted else f"{names}"
     version = re.search(r"#define FDB_READ_VERSION_VERSION (\d+)", text)[1]
     library = re.search(r"ensures \{ result ≡ (\d+) \}", text_of(f"{SOURCES}/version.rt"))[1]
     yield "the version of the library", None if library == version else library

@@ -3,8 +3,8 @@ import re
 
 from harness import files_below, text_of
 
-CONSTANT = re.compile(r"^pub const (MAX_\w+|IDLE_BURST): \w+ = ([\d_]+);", re.MULTILINE)
-FORMATS, README = "docs/FORMATS.md", "README.md"
+CONSTANT = re.compile(r"^pub const (MAX_\w+|IDLE_BURST|RATE_WINDOW): \w+ = ([\d_]+);", re.MULTILINE)
+FORMATS, README, HEADER = "docs/FORMATS.md", "README.md", "include/fdb_read_version.h"
 # What a document says of limits, with the names of the constants in the code.
 SAID = (
     (FORMATS, "at most {MAX_SCRIPT_BYTES:,} bytes"),
@@ -38,6 +38,14 @@ SAID = (
     (README, "room for 1 to {MAX_ROOM:,} requests; a normal limit of 1 to {MAX_RATE:,}"),
     (README, "a batch limit of 0 to {MAX_RATE:,} transactions"),
     (README, "1 to {MAX_ELAPSED:,} microseconds after the last one; at most {MAX_STARTED:,} req"),
+    (HEADER, "#define FDB_TRANSACTION {RATE_WINDOW} "),
+    (HEADER, "#define FDB_MOST_STARTED {MAX_STARTED} "),
+    (HEADER, "least and {MAX_STEP:,} at most"),
+    (HEADER, "sum <= {MAX_BURST:,}"),
+    (HEADER, "at most {MAX_BURST:,} transactions, or {IDLE_BURST} where"),
+    (HEADER, "(1 to {MAX_ELAPSED:,}) after the last one"),
+    (HEADER, "of 0 to {MAX_TAG} bytes"),
+    (HEADER, "at most normal + {IDLE_BURST} */"),
 )
 
 

@@ -346,7 +346,7 @@ static void by_key(void) {
     audit = opened(&PLAIN, "k", "");
     log = "{\"client\":\"a\",\"read\":1,\"k\":[]}\n";
     assert(pushed(&audit, log, 99, &refused) == FDB_BAD_MEMBER);
-    assert(refused.line == 1 && refused.member == 0);
+    assert(refused.line == 1 && refused.member == FDB_KEY);
     fdb_audit_free(&audit);
     audit = opened(&PLAIN, "k", "");
     log = "{\"client\":\"a\",\"read\":1}\n{\"client\":\"b\",\"learn\":\"a\"}";

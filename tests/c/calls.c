@@ -324,6 +324,9 @@ static void names_and_version(void) {
     assert(!strcmp(fdb_status_name(FDB_OK), "OK") && !strcmp(fdb_status_name(FDB_OVER), "OVER"));
     assert(!strcmp(fdb_status_name(FDB_TAG_TOO_LONG), "TAG_TOO_LONG"));
     assert(fdb_status_name(9) == NULL && fdb_status_name(255) == NULL);
+    assert(!strcmp(fdb_member_name(FDB_KEY), "key") && !strcmp(fdb_fault_name(5), "Stray"));
+    assert(fdb_member_name(0) == NULL && fdb_member_name(10) == NULL);
+    assert(fdb_fault_name(0) == NULL && fdb_fault_name(6) == NULL);
 }
 
 int main(int count, char **words) {

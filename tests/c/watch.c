@@ -141,6 +141,11 @@ static void left_out(void) {
     assert(fdb_watch_end(&watch, &refused) == FDB_FAULT && refused.line == 77);
     says(&watch, SAID("3"), "fdb_audit: logs refused: BadMember 2 read: ");
     fdb_watch_free(&watch);
+    watch = opened((fdb_watch_options){.behind = 5}, "k", "");
+    push(&watch, "{\"client\":\"a\",\"commit\":200,\"began\":10,\"ended\":14,\"k\":[]}\n");
+    assert(fdb_watch_end(&watch, &refused) == FDB_BAD_MEMBER);
+    assert(refused.line == 1 && refused.member == FDB_KEY);
+    fdb_watch_free(&watch);
     watch = opened((fdb_watch_options){.behind = 5}, "", "");
     assert(fdb_watch_end(&watch, &refused) == FDB_EMPTY && refused.line == 0);
     fdb_watch_free(&watch);

@@ -351,7 +351,7 @@ class OfLogs(unittest.TestCase):
                 self.assertEqual((found.end(), found.faults()), (Status.FAULT, [order]))
                 self.assertEqual(found.text(), KEYED_SAID % ("", ""))
         for log, wanted in (
-            ('{"client":"a","read":1,"é":[]}', LogRefused(Status.BAD_MEMBER, 1)),
+            ('{"client":"a","read":1,"é":[]}', LogRefused(Status.BAD_MEMBER, 1, Member.KEY)),
             ('{"client":"a","read":1}\n{"client":"a","learn":"a"}',
              LogRefused(Status.BAD_MEMBER, 2, Member.LEARN)),
         ):
@@ -611,7 +611,7 @@ class OfWatches(unittest.TestCase):
         self.refused(LogRefused(Status.BAD_MEMBER, 1, Member.READ), watch.end)
         watch = Watch(5, key="k")
         watch.push(COMMIT % ',"k":[]')
-        self.refused(LogRefused(Status.BAD_MEMBER, 1), watch.end)
+        self.refused(LogRefused(Status.BAD_MEMBER, 1, Member.KEY), watch.end)
         self.refused(LogRefused(Status.EMPTY, 0), Watch(5).end)
         self.refused(Refused(Status.BAD_MEMBER), lambda: Watch(5, key=b"\xff"))
 

@@ -159,8 +159,8 @@ pub struct Chain {
 has_handle!(Chain, sys::fdb_chain_free);
 
 impl Chain {
-    /// A chain with no answers yet, for an epoch that begins with the version `recovery`, after one
-    /// that ended with `epoch_end`, and for this many commit proxies.
+    /// A chain with no answers yet, for an epoch that comes after one which ended with version
+    /// `epoch_end`, begins with `recovery` and has this many commit proxies, 1 to 64.
     ///
     /// # Errors
     /// `BadEpoch`, `NoProxy` or `Memory`, the first that stands.
@@ -174,6 +174,13 @@ impl Chain {
     }
 
     /// Answers a request; a refused one leaves the chain as it was.
+    ///
+    /// One with its proxy's next number draws the next version; one whose answer is kept gets it
+    /// again, not `fresh`, which changes nothing. The first version is the recovery version. Each
+    /// other is above the one before by the microseconds from the request that drew that one to
+    /// this, by 1 at least and 5,000,000 at most: by 1 where this moment is the earlier one, from
+    /// which the next step then counts. A request that draws lets the answers of its proxy that are
+    /// kept, up to its `processed`, go, never its own; these numbers, and 0, are then forgotten.
     ///
     /// # Errors
     /// `UnknownProxy`, `Early`, `Forgotten`, `Exhausted` or `Memory`, the first that stands.

@@ -291,7 +291,9 @@ fn outcome_of(
 
 /// The requests that wait at a GRV proxy, and the budgets by which they start.
 ///
-/// A throttle is kept for its tag, and changes nothing of what starts.
+/// The *row* is all that wait, in the order in which they start: the system requests, then the
+/// default ones, then the batch ones, each as they came. A throttle is kept for its tag, and changes
+/// nothing of what starts.
 ///
 /// ```
 /// use fdb_read_version::{GrvQueue, Priority, QueueConfig, Request};
@@ -330,8 +332,8 @@ impl GrvQueue {
         }
     }
 
-    /// Lets a request in; where the queue is full, `out` is who is pushed out. A refused one leaves
-    /// the queue as it was.
+    /// Lets a request in; where the queue is full, `out` is who is pushed out: the oldest of a lower
+    /// priority, batch requests first. A refused one leaves the queue as it was.
     ///
     /// # Errors
     /// `BadCount`, `BatchThrottled`, `Full` or `Memory`, the first that stands.
@@ -345,8 +347,22 @@ impl GrvQueue {
         }
     }
 
-    /// Holds a window, `elapsed` microseconds (1 to 10,000,000) after the last one, and starts who
-    /// may start, 10,000 requests at most. A refused one leaves the queue as it was.
+    /// Holds a window, `elapsed` microseconds (1 to 10,000,000) after the last one. A refused one
+    /// leaves the queue as it was.
+    ///
+    /// It starts the first requests of the row, up to the first that may not start, and 10,000 at
+    /// most. Let `sum` be the transactions of a request and of all that start before it in this
+    /// window. A system request may start; a default one by the normal rate, and a batch one by both
+    /// rates, where
+    ///
+    /// ```text
+    /// sum * 2_000_000 <= rate * 2_000_000 + budget   and   sum <= 100_000
+    /// ```
+    ///
+    /// Then a rate's budget becomes `budget + elapsed * (rate - paid)`, where `paid` are the
+    /// transactions that started: for the batch rate all, for the normal rate those of system and
+    /// default requests. It is 0 where that is below 0, and at most 100,000 transactions, or 10 where
+    /// nothing is left in the row that it pays for.
     ///
     /// # Errors
     /// `BadConfig`, for a time out of range, or `Memory`.
@@ -363,9 +379,9 @@ impl GrvQueue {
         }
     }
 
-    /// Sets the two rates, as in [`QueueConfig`], from the next window on; the capacity, the budgets and the throttles
-    /// stay. It gives the batch requests that wait and that a new queue of these rates would refuse,
-    /// in order; all others wait on. Refused, it leaves the queue as it was.
+    /// Sets the two rates, as in [`QueueConfig`], from the next window on; the capacity, the budgets
+    /// and the throttles stay. It gives the batch requests that wait and that a new queue of these
+    /// rates would refuse, in order; all others wait on. Refused, it leaves the queue as it was.
     ///
     /// # Errors
     /// `BadConfig`, for a rate out of range, or `Memory`.
@@ -392,8 +408,8 @@ impl GrvQueue {
         }
     }
 
-    /// How many windows of `elapsed` microseconds start nothing before one starts the first of the row, where
-    /// that one waits for its own rate alone.
+    /// How many windows of `elapsed` microseconds start nothing before one starts the first of the
+    /// row, where that one waits for its own rate alone.
     pub fn waits(&mut self, elapsed: u64) -> Option<u64> {
         let mut windows = 0;
         // SAFETY: the handle is a queue.

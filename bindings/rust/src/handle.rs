@@ -1,5 +1,5 @@
-//! What has a handle of the library: it may go to another thread, is shown by its name alone, and
-//! is freed where it ends.
+//! What has a handle of the library: threads may have it, one call at a time, it is shown by its name
+//! alone, and is freed where it ends.
 
 macro_rules! has_handle {
     ($name:ident, $free:path) => {
@@ -7,6 +7,9 @@ macro_rules! has_handle {
         // has no global and nothing of a thread's: as the header says, any thread may use and free
         // it, one call at a time.
         unsafe impl Send for $name {}
+
+        // SAFETY: a shared reference reaches nothing: each call takes an exclusive one.
+        unsafe impl Sync for $name {}
 
         impl std::fmt::Debug for $name {
             fn fmt(&self, f: &mut std::fmt::Formatter<'_>) -> std::fmt::Result {

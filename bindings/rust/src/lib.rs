@@ -7,6 +7,11 @@
 //! become certain. What each answers is proved; this crate, which calls them, is tested.
 #![deny(missing_debug_implementations, missing_docs, unsafe_op_in_unsafe_fn)]
 
+/// The samples of the README, which `cargo test` runs.
+#[cfg(doctest)]
+#[doc = include_str!("../README.md")]
+struct Readme;
+
 mod audit;
 mod chain;
 mod grv_queue;

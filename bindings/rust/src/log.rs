@@ -106,7 +106,8 @@ pub struct AuditOptions<'a> {
     pub shown: &'a str,
 }
 
-/// What a text has besides the verdict.
+/// What a text has besides the verdict. `fdb_audit --all` is `all` and `totals`, `--summary` is
+/// `totals` alone, and `--json` is `json`, `all` and `totals`.
 ///
 /// ```
 /// use fdb_read_version::{audit_log_text, AuditOptions, Wanted};
@@ -133,7 +134,7 @@ pub struct Wanted {
     pub json: bool,
 }
 
-/// What can be wrong with a line; docs/FORMATS.md says what each means.
+/// What can be wrong with a line; docs/FORMATS.md says more of each.
 ///
 /// ```
 /// use fdb_read_version::{audit_log, AuditOptions, FaultKind};
@@ -146,7 +147,7 @@ pub struct Wanted {
 #[derive(Clone, Copy, Debug, PartialEq, Eq, Hash, PartialOrd, Ord)]
 #[non_exhaustive]
 pub enum FaultKind {
-    /// A read below what its caller knew.
+    /// A stale read: it is below a version that its caller knew.
     Order,
     /// A read of a version that is not there.
     Wrong,
@@ -180,9 +181,9 @@ pub enum Means {
     Own(u32),
     /// The client had learnt of a line, by one of its own.
     Learnt {
-        /// The line of which it had learnt.
+        /// The line that let it be known.
         of: u32,
-        /// Its own line.
+        /// Its own line, a [`Call::Learn`], by which it had learnt of that.
         by: u32,
     },
 }
@@ -297,6 +298,8 @@ pub enum Member {
     Began,
     /// When it ended.
     Ended,
+    /// The key: it has the name that [`AuditOptions`] gives.
+    Key,
 }
 
 /// What is wrong with a log, or with a line of it.
@@ -326,8 +329,6 @@ pub enum Wrong {
     SomeTimes,
     /// This member is missing, of another kind, or may not stand there.
     BadMember(Member),
-    /// Its key is no name.
-    BadKey,
 }
 
 /// Why a log is not audited.
@@ -367,6 +368,7 @@ impl fmt::Display for Member {
             Member::Learn => "learn",
             Member::Began => "began",
             Member::Ended => "ended",
+            Member::Key => "key",
         })
     }
 }
@@ -381,7 +383,6 @@ impl fmt::Display for Wrong {
             Wrong::NoCall => "it names no call",
             Wrong::TwoCalls => "it names two calls",
             Wrong::SomeTimes => "some lines have times, and some have none",
-            Wrong::BadKey => "its key is no name",
             Wrong::BadMember(member) => return write!(f, "its member {member} is bad"),
         })
     }
@@ -411,6 +412,7 @@ fn member_of(number: u8) -> Result<Member, LogError> {
         sys::FDB_LEARN => Member::Learn,
         sys::FDB_BEGAN => Member::Began,
         sys::FDB_ENDED => Member::Ended,
+        sys::FDB_KEY => Member::Key,
         other => return Err(LogError::Unknown(other)),
     })
 }
@@ -423,7 +425,6 @@ fn wrong_of(status: u8, refused: &sys::fdb_refused) -> Result<Wrong, LogError> {
         sys::FDB_NO_CALL => Wrong::NoCall,
         sys::FDB_TWO_CALLS => Wrong::TwoCalls,
         sys::FDB_SOME_TIMES => Wrong::SomeTimes,
-        sys::FDB_BAD_MEMBER if refused.member == 0 => Wrong::BadKey,
         sys::FDB_BAD_MEMBER => Wrong::BadMember(member_of(refused.member)?),
         sys::FDB_EMPTY => Wrong::Empty,
         sys::FDB_OVER => return Err(LogError::Over),
@@ -691,15 +692,16 @@ mod tests {
             (Member::Learn, "learn"),
             (Member::Began, "began"),
             (Member::Ended, "ended"),
+            (Member::Key, "key"),
         ];
         for (number, (member, name)) in (1..).zip(members) {
             let wanted = LogError::Refused { line: 77, wrong: Wrong::BadMember(member) };
             assert_eq!(error_of(39, &refused(number)), wanted);
             assert_eq!(wanted.to_string(), format!("line 77: its member {name} is bad"));
         }
-        let wanted = LogError::Refused { line: 77, wrong: Wrong::BadKey };
-        assert_eq!(error_of(39, &refused(0)), wanted);
-        assert_eq!(error_of(39, &refused(9)), LogError::Unknown(9));
+        for number in [0, 10] {
+            assert_eq!(error_of(39, &refused(number)), LogError::Unknown(number));
+        }
     }
 
     #[test]

@@ -88,7 +88,8 @@ impl Watch {
         taken(status).map(|()| Watch { handle })
     }
 
-    /// Takes the next bytes of the log, cut anywhere; a line that is refused is left out.
+    /// Takes the next bytes of the log, cut anywhere. A line that is refused, also one without times,
+    /// is left out, and told by [`warnings`](Watch::warnings) after the next `tell` or `end`.
     ///
     /// # Errors
     /// `Memory`, which ends the watch; `Over` where it was over before.
@@ -98,8 +99,12 @@ impl Watch {
     }
 
     /// Says what has become certain since it said so last, each fault once; that is the text from
-    /// then on. It looks for it where no more may come for a while (`is_idle`), else only once 8,192
-    /// lines have come.
+    /// then on.
+    ///
+    /// It looks for it at once where `is_idle` holds, else once 8,192 lines have come since it last
+    /// did, which costs less where more is there to be read: at each call that began more than
+    /// `behind` before the newest end. A line that comes later and began as early is not refused; its
+    /// version counts, but it is judged only if it began at most `behind` before that.
     ///
     /// # Errors
     /// As [`push`](Watch::push); what was said last then stays.
@@ -110,7 +115,8 @@ impl Watch {
     }
 
     /// Says, as the text, what is left where the log ends here, and says whether a fault was told,
-    /// at any time. The watch is then over.
+    /// at any time. Without one the text is `audit ok` and how many lines there were. The watch is
+    /// then over.
     ///
     /// # Errors
     /// `Refused`, where no fault was told and lines were left out, with the last of them, or where

@@ -1,9 +1,11 @@
 //! Handles and arrays answer the same, and what was worked out by hand, at random and at the edges.
 
 use fdb_read_version::{
-    answers, outcomes, Ask, Chain, ChainError, GrvQueue, Issued, Limit, Op, Outcome, Priority,
-    QueueConfig, QueueError, Record, Request, State, TurnedAway,
+    answers, outcomes, Ask, Audit, Chain, ChainError, GrvQueue, Issued, Limit, Op, Outcome,
+    Priority, QueueConfig, QueueError, Record, Request, State, TurnedAway, Watch,
 };
+use std::collections::BTreeSet;
+use std::sync::Mutex;
 use std::thread;
 
 /// The same numbers on each machine (xorshift).
@@ -198,6 +200,25 @@ fn forgotten_throttles_by_hand() {
     queue.forget_throttles(50);
     assert_eq!(queue.throttle(Priority::Batch, b"early", 49), Ok(None));
     assert_eq!(queue.throttle(Priority::Batch, b"late", 50), Ok(Some(limit(51))));
+}
+
+#[test]
+fn threads_share_all() {
+    fn shared<T: Send + Sync>() {}
+    shared::<(Chain, GrvQueue, Audit, Watch)>();
+    let chain = Mutex::new(Chain::new(100, 200, 4).unwrap());
+    let drawn = |proxy, num| {
+        let ask = Ask { proxy, num, processed: num - 1, at: num };
+        chain.lock().unwrap().ask(ask).unwrap().version
+    };
+    let versions: BTreeSet<u64> = thread::scope(|scope| {
+        let threads = [0, 1, 2, 3].map(|proxy| {
+            let drawn = &drawn;
+            scope.spawn(move || (1..=500).map(|num| drawn(proxy, num)).collect::<Vec<_>>())
+        });
+        threads.into_iter().flat_map(|it| it.join().unwrap()).collect()
+    });
+    assert_eq!(versions.len(), 2000);
 }
 
 #[test]

@@ -230,7 +230,10 @@ fn by_key() {
     assert_eq!(text, Ok(said.to_string()));
     let refused = |line, wrong| Err(LogError::Refused { line, wrong });
     let one = |log: &str| audit_log(log.as_bytes(), &options);
-    assert_eq!(one(r#"{"client":"a","read":1,"key":[]}"#), refused(1, Wrong::BadKey));
+    assert_eq!(
+        one(r#"{"client":"a","read":1,"key":[]}"#),
+        refused(1, Wrong::BadMember(Member::Key))
+    );
     let learn = "{\"client\":\"a\",\"read\":1}\n{\"client\":\"a\",\"learn\":\"a\"}";
     assert_eq!(one(learn), refused(2, Wrong::BadMember(Member::Learn)));
     // Lines have no keys.

@@ -100,6 +100,6 @@ fn what_is_left_out() {
     assert_eq!(watch.end(), refused(1, Wrong::BadMember(Member::Read)));
     let mut watch = opened(5, "k");
     watch.push(COMMIT.replace('}', ",\"k\":[]}").as_bytes()).unwrap();
-    assert_eq!(watch.end(), refused(1, Wrong::BadKey));
+    assert_eq!(watch.end(), refused(1, Wrong::BadMember(Member::Key)));
     assert_eq!(opened(5, "").end(), refused(0, Wrong::Empty));
 }

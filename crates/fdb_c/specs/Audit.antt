@@ -31,7 +31,7 @@ use Rattle.fdb_audit.specs.declared.arguments.AuditArguments.{AuditArguments}
 use Rattle.fdb_audit.specs.declared.judged.Wanted.{Wanted}
 use Rattle.fdb_c.specs.declared.audit.FdbAuditOptions.{FdbAuditOptions}
 use Rattle.fdb_c.specs.declared.audit.FdbRefused.{FdbRefused}
-use Rattle.fdb_c.specs.declared.audit.TheConstants.{FDB_CLIENT, FDB_READ, FDB_COMMIT, FDB_ASK, FDB_REPORT, FDB_LEARN, FDB_BEGAN, FDB_ENDED}
+use Rattle.fdb_c.specs.declared.audit.TheConstants.{FDB_CLIENT, FDB_READ, FDB_COMMIT, FDB_ASK, FDB_REPORT, FDB_LEARN, FDB_BEGAN, FDB_ENDED, FDB_KEY}
 use Rattle.fdb_c.specs.declared.audit_calls.FdbCall.{FdbCall}
 use Rattle.fdb_c.specs.declared.audit_faults.FdbFault.{FdbFault}
 use Rattle.fdb_c.specs.declared.audit_faults.TheConstants.{FDB_FAULT_ORDER, FDB_FAULT_WRONG, FDB_FAULT_NOT_ABOVE, FDB_FAULT_TWICE, FDB_FAULT_STRAY, FDB_REASON_KNOWN, FDB_REASON_UNREPORTED, FDB_REASON_REPORTED, FDB_REASON_DRAWN, FDB_REASON_UNDRAWN, FDB_MEANS_START, FDB_MEANS_ENDED, FDB_MEANS_OWN, FDB_MEANS_LEARNT}
@@ -166,6 +166,7 @@ number_of member.Ended = FDB_ENDED
 -- the member that is bad, or 0
 abbrev pub member_of : Why → ℕ
 member_of (why.BadMember member) = number_of member
+member_of why.BadKey = FDB_KEY
 member_of _ = 0
 
 -- A refusal, as C is told of it beside its status.

@@ -37,6 +37,9 @@ pub const FDB_BEGAN: u8 = 7;
 /// When it ended.
 pub const FDB_ENDED: u8 = 8;
 
+/// The member that has the key: it has the name that the caller gave.
+pub const FDB_KEY: u8 = 9;
+
 /// What an audit is told beside the log, and what its text has.
 #[repr(C)]
 #[derive(Clone, Copy)]
@@ -141,6 +144,7 @@ fn member_of(why: Why) -> u8
 {
     match why {
         Why::BadMember(member) => number_of(member),
+        Why::BadKey => FDB_KEY,
         _ => 0,
     }
 }

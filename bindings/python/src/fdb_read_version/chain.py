@@ -85,6 +85,13 @@ class Chain(Handle):
     def ask(self, proxy: int, num: int, at: int, processed: int = 0) -> Issued:
         """Answers a request, whose numbers are those of `Ask`; `at` is in microseconds.
 
+        One with its proxy's next number draws the next version; one whose answer is kept gets it
+        again, with `fresh` False, which changes nothing. The first version is the recovery version.
+        Each other is above the one before by the microseconds from the request that drew that one to
+        this, by 1 at least and 5,000,000 at most: by 1 where this moment is the earlier one, from
+        which the next step then counts. A request that draws lets the answers of its proxy that are
+        kept, up to `processed`, go, never its own; these numbers, and 0, are then forgotten.
+
         `Refused` says UNKNOWN_PROXY, EARLY (with the number that is expected), FORGOTTEN,
         EXHAUSTED or MEMORY, the first that stands; the chain is then as it was.
         """

@@ -131,7 +131,9 @@ def _outcome(raw: RawOutcome, started: Iterable[RawRequest] = ()) -> Outcome:
 class GrvQueue(Handle):
     """The requests that wait at a GRV proxy, and the budgets by which they start.
 
-    `Refused` says BAD_CONFIG or MEMORY.
+    The *row* is all that wait, in the order in which they start: the system requests, then the
+    default ones, then the batch ones, each as they came. A new queue has budgets of 0. `Refused` says
+    BAD_CONFIG or MEMORY.
 
     Threads may share one: their calls wait for one another. It is freed by `close`, at the end of a
     `with`, or when nobody has it any more, and can be neither copied nor pickled.
@@ -161,9 +163,19 @@ class GrvQueue(Handle):
     def window(self, elapsed: int) -> Outcome:
         """Holds a window, `elapsed` microseconds (1 to 10,000,000) after the last one.
 
-        It starts the longest prefix of all that wait that the budgets allow, of 10,000 requests at
-        most. `Refused` says BAD_CONFIG, for a time out of range, or MEMORY; the queue is then as it
-        was.
+        It starts the first requests of the row, up to the first that may not start, and 10,000 at
+        most. Let `sum` be the transactions of a request and of all that start before it in this
+        window. A system request may start; a default one by the normal rate, and a batch one by both
+        rates, where
+
+            sum * 2_000_000 <= rate * 2_000_000 + budget   and   sum <= 100_000
+
+        Then a rate's budget becomes `budget + elapsed * (rate - paid)`, where `paid` are the
+        transactions that started: for the batch rate all, for the normal rate those of system and
+        default requests. It is 0 where that is below 0, and at most 100,000 transactions, or 10 where
+        nothing is left in the row that it pays for.
+
+        `Refused` says BAD_CONFIG, for a time out of range, or MEMORY; the queue is then as it was.
         """
         raw, time, spare = RawOutcome(), number("elapsed", elapsed), self._spare
         try:

@@ -25,10 +25,17 @@ class Member(Named):
     LEARN = 6
     BEGAN = 7
     ENDED = 8
+    KEY = 9
 
 
 class FaultKind(Named):
-    """What can be wrong with a line; docs/FORMATS.md says what each means."""
+    """What can be wrong with a line.
+
+    ORDER is a stale read: it is below a version that its caller knew. WRONG is a read of a version
+    that is not there; NOT_ABOVE a version that was drawn and is not above all that its caller knew;
+    TWICE one that was drawn twice, and not by commits alone; STRAY a report of a version that others
+    drew, or that nobody can have. docs/FORMATS.md says more of each.
+    """
 
     ORDER = 1
     WRONG = 2
@@ -168,7 +175,8 @@ def audit(
 ) -> List[Fault]:
     """All faults of a log, by line: none exactly where some history explains it.
 
-    The log is JSON Lines, as docs/FORMATS.md has them, as bytes or a text, or an iterable of `Call`.
+    The log is JSON Lines, as docs/FORMATS.md has them, in one value of bytes or a text (which is no
+    path), or an iterable of `Call`.
     `complete` is the version that all began with, where the log has all calls; `margin` says how far
     the clocks of two clients may be apart, in the unit of the times. `key` names the member that
     has a line's key, and each key is then judged by itself, as one register; where it is None or
@@ -203,7 +211,8 @@ def audit_text(
     That is the first fault, or with `all` each, and why; or how much a verdict without a fault
     stands on, and with `history` an order that explains the lines. `totals` say, where a fault
     stands, how much was judged and how many faults there are of each kind; without `all` these
-    alone. With `json` it is objects, one a line, and not sentences. `show` names members that are
+    alone. With `json` it is objects, one a line, and not sentences. (`fdb_audit --all` is `all` and
+    `totals`, `--summary` is `totals` alone, `--json` is all three.) `show` names members that are
     told beside each line; a name that is empty or has a comma is a `ValueError`. An iterable of
     `Call` has no members, and names a client by its number.
     """

@@ -49,6 +49,7 @@ class Watch(Handle):
     def push(self, piece: Text) -> None:
         """Takes the next bytes of the log, cut anywhere; a line that is refused is left out.
 
+        That, also of a line without times, is told by `warnings` after the next `tell` or `end`.
         `Refused` says MEMORY, which ends the watch, or OVER where it was over before.
         """
         given = octets("a piece", piece)
@@ -57,8 +58,11 @@ class Watch(Handle):
     def tell(self, idle: bool = True) -> str:
         """Says what has become certain since it said so last, each fault once: as `text` from then.
 
-        It looks for that where `idle` says that no more may come for a while, else only once 8,192
-        lines have come. It is refused as `push` is; what was said last then stays.
+        It looks for that at once, or without `idle` once 8,192 lines have come since it last did,
+        which costs less where more is there to be read: at each call that began more than `behind`
+        before the newest end. A line that comes later and began as early is not refused; its version
+        counts, but it is judged only if it began at most `behind` before that. It is refused as
+        `push` is; what was said last then stays.
         """
         is_idle = flag("idle", idle)
 
@@ -75,8 +79,9 @@ class Watch(Handle):
         """Says, as `text`, what is left where the log ends here: the watch is then over.
 
         FAULT where a fault was told, at any time, else OK. Where none was, and lines were left out,
-        `LogRefused` has the last of them, or EMPTY where no line came; the text is there all the
-        same. `Refused` is raised as by `push`.
+        it raises `LogRefused` of the last of them, or of EMPTY where no line came; the text is there
+        all the same. Without a fault that is `audit ok` and how many lines there were. `Refused` is
+        raised as by `push`.
         """
         refused = RawRefused()
         return verdict(self._call(library.fdb_watch_end, byref(refused)), refused)

@@ -6,7 +6,7 @@ use std::ffi::c_void;
 use std::ptr;
 
 /// The version of the header; `fdb_read_version_version` says that of the library.
-pub const FDB_READ_VERSION_VERSION: u32 = 200;
+pub const FDB_READ_VERSION_VERSION: u32 = 300;
 
 pub const FDB_OK: u8 = 0;
 pub const FDB_BAD_EPOCH: u8 = 1;
@@ -50,6 +50,7 @@ pub const FDB_REPORT: u8 = 5;
 pub const FDB_LEARN: u8 = 6;
 pub const FDB_BEGAN: u8 = 7;
 pub const FDB_ENDED: u8 = 8;
+pub const FDB_KEY: u8 = 9;
 
 pub const FDB_FAULT_ORDER: u8 = 1;
 pub const FDB_FAULT_WRONG: u8 = 2;
