@@ -48,7 +48,7 @@ extern "C" {
 uint32_t fdb_read_version_version(void);
 
 /* What a function answers: FDB_OK, or why it refuses; of a log FDB_FAULT too, which is a verdict.
- * Texts and docs/FORMATS.md write these names without FDB_, as NotJson. */
+ * (Texts and docs/FORMATS.md spell FDB_NOT_JSON as NotJson.) */
 enum {
     FDB_OK = 0,
     FDB_BAD_EPOCH = 1,        /* the recovery version is at most the epoch's end, or 2^63 or more */
@@ -77,7 +77,7 @@ enum {
     FDB_OVER = 41             /* a log has ended or was refused before, or memory was */
 };
 
-/* The name of what a function answers, without FDB_, or NULL where there is no such answer. */
+/* The name of what a function answers, as NOT_JSON, or NULL where there is no such answer. */
 static inline const char *fdb_status_name(uint8_t status) {
     switch (status) {
     case FDB_OK: return "OK";
@@ -157,9 +157,9 @@ uint8_t fdb_chain_new(uint64_t epoch_end, uint64_t recovery, uint32_t proxies, f
  * is above the one before by the microseconds from the request that drew that one to this, by 1 at
  * least and 5,000,000 at most: by 1 where this moment is the earlier one, from which the next step
  * then counts. A request that draws a version lets the answers of its proxy that are kept, up to its
- * `processed`, go, never its own; these numbers, and 0, are then forgotten. An answer takes 72 bytes
- * until it goes, and no more than that is kept: where proxies process what they get, a chain stays as
- * small as it is, and one that never does wants memory in the end.
+ * `processed`, go, never its own: these numbers are then forgotten, as 0 always is. An answer takes
+ * 72 bytes until it goes, and no more than that is kept: where proxies process what they get, a chain
+ * stays as small as it is, and one that never does wants memory in the end.
  *
  * FDB_OK, else FDB_UNKNOWN_PROXY, FDB_EARLY, FDB_FORGOTTEN, FDB_EXHAUSTED, the first that stands;
  * `answer->status` is the same, and a refusal leaves the chain as it was. FDB_MEMORY comes only
@@ -208,7 +208,8 @@ uint64_t fdb_record_version_for(const fdb_record *kept, bool use_min);
  * third. */
 enum { FDB_SYSTEM = 0, FDB_DEFAULT = 1, FDB_BATCH = 2 };
 
-/* The rates, in transactions for each two seconds, and the capacity. */
+/* The capacity, and the rates: how many transactions a window may start beside what the rate's budget
+ * has, which gains as many in two seconds. */
 typedef struct fdb_queue_config {
     uint64_t normal; /* 1 to 100,000 */
     uint64_t batch;  /* 0 to 100,000; with 0 no batch request is let in */
@@ -222,7 +223,8 @@ typedef struct fdb_request {
     uint8_t priority; /* FDB_SYSTEM, FDB_DEFAULT or FDB_BATCH */
 } fdb_request;
 
-/* The outcome of an operation, and what the queue then is. */
+/* The outcome of an operation, and what the queue then is: on a refusal what it was, with all from
+ * `started` to `has_out` 0 and false. */
 typedef struct fdb_outcome {
     uint64_t normal;        /* the budget of the normal rate, of which FDB_TRANSACTION are one */
     uint64_t batch;         /* the budget of the batch rate */
@@ -270,14 +272,15 @@ uint8_t fdb_queue_offer(fdb_queue *queue, const fdb_request *request, fdb_outcom
  * as many as wait, or for FDB_MOST_STARTED where more do. `*queue` must be a queue.
  *
  * Let `sum` be the transactions of a request and of all that start before it in this window. A system
- * request may start; a default one by the normal rate, and a batch one by both rates, where
+ * request may always start; a default one where the normal rate lets it, and a batch one where both
+ * do. A rate does where
  *
  *     sum * FDB_TRANSACTION <= rate * FDB_TRANSACTION + budget   and   sum <= 100,000
  *
  * Then a rate's budget becomes `budget + elapsed * (rate - paid)`, where `paid` are the transactions
  * that started: for the batch rate all, for the normal rate those of system and default requests. It
- * is 0 where that is below 0, and at most 100,000 transactions, or 10 where nothing is left in the
- * row that it pays for.
+ * is 0 where that is below 0, and at most 100,000 transactions, or 10 where no request waits any more
+ * that this rate would pay for.
  *
  * FDB_ROOM, else FDB_BAD_CONFIG for a time out of range, else FDB_MEMORY or FDB_OK. Of FDB_OK and
  * FDB_BAD_CONFIG `outcome->status` is the same, and the latter leaves the queue as it was. FDB_ROOM,
@@ -286,8 +289,9 @@ uint8_t fdb_queue_offer(fdb_queue *queue, const fdb_request *request, fdb_outcom
 uint8_t fdb_queue_window(fdb_queue *queue, uint64_t elapsed, fdb_outcome *outcome,
                          fdb_request *started, size_t started_length);
 
-/* Takes the first request of the row out, whatever the rates say of it: `outcome->out`. `*queue`
- * must be a queue. Constant time, and no memory. */
+/* Takes the first request of the row out, whatever the rates say of it: `outcome->out`, if there is
+ * one; `outcome->status` is FDB_OK, and the budgets stay. `*queue` must be a queue. Constant time, and
+ * no memory. */
 void fdb_queue_pop(fdb_queue *queue, fdb_outcome *outcome);
 
 /* A batch request that new rates turned away. */
@@ -421,7 +425,8 @@ static inline const char *fdb_member_name(uint8_t member) {
 typedef struct fdb_call {
     uint64_t version; /* the version; of FDB_LEARN nothing */
     uint64_t began;   /* with `has_times`, when the call began, in any one unit */
-    uint64_t ended;   /* with `has_ended` too, when it ended: not before it began */
+    uint64_t ended;   /* with `has_ended` too, when it ended: not before it began; without, it comes
+                         before no other call, not of its own client either */
     uint32_t client;  /* with `has_client`, whose call it was, by any number */
     uint32_t teller;  /* of FDB_LEARN, from whom the client has learnt: one of a call above */
     uint8_t kind;     /* FDB_READ, FDB_COMMIT, FDB_ASK, FDB_REPORT or, without times, FDB_LEARN */
@@ -518,6 +523,12 @@ typedef struct fdb_fault {
  *     audit fault: Order 2: client "b" read 100, but 200 was known:
  *         line 1 (client "a", commit 200) had ended 1 before line 2 began
  *
+ * with `all` and `totals` too, with such a line for each fault and then, in this case,
+ *
+ *     audit total lines 2 timed 2 reads 1 commits 1 asks 0 reports 0 learns 0 unreported 1 ordered 1
+ *     audit total faults 1 Order 1 Wrong 0 NotAbove 0 Twice 0 Stray 0
+ *     audit total client "b" faults 1 Order 1 Wrong 0 NotAbove 0 Twice 0 Stray 0
+ *
  * FDB_OK where some history explains the log, else FDB_FAULT; `*size` is how long the text is. Where
  * `text` is too short, FDB_ROOM goes before both: `*size` is then the length that it needs, and
  * nothing is written to it. Before all goes a refusal of the log: FDB_EMPTY where it has no line, and
@@ -587,9 +598,11 @@ uint8_t fdb_audit_new(const fdb_audit_options *options, const uint8_t *key, size
  * Takes the next bytes of the text, cut anywhere. It keeps the log's lines and not their bytes.
  * `*audit` must be an audit.
  *
- * FDB_OK, else the refusal of the first line that is wrong, as fdb_audit_log_text, and `*refused`
- * says which, whatever may come after it; or FDB_MEMORY. Either ends the audit, and what it kept of
- * the log is freed. FDB_OVER where it was over before; nothing has changed then. Linear in the bytes.
+ * FDB_OK, else the refusal of the first line that is wrong, whatever may come after it, as
+ * fdb_audit_log_text, and `*refused` says which: with keys FDB_BAD_MEMBER also where a client has
+ * learnt (FDB_LEARN), and where a key is no string and no whole number (FDB_KEY). Or FDB_MEMORY.
+ * Either ends the audit, and what it kept of the log is freed. FDB_OVER where it was over before;
+ * nothing has changed then. Linear in the bytes.
  */
 uint8_t fdb_audit_push(fdb_audit *audit, const uint8_t *bytes, size_t bytes_length,
                        fdb_refused *refused);
@@ -598,10 +611,9 @@ uint8_t fdb_audit_push(fdb_audit *audit, const uint8_t *bytes, size_t bytes_leng
  * Audits the log, which ends here, with half a line that has come last; what it kept of the log is
  * freed, and what it found stays. The audit is then over. `*audit` must be an audit.
  *
- * FDB_OK, FDB_FAULT or the refusal, as by fdb_audit_log_text for all bytes that have come; of a log
- * with keys FDB_BAD_MEMBER also where a client has learnt (FDB_LEARN), and where a key is no string and
- * no whole number (FDB_KEY). FDB_OVER where it was over before. FDB_MEMORY and a refusal find nothing.
- * `n log n` in the lines, twice.
+ * FDB_OK or FDB_FAULT; else the refusal, as by fdb_audit_push, and FDB_EMPTY where no line has come.
+ * FDB_OVER where it was over before. FDB_MEMORY and a refusal find nothing. `n log n` in the lines,
+ * twice.
  */
 uint8_t fdb_audit_end(fdb_audit *audit, fdb_refused *refused);
 
@@ -662,12 +674,12 @@ uint8_t fdb_watch_push(fdb_watch *watch, const uint8_t *bytes, size_t bytes_leng
 
 /*
  * Says what has become certain since it said so last: each stale read, and each version that was
- * drawn and is not above what its caller knew, once. It looks once 8,192 lines have come since it
- * last did, or at once with `is_idle`, as where no more is there to be read: at each call that began
- * more than `behind` before the newest end. A line that comes later and began as early is no refused
- * one; its version counts, but it is judged only if it began at most `behind` before that. What is
- * said, be it nothing, is then the text, and the warnings have a line for each line that was refused
- * since; what they were before is gone. `*watch` must be a watch.
+ * drawn and is not above what its caller knew, once. With `is_idle`, which is always allowed, it looks
+ * at once, and else, where more is there to be read, once 8,192 lines have come since it last did:
+ * at each call that began more than `behind` before the newest end. A line that comes later and began
+ * as early is no refused one; its version counts, but it is judged only if it began at most `behind`
+ * before that. What is said, be it nothing, is then the text, and the warnings have a line for each
+ * line that was refused since; what they were before is gone. `*watch` must be a watch.
  *
  * FDB_OK, else FDB_OVER or FDB_MEMORY, as fdb_watch_push; text and warnings are then as they were.
  * `n log n` in the lines that are kept.

@@ -69,7 +69,7 @@ pub struct Issued {
 #[derive(Clone, Copy, Debug, PartialEq, Eq, Hash, PartialOrd, Ord)]
 #[non_exhaustive]
 pub enum ChainError {
-    /// The recovery version is not above the epoch's end, or above the greatest version.
+    /// The recovery version is not above the epoch's end, or is 2^63 or more.
     BadEpoch,
     /// There are not 1 to 64 commit proxies.
     NoProxy,
@@ -82,7 +82,7 @@ pub enum ChainError {
     },
     /// The answer is not kept any more.
     Forgotten,
-    /// The versions are used up.
+    /// The versions are used up: it would be 2^63 or more.
     Exhausted,
     /// Memory was refused.
     Memory,
@@ -180,7 +180,7 @@ impl Chain {
     /// other is above the one before by the microseconds from the request that drew that one to
     /// this, by 1 at least and 5,000,000 at most: by 1 where this moment is the earlier one, from
     /// which the next step then counts. A request that draws lets the answers of its proxy that are
-    /// kept, up to its `processed`, go, never its own; these numbers, and 0, are then forgotten.
+    /// kept, up to its `processed`, go, never its own: these numbers are then forgotten, as 0 always is.
     ///
     /// # Errors
     /// `UnknownProxy`, `Early`, `Forgotten`, `Exhausted` or `Memory`, the first that stands.

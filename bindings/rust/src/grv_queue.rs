@@ -25,7 +25,8 @@ pub enum Priority {
     Batch = 2,
 }
 
-/// The rates, in transactions for each two seconds, and the most requests that wait.
+/// The most requests that wait, and the rates: how many transactions a window may start beside what
+/// the rate's budget has, which gains as many in two seconds.
 ///
 /// ```
 /// use fdb_read_version::{GrvQueue, QueueConfig, QueueError};
@@ -352,8 +353,8 @@ impl GrvQueue {
     ///
     /// It starts the first requests of the row, up to the first that may not start, and 10,000 at
     /// most. Let `sum` be the transactions of a request and of all that start before it in this
-    /// window. A system request may start; a default one by the normal rate, and a batch one by both
-    /// rates, where
+    /// window. A system request may always start; a default one where the normal rate lets it, and a
+    /// batch one where both do. A rate does where
     ///
     /// ```text
     /// sum * 2_000_000 <= rate * 2_000_000 + budget   and   sum <= 100_000
@@ -362,7 +363,7 @@ impl GrvQueue {
     /// Then a rate's budget becomes `budget + elapsed * (rate - paid)`, where `paid` are the
     /// transactions that started: for the batch rate all, for the normal rate those of system and
     /// default requests. It is 0 where that is below 0, and at most 100,000 transactions, or 10 where
-    /// nothing is left in the row that it pays for.
+    /// no request waits any more that this rate would pay for.
     ///
     /// # Errors
     /// `BadConfig`, for a time out of range, or `Memory`.
@@ -409,7 +410,9 @@ impl GrvQueue {
     }
 
     /// How many windows of `elapsed` microseconds start nothing before one starts the first of the
-    /// row, where that one waits for its own rate alone.
+    /// row, where that one waits for its own rate alone. It does not in an empty row, for a system
+    /// request, for a batch one that the normal rate may hold or whose own rate is 0, and for a time
+    /// out of range.
     pub fn waits(&mut self, elapsed: u64) -> Option<u64> {
         let mut windows = 0;
         // SAFETY: the handle is a queue.
@@ -482,7 +485,7 @@ impl GrvQueue {
         unsafe { sys::fdb_queue_forget_throttles(&mut self.handle, at) }
     }
 
-    /// Takes the first request of the row out, whatever the rates say of it.
+    /// Takes the first request of the row out, whatever the rates say of it; the budgets stay.
     pub fn pop(&mut self) -> Option<Request> {
         let mut outcome = sys::fdb_outcome::default();
         // SAFETY: the handle is a queue.

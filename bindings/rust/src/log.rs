@@ -46,7 +46,8 @@ pub enum Call {
 pub struct Times {
     /// When it began.
     pub began: u64,
-    /// When it ended, where that is known.
+    /// When it ended, where that is known; else it comes before no other call, not of its own client
+    /// either.
     pub ended: Option<u64>,
 }
 

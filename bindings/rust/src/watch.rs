@@ -101,9 +101,9 @@ impl Watch {
     /// Says what has become certain since it said so last, each fault once; that is the text from
     /// then on.
     ///
-    /// It looks for it at once where `is_idle` holds, else once 8,192 lines have come since it last
-    /// did, which costs less where more is there to be read: at each call that began more than
-    /// `behind` before the newest end. A line that comes later and began as early is not refused; its
+    /// Where `is_idle` holds, which is always allowed, it looks for it at once, and else, where more is
+    /// there to be read, once 8,192 lines have come since it last did: at each call that began more
+    /// than `behind` before the newest end. A line that comes later and began as early is not refused; its
     /// version counts, but it is judged only if it began at most `behind` before that.
     ///
     /// # Errors
@@ -120,7 +120,7 @@ impl Watch {
     ///
     /// # Errors
     /// `Refused`, where no fault was told and lines were left out, with the last of them, or where
-    /// no line came: the text is there all the same. Else as [`push`](Watch::push).
+    /// no line came: text and warnings are there all the same. Else as [`push`](Watch::push).
     pub fn end(&mut self) -> Result<bool, LogError> {
         // SAFETY: the handle is a watch.
         ended(|refused| unsafe { sys::fdb_watch_end(&mut self.handle, refused) })

@@ -16,7 +16,8 @@ pub const FDB_OP_WINDOW: u8 = 1;
 /// Takes the first request out.
 pub const FDB_OP_POP: u8 = 2;
 
-/// The rates of a queue, in transactions for each two seconds, and its capacity.
+/// The capacity of a queue, and its rates: how many transactions a window may start beside what the
+/// rate's budget has, which gains as many in two seconds.
 #[repr(C)]
 #[derive(Clone, Copy)]
 pub struct FdbQueueConfig {

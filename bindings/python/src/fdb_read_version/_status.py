@@ -35,7 +35,13 @@ class Status(Named):
 
 
 class Refused(Exception):
-    """A refusal: its `status`, and of an early request the number that is `expected`, else 0."""
+    """A refusal: its `status`, and of an early request the number that is `expected`, else 0.
+
+    It is printed as `FULL` or `EARLY, expected 2`.
+    """
+
+    status: Status
+    expected: int
 
     def __init__(self, status: int, expected: int = 0) -> None:
         # (what a pickle or a copy is made from)

@@ -2,10 +2,11 @@
 from __future__ import annotations
 
 from enum import IntEnum
+from mmap import mmap
 from operator import index
 from typing import Any, List, Optional, Sequence, Type, TypeVar, Union
 
-Text = Union[bytes, bytearray, memoryview, str]
+Text = Union[bytes, bytearray, memoryview, mmap, str]
 _T = TypeVar("_T")
 _N = TypeVar("_N", bound="Named")
 

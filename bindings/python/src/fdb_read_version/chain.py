@@ -71,7 +71,8 @@ class Chain(Handle):
     """The commit versions of an epoch, as the sequencer issues them.
 
     The epoch begins with version `recovery`, after one that ended with `epoch_end`; `proxies` is the
-    number of its commit proxies, 1 to 64. `Refused` says BAD_EPOCH, NO_PROXY or MEMORY.
+    number of its commit proxies. `Refused` says BAD_EPOCH, unless `recovery` is above `epoch_end` and
+    below 2^63, NO_PROXY, unless there are 1 to 64, or MEMORY.
 
     Threads may share one: their calls wait for one another. It is freed by `close`, at the end of a
     `with`, or when nobody has it any more, and can be neither copied nor pickled.
@@ -90,10 +91,11 @@ class Chain(Handle):
         Each other is above the one before by the microseconds from the request that drew that one to
         this, by 1 at least and 5,000,000 at most: by 1 where this moment is the earlier one, from
         which the next step then counts. A request that draws lets the answers of its proxy that are
-        kept, up to `processed`, go, never its own; these numbers, and 0, are then forgotten.
+        kept, up to `processed`, go, never its own: these numbers are then forgotten, as 0 always is.
 
         `Refused` says UNKNOWN_PROXY, EARLY (with the number that is expected), FORGOTTEN,
-        EXHAUSTED or MEMORY, the first that stands; the chain is then as it was.
+        EXHAUSTED (the version would be 2^63 or more) or MEMORY, the first that stands; the chain is
+        then as it was.
         """
         ask, raw = Ask(proxy, num, at, processed)._raw(), RawAnswer()
         status = self._call(library.fdb_chain_ask, byref(ask), byref(raw))

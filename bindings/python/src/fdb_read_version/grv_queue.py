@@ -32,9 +32,10 @@ class Priority(Named):
 
 @dataclass(frozen=True, order=True)
 class QueueConfig:
-    """The rates, in transactions for each two seconds, and the most requests that wait.
+    """The rates, and the most requests that wait.
 
-    `normal` is 1 to 100,000, `batch` 0 to 100,000 (with 0 no batch request is let in) and `room` 1
+    A rate is how many transactions a window may start beside what the rate's budget has, which gains
+    as many in two seconds. `normal` is 1 to 100,000, `batch` 0 to 100,000 (with 0 no batch request is let in) and `room` 1
     to 100,000.
     """
 
@@ -165,15 +166,15 @@ class GrvQueue(Handle):
 
         It starts the first requests of the row, up to the first that may not start, and 10,000 at
         most. Let `sum` be the transactions of a request and of all that start before it in this
-        window. A system request may start; a default one by the normal rate, and a batch one by both
-        rates, where
+        window. A system request may always start; a default one where the normal rate lets it, and a
+        batch one where both do. A rate does where
 
             sum * 2_000_000 <= rate * 2_000_000 + budget   and   sum <= 100_000
 
         Then a rate's budget becomes `budget + elapsed * (rate - paid)`, where `paid` are the
         transactions that started: for the batch rate all, for the normal rate those of system and
         default requests. It is 0 where that is below 0, and at most 100,000 transactions, or 10 where
-        nothing is left in the row that it pays for.
+        no request waits any more that this rate would pay for.
 
         `Refused` says BAD_CONFIG, for a time out of range, or MEMORY; the queue is then as it was.
         """
@@ -188,7 +189,10 @@ class GrvQueue(Handle):
         return outcome
 
     def pop(self) -> Outcome:
-        """Takes the first request of the row out, whatever the rates say of it."""
+        """Takes the first request of the row out, whatever the rates say of it.
+
+        That is `out`, or None where nothing waits. The budgets stay.
+        """
         raw = RawOutcome()
         self._call(library.fdb_queue_pop, byref(raw))
         return _outcome(raw)
@@ -213,7 +217,9 @@ class GrvQueue(Handle):
     def waits(self, elapsed: int) -> Optional[int]:
         """How many windows of `elapsed` microseconds start nothing before one starts the first.
 
-        That is the first of the row. It is None where that one does not wait for its own rate alone.
+        That is the first of the row. It is None where that one does not wait for its own rate alone:
+        in an empty row, for a system request, for a batch one that the normal rate may hold or whose
+        own rate is 0, and for a time out of range.
         """
         windows = c_uint64()
         time = number("elapsed", elapsed)
@@ -223,7 +229,7 @@ class GrvQueue(Handle):
     def set_throttle(self, priority: Priority, tag: Text, rate: int, expires: int) -> None:
         """Sets the throttle of a tag, of at most 16 bytes, in the place of an older one.
 
-        `rate` is in transactions per second, and it holds until the moment `expires`, in
+        `rate` is in transactions per second, and it holds at each moment before `expires`, in
         microseconds. `Refused` says TAG_TOO_LONG or MEMORY; the queue is then as it was. The queue
         itself does not ask for throttles.
         """
@@ -242,7 +248,7 @@ class GrvQueue(Handle):
     def forget_throttles(self, at: int) -> None:
         """Forgets each throttle that expires at this moment, in microseconds, or before.
 
-        From it on all answers are as if none were forgotten.
+        Of that moment and later ones, all answers are as if none were forgotten.
         """
         self._call(library.fdb_queue_forget_throttles, number("at", at))
 

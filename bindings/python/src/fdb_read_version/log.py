@@ -70,7 +70,7 @@ class Call:
 
     `kind` is READ, COMMIT, ASK, REPORT or LEARN. `client` is any number of 32 bits for who made the
     call; `began` and `ended` are in any one unit, on all lines or on none, and `ended` is None where
-    it is not known. Without times every line names its client, and one that has learnt what another
+    it is not known: it then comes before no other call, not of its own client either. Without times every line names its client, and one that has learnt what another
     knew, the `teller`, has no version: `Call(Member.LEARN, client=1, teller=0)`. A call above is the
     teller's.
     """
@@ -148,8 +148,12 @@ class Fault:
 class LogRefused(Refused):
     """A log that is refused: its first wrong `line`, counted from 1, and maybe which `member`.
 
-    Where it is a text without a line, `line` is 0.
+    Where it is a text without a line, `line` is 0. It is printed as `BAD_MEMBER 2 read`, `NOT_JSON 3`
+    or `EMPTY`.
     """
+
+    line: int
+    member: Optional[Member]
 
     def __init__(self, status: int, line: int, member: Optional[int] = None) -> None:
         super().__init__(status)
@@ -214,7 +218,7 @@ def audit_text(
     alone. With `json` it is objects, one a line, and not sentences. (`fdb_audit --all` is `all` and
     `totals`, `--summary` is `totals` alone, `--json` is all three.) `show` names members that are
     told beside each line; a name that is empty or has a comma is a `ValueError`. An iterable of
-    `Call` has no members, and names a client by its number.
+    `Call` has no members, and its clients are told by number, as `client 2`.
     """
     has_members = key is not None or len(show) > 0
     given, _, name = _log(log, has_members)

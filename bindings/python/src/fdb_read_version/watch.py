@@ -58,9 +58,9 @@ class Watch(Handle):
     def tell(self, idle: bool = True) -> str:
         """Says what has become certain since it said so last, each fault once: as `text` from then.
 
-        It looks for that at once, or without `idle` once 8,192 lines have come since it last did,
-        which costs less where more is there to be read: at each call that began more than `behind`
-        before the newest end. A line that comes later and began as early is not refused; its version
+        With `idle`, which is always allowed, it looks for that at once, and else, where more is there
+        to be read, once 8,192 lines have come since it last did: at each call that began more than
+        `behind` before the newest end. A line that comes later and began as early is not refused; its version
         counts, but it is judged only if it began at most `behind` before that. It is refused as
         `push` is; what was said last then stays.
         """
@@ -79,8 +79,8 @@ class Watch(Handle):
         """Says, as `text`, what is left where the log ends here: the watch is then over.
 
         FAULT where a fault was told, at any time, else OK. Where none was, and lines were left out,
-        it raises `LogRefused` of the last of them, or of EMPTY where no line came; the text is there
-        all the same. Without a fault that is `audit ok` and how many lines there were. `Refused` is
+        it raises `LogRefused` of the last of them, or of EMPTY where no line came; text and warnings
+        are there all the same. Without a fault that is `audit ok` and how many lines there were. `Refused` is
         raised as by `push`.
         """
         refused = RawRefused()
