@@ -160,7 +160,7 @@ class OfInputs(unittest.TestCase):
             "what is shown of calls": lambda: audit_text([Call(Member.READ, 1, 1)], show=["k"]),
             "a key that is no text": lambda: Audit(key="\ud800"),
             "a client above 32 bits": lambda: audit([Call(Member.READ, 1, client=1 << 32)]),
-            "no such member": lambda: audit([Call(9, 1, 1)]),
+            "no such member": lambda: audit([Call(10, 1, 1)]),
             "an end and no begin": lambda: audit([Call(Member.READ, 1, 1, ended=2)]),
             "a read of no version": lambda: audit([Call(Member.READ, client=1)]),
             "a teller of a read": lambda: audit([Call(Member.READ, 1, 1, teller=1)]),
