@@ -1,13 +1,17 @@
 """What each function answers, in each field, as it was worked out by hand from the header's text."""
+import contextlib
 import ctypes
+import io
 import json
 import subprocess
 import sys
 import tempfile
 import unittest
 from pathlib import Path
+from unittest import mock
 
 from fdb_read_version import *
+from fdb_read_version import __main__ as program
 
 SYSTEM, DEFAULT, BATCH = Priority
 LAST = 2**63 - 1
@@ -529,6 +533,13 @@ class OfLogs(unittest.TestCase):
                 ran = subprocess.run(words, input=given, capture_output=True)
                 self.assertEqual((ran.returncode, ran.stdout.decode()), (status, out))
                 self.assertTrue(ran.stderr.decode().endswith(err), ran.stderr)
+
+    def test_program_without_memory(self):
+        for error in (Refused(Status.MEMORY), MemoryError("none")):
+            with mock.patch.object(program, "Audit", side_effect=error):
+                with contextlib.redirect_stderr(io.StringIO()) as said:
+                    self.assertEqual(program.main(["-"]), 3)
+            self.assertEqual(said.getvalue(), f"fdb_read_version: {error}\n")
 
 
 COMMIT = '{"client":"a","commit":200,"began":10,"ended":14%s}\n'
