@@ -209,5 +209,5 @@ def fault_of_crates():
         more = set(sum(below, []))
         needed = {it for it in more if it.startswith("fdb_")} - found
     named = re.search(r"crates/fdb_\{(.*?)\}", text_of("tools/bindings"))[1].split(",")
-    fault = found ^ {f"fdb_{it}" for it in named}
+    fault = found ^ {"fdb_c", *(f"fdb_{it}" for it in named)}
     return f"{fault}" if fault else None
