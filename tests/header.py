@@ -167,8 +167,10 @@ def named(_program):
     ):
         own = re.search(pattern, text_of(file), re.MULTILINE)[1]
         yield f"the version in {file}", None if own == version else own
-    for file in ("bindings/rust/Cargo.toml", "bindings/python/pyproject.toml"):
-        parts = re.search(r'^version = "(\d+)\.(\d+)\.(\d+)"', text_of(file), re.MULTILINE)
+    own = "bindings/python/src/fdb_read_version/__init__.py"
+    for file in ("bindings/rust/Cargo.toml", "bindings/python/pyproject.toml", own):
+        form = r'^(?:__)?version(?:__)? = "(\d+)\.(\d+)\.(\d+)"'
+        parts = re.search(form, text_of(file), re.MULTILINE)
         number = sum(int(it) * by for it, by in zip(parts.groups(), (10000, 100, 1)))
         yield f"the version in {file}", None if str(number) == version else parts[0]
 

@@ -237,13 +237,14 @@ class OfHandles(unittest.TestCase):
             (Audit, (), ()),
             (Watch, (5,), (6,)),
         ):
-            for end in (lambda it: it.close(), lambda it: it.__init__(*again), lambda it: None):
+            for ends in ([kind.close], [lambda it: it.__init__(*again), kind.close], []):
                 kept, before = [], library.mallinfo2()
                 for _ in range(1000):
                     made = kind(*given)
-                    end(made)
-                    made.close()
+                    for end in ends:
+                        end(made)
                     kept.append(made._raw)
+                    # (the last reference)
                     del made
                 grown = getattr(library.mallinfo2(), "7") - getattr(before, "7")
                 self.assertLess(grown, 1000 * 40, "bytes that are not freed")
@@ -524,7 +525,12 @@ class OfLogs(unittest.TestCase):
                 (["--history", "-"], stale[:24], 0, audit_text(stale[:24], history=True), ""),
                 (["--complete=3", "-"], stale[:24], 4, audit_text(stale[:24], complete=3), ""),
                 (["-"], b"[", 1, "", "fdb_read_version: NOT_JSON 1\n"),
-                (["--margin=-1", "-"], stale, 2, "", "margin is out of range: -1\n"),
+                ([], stale, 4, audit_text(stale), ""),
+                (["--margin=5", "-"], STALE.encode(), 0, audit_text(STALE, margin=5), ""),
+                (["--margin=-1", "-"], stale, 2, "", "--margin: no whole number: -1\n"),
+                (["--margin= 1_0", "-"], stale, 2, "", "--margin: no whole number:  1_0\n"),
+                (["--complete", str(LAST + 1), "-"], stale, 2, "", f"value: '{LAST + 1}'\n"),
+                (["--marg=1", "-"], stale, 2, "", "unrecognized arguments: --marg=1\n"),
                 (["--key=", "-"], stale, 2, "", "--key names no member\n"),
                 (["--show=a,,b", "-"], stale, 2, "", "is empty or has a comma: ['a', '', 'b']\n"),
                 ([f"{room}/none"], b"", 5, "", f"No such file or directory: '{room}/none'\n"),

@@ -3,6 +3,7 @@ is refused as a value."""
 import _ctypes
 import copy
 import dataclasses
+import io
 import multiprocessing
 import os
 import pickle
@@ -11,8 +12,10 @@ import sys
 import tempfile
 import unittest
 from pathlib import Path
+from unittest import mock
 
 import fdb_read_version as package
+from fdb_read_version import _library
 from fdb_read_version import *
 
 NUMBERS = {
@@ -69,7 +72,11 @@ class OfValues(unittest.TestCase):
                 for field in dataclasses.fields(value) if dataclasses.is_dataclass(value) else ():
                     with self.assertRaises(dataclasses.FrozenInstanceError):
                         setattr(value, field.name, None)
+        for kind in (Ask, Issued, QueueConfig, Request, Offer, Window, TurnedAway, Limit):
+            one, other = next(it for it in [*VALUES, (REQUEST, Request(1))] if type(it[0]) is kind)
+            self.assertEqual(sorted([one, other]), sorted([other, one]))
         self.assertLess(Ask(0, 1, 2), Ask(0, 1, 3))
+        self.assertEqual(Pop(), sorted([Pop(), Pop()])[0])
         known = {it for pair in VALUES for it in pair}
         tried = {type(it) for it in known} | {*NUMBERS, Audit, Chain, GrvQueue, Watch}
         public = {it for it in vars(package).values() if isinstance(it, type)}
@@ -121,6 +128,12 @@ class OfInputs(unittest.TestCase):
             "a tag": lambda: queue.throttle(Priority.BATCH, 7, 1),
             "a list as a tag": lambda: queue.set_throttle(Priority.BATCH, [1], 1, 1),
             "a log": lambda: audit(None),
+            "a file": lambda: audit(io.BytesIO()),
+            "a file of lines": lambda: audit_text(io.StringIO('{"client":"a","read":1}')),
+            "another enum": lambda: audit([Call(Status.NO_PROXY, 1, 1)]),
+            "another priority": lambda: queue.offer(1, 0, Member.CLIENT),
+            "a text that is shown of bytes": lambda: audit_text(b"{}", show=""),
+            "a text that is shown of calls": lambda: audit_text([], show="a"),
             "a path": lambda: audit(Path("log")),
             "lines": lambda: audit([b'{"read":1}']),
             "a text of lines": lambda: audit(['{"read":1}']),
@@ -160,6 +173,7 @@ class OfInputs(unittest.TestCase):
             "what is shown of calls": lambda: audit_text([Call(Member.READ, 1, 1)], show=["k"]),
             "a key that is no text": lambda: Audit(key="\ud800"),
             "a client above 32 bits": lambda: audit([Call(Member.READ, 1, client=1 << 32)]),
+            "a teller above 32 bits": lambda: audit([Call(Member.LEARN, client=1, teller=1 << 32)]),
             "no such member": lambda: audit([Call(10, 1, 1)]),
             "an end and no begin": lambda: audit([Call(Member.READ, 1, 1, ended=2)]),
             "a read of no version": lambda: audit([Call(Member.READ, client=1)]),
@@ -179,6 +193,18 @@ class OfInputs(unittest.TestCase):
         self.assertEqual((hash(record), record.metadata), (hash(record), b"0123456789"))
         self.assertIsInstance(record.metadata, bytes)
         self.assertEqual(Record(0).after_report(record), record)
+        last = 2**32 - 1
+        self.assertEqual(audit([Call(Member.READ, 1, last), Call(Member.LEARN, None, 1, teller=last)],
+                               key=""), [])
+
+    def test_the_version_of_the_library(self):
+        with mock.patch.object(_library, "VERSION", _library.VERSION + 1):
+            _library._loaded()
+        self.assertEqual(package.__version__, "0.3.0")
+        for other in (_library.VERSION + 100, _library.VERSION - 100):
+            with mock.patch.object(_library, "VERSION", other):
+                with self.assertRaisesRegex(ImportError, f"its version is 300, and the .* {other}"):
+                    _library._loaded()
 
     def test_a_library_that_cannot_be_loaded(self):
         with tempfile.TemporaryDirectory() as room:

@@ -7,7 +7,7 @@ a log of calls, of any system, and `audit_text` says what it found; `Audit` take
 piece, and `Watch` tells of one that grows what has become certain.
 
 Threads may share a handle (`Audit`, `Chain`, `GrvQueue`, `Watch`): its calls wait for one another.
-All other values never change. Versions and numbers are of 64 bits, and moments of a chain or a
+Values of data never change. Versions and numbers are of 64 bits, and moments of a chain or a
 throttle are microseconds.
 """
 from ._status import Refused, Status
@@ -41,6 +41,8 @@ from .log import (
 )
 from .register import Record
 from .watch import Watch
+
+__version__ = "0.3.0"
 
 __all__ = [
     "Ask",

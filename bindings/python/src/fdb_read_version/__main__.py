@@ -1,4 +1,4 @@
-"""Audits a log: `python -m fdb_read_version LOG` prints what `fdb_audit` does, and ends as it does."""
+"""Audits a log: `python -m fdb_read_version LOG` prints what `fdb_audit` does, and has its statuses."""
 from __future__ import annotations
 
 import argparse
@@ -6,6 +6,7 @@ import sys
 from typing import List, Optional
 
 from . import Audit, LogRefused, Refused, Status
+from ._values import number
 
 # (2 is argparse's, of words that are refused)
 _FINE, _LOG_REFUSED, _NO_MEMORY, _FAULT, _NO_STREAM = 0, 1, 3, 4, 5
@@ -16,20 +17,29 @@ def _read(name: str) -> bytes:
         return file.read()
 
 
+def _count(text: str) -> int:
+    if not (text.isascii() and text.isdigit()):
+        raise argparse.ArgumentTypeError(f"no whole number: {text}")
+    return number("it", int(text), 63)
+
+
 def main(words: Optional[List[str]] = None) -> int:
     """Audits the log that these words name, and gives the exit status."""
     reader = argparse.ArgumentParser(
         prog="python -m fdb_read_version",
+        allow_abbrev=False,
         description="Audits a log of read versions and commit versions.",
         epilog="Exit status: 0 no fault, 1 the log is refused, 2 the words are, 3 want of memory, "
         "4 a fault, 5 reading or writing failed.",
     )
-    reader.add_argument("log", metavar="LOG", help="its file, JSON Lines; - is standard input")
     reader.add_argument(
-        "--complete", type=int, metavar="START", help="all calls are here; all began at START"
+        "log", metavar="LOG", nargs="?", default="-", help="its file, JSON Lines; - is standard input"
     )
     reader.add_argument(
-        "--margin", type=int, default=0, metavar="N", help="how far two clocks may be apart"
+        "--complete", type=_count, metavar="START", help="all calls are here; all began at START"
+    )
+    reader.add_argument(
+        "--margin", type=_count, default=0, metavar="N", help="how far two clocks may be apart"
     )
     reader.add_argument("--key", metavar="MEMBER", help="judge each key, which it has, by itself")
     reader.add_argument(

@@ -46,7 +46,9 @@ def instance(name: str, value: Any, kind: Type[_T]) -> _T:
 
 def named(name: str, value: int, kind: Type[_N]) -> _N:
     """A number that has a name."""
-    return value if type(value) is kind else kind(number(name, value))
+    if isinstance(value, Named):
+        return instance(name, value, kind)
+    return kind(number(name, value))
 
 
 def octets(name: str, value: Text) -> bytes:

@@ -120,8 +120,9 @@ class Known:
 class Late:
     """By how much a call was late, and by which line, counted from 0.
 
-    That outdates the call and was the first to end: `by` is from its end to where the call began,
-    and the fault stands under each lesser margin; 0 where it had not ended by then.
+    Of the other lines that outdate the call, with a newer version than a read's, or one as new as
+    was drawn, it was the first to end. `by` is from its end to where the call began, and the fault
+    stands under each lesser margin; 0 where it had not ended by then.
     """
 
     line: int
@@ -179,16 +180,17 @@ def audit(
 ) -> List[Fault]:
     """All faults of a log, by line: none exactly where some history explains it.
 
-    The log is JSON Lines, as docs/FORMATS.md has them, in one value of bytes or a text (which is no
-    path), or an iterable of `Call`.
+    The log is JSON Lines, as docs/FORMATS.md has them, in one value of bytes or a text (no path and
+    no file), or an iterable of `Call`.
     `complete` is the version that all began with, where the log has all calls; `margin` says how far
     the clocks of two clients may be apart, in the unit of the times. `key` names the member that
     has a line's key, and each key is then judged by itself, as one register; where it is None or
     empty there are no keys, and a `Call` has none (`ValueError`). `LogRefused` is raised where a
     line is wrong or a text has none, and `Refused` says MEMORY.
     """
-    given, lines, name = _log(log, key is not None)
-    if key is not None:
+    has_key = any(members(key, ())[1::2])
+    given, lines, name = _log(log, has_key)
+    if has_key:
         with Audit(complete=complete, margin=margin, key=key) as keyed:
             keyed.push(given)
             keyed.end()
@@ -215,12 +217,13 @@ def audit_text(
     That is the first fault, or with `all` each, and why; or how much a verdict without a fault
     stands on, and with `history` an order that explains the lines. `totals` say, where a fault
     stands, how much was judged and how many faults there are of each kind; without `all` these
-    alone. With `json` it is objects, one a line, and not sentences. (`fdb_audit --all` is `all` and
+    alone. With `json` it is objects, one a line, and not sentences: totals too where no fault
+    stands. (`fdb_audit --all` is `all` and
     `totals`, `--summary` is `totals` alone, `--json` is all three.) `show` names members that are
     told beside each line; a name that is empty or has a comma is a `ValueError`. An iterable of
     `Call` has no members, and its clients are told by number, as `client 2`.
     """
-    has_members = key is not None or len(show) > 0
+    has_members = any(members(key, show)[1::2])
     given, _, name = _log(log, has_members)
     if name == "log" and (all or history or has_members):
         # (what may be long is found once, whatever room it needs)
@@ -328,7 +331,8 @@ def _log(log: Log, has_members: bool) -> Tuple[Any, int, str]:
         text = octets("the log", cast(Text, log))
         return text, text.count(b"\n") + 1, "log"
     except TypeError:
-        if not isinstance(log, Iterable):
+        # (a file that is empty would be a log without a call)
+        if not isinstance(log, Iterable) or hasattr(log, "read"):
             raise
     if has_members:
         raise ValueError("a call has no members: neither a key nor one that is shown")
