@@ -13,8 +13,8 @@
  * Memory comes from the program's malloc, realloc and free, which have to be of one allocator, and
  * to align blocks for any type. What grows: a chain by each answer, until its proxy has processed
  * it; a queue by each request that waits, and by each throttle until it is forgotten. What a handle
- * has its `..._free` frees, and all else the function that took it. An audit takes up to 73 KB of
- * stack, where a line is nested as deep as it may be. The code is for x86-64-v2, and does not look
+ * has its `..._free` frees, and all else the function that took it. An audit or a watch takes up to
+ * 140 KB of stack, where a line is nested as deep as it may be. The code is for x86-64-v2, and does not look
  * whether the processor is.
  *
  * Nothing checks what C passes. What a comment says of an argument is the caller's to keep:
@@ -496,13 +496,15 @@ enum {
  * fdb_refused count them from 1. What a reason does not name is 0. */
 typedef struct fdb_fault {
     uint64_t known;  /* the greatest that was known: of REASON_KNOWN and REASON_REPORTED */
-    uint64_t late;   /* with `has_late`, by how much the call was late, in the times' unit: the fault
-                        stands under each lesser margin; 0 where `first` had not ended by then */
+    uint64_t late;   /* with `has_late`, by how much the call was late, in the times' unit, from the end
+                        of `first`: the fault stands under each lesser margin; 0 where `first` had
+                        not ended by then */
     uint32_t line;   /* the line at which the fault stands */
     uint32_t other;  /* the line that reported or drew: of REASON_REPORTED and REASON_DRAWN */
     uint32_t by;     /* the line that let `known` be known; of several, any */
     uint32_t learnt; /* the line by which the client had learnt of that */
-    uint32_t first;  /* with `has_late`, the line that outdates the call and was the first to end */
+    uint32_t first;  /* with `has_late`, of the other lines that outdate the call, with a newer version
+                        than a read's, or one as new as was drawn, the first to end */
     uint8_t kind;    /* FDB_FAULT_ORDER to FDB_FAULT_STRAY */
     uint8_t reason;  /* FDB_REASON_KNOWN to FDB_REASON_UNDRAWN */
     uint8_t means;   /* how `known` was known, FDB_MEANS_START to FDB_MEANS_LEARNT */
@@ -644,7 +646,8 @@ typedef struct fdb_watch_options {
     bool json;       /* whether JSON objects are told, and not sentences */
 } fdb_watch_options;
 
-/* A watch, or none. It keeps the lines that may yet come to matter, and no others. */
+/* A watch, or none. It keeps the lines that may yet come to matter, and the name of each client and
+ * key. */
 typedef struct fdb_watch {
     void *at;
 } fdb_watch;
@@ -675,7 +678,7 @@ uint8_t fdb_watch_push(fdb_watch *watch, const uint8_t *bytes, size_t bytes_leng
 /*
  * Says what has become certain since it said so last: each stale read, and each version that was
  * drawn and is not above what its caller knew, once. With `is_idle`, which is always allowed, it looks
- * at once, and else, where more is there to be read, once 8,192 lines have come since it last did:
+ * at once, and else, where more is there to be read, once 8,192 lines were taken since it last did:
  * at each call that began more than `behind` before the newest end. A line that comes later and began
  * as early is no refused one; its version counts, but it is judged only if it began at most `behind`
  * before that. What is said, be it nothing, is then the text, and the warnings have a line for each
@@ -688,7 +691,9 @@ uint8_t fdb_watch_tell(fdb_watch *watch, bool is_idle);
 
 /*
  * Says what is left where the log ends, with half a line that has come last: the text and the
- * warnings are that, as by fdb_watch_tell, and the watch is over. `*watch` must be a watch.
+ * warnings are that, as by fdb_watch_tell, and the watch is over. Where no fault was told, the text is
+ * `audit ok` and how many lines were taken, but with `json` empty; `totals` follow. `*watch` must be a
+ * watch.
  *
  * FDB_FAULT where a fault was told, at any time. Else why the last line that was refused was, from
  * FDB_TOO_LONG to FDB_BAD_MEMBER, as fdb_audit_end, and `*refused` says which; FDB_EMPTY where no

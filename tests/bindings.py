@@ -101,6 +101,7 @@ def of_c(_program):
             ("tests/c/watch.c", SANITIZED, b"ok\n"),
             ("tests/c/memory.c", WRAPPED, b"ok\n"),
             ("tests/c/threads.c", [*SANITIZED, "-pthread"], b"ok\n"),
+            ("tests/c/stack.c", ["-pthread"], b"ok\n"),
         ):
             case = f"{source} by {compiler} {' '.join(flags)}"
             yield case, fault_of_program(compiler, source, flags, wanted)

@@ -29,6 +29,12 @@ def _said(name: str) -> str:
     return found[1]
 
 
+def _listed(name: str) -> List[str]:
+    found = re.search(rf"^{name} = \[(.*)\]$", _project(), re.MULTILINE)
+    assert found, name
+    return re.findall(r'"([^"]*)"', found[1])
+
+
 def _base() -> str:
     return f"{PACKAGE}-{_said('version')}"
 
@@ -43,6 +49,7 @@ def _metadata() -> bytes:
         f"Summary: {_said('description')}",
         f"Author-email: {author[1]} <{author[2]}>",
         f"Requires-Python: {_said('requires-python')}",
+        f"Keywords: {','.join(_listed('keywords'))}",
         *(f"Classifier: {it}" for it in re.findall(r'^    "(.* :: .*)",$', _project(), re.M)),
         "Description-Content-Type: text/markdown",
         "",
@@ -62,6 +69,13 @@ def _library() -> bytes:
     return file.read_bytes()
 
 
+def _platform(library: bytes) -> str:
+    """The platform of a library, by the newest glibc that it asks for."""
+    wanted = max(map(int, re.findall(rb"GLIBC_2\.(\d+)", library)), default=None)
+    system, _, machine = sysconfig.get_platform().partition("-")
+    return f"{system if wanted is None else f'many{system}_2_{wanted}'}_{machine.replace('-', '_')}"
+
+
 def _files(*folders: str) -> List[Path]:
     found = (it for folder in folders for it in sorted((HERE / folder).rglob("*")))
     return [it for it in found if it.suffix == ".py" or it.name == "py.typed"]
@@ -69,7 +83,7 @@ def _files(*folders: str) -> List[Path]:
 
 def _wheel(directory: str, contents: Dict[str, bytes]) -> str:
     """Writes a wheel of these files, and returns its name. The same files give the same bytes."""
-    tag = "py3-none-" + re.sub(r"[-.]", "_", sysconfig.get_platform())
+    tag = f"py3-none-{_platform(contents.get(f'{PACKAGE}/{LIBRARY}', b''))}"
     wheel = f"Wheel-Version: 1.0\nGenerator: {PACKAGE}\nRoot-Is-Purelib: false\nTag: {tag}\n"
     info = f"{_base()}.dist-info"
     contents = {**contents, f"{info}/METADATA": _metadata(), f"{info}/WHEEL": wheel.encode()}

@@ -100,7 +100,7 @@ pub struct AuditOptions<'a> {
     /// How far the clocks of two clients may be apart, in the unit of the times.
     pub margin: u64,
     /// The member that has a line's key, and each key is then judged by itself, as one register;
-    /// where it is empty there are no keys. A [`Line`] has no members.
+    /// where it is empty there are no keys. A [`Line`] has no members: this is passed over there.
     pub key: &'a str,
     /// The members that a text has beside each line that it tells, parted by commas, as
     /// `fdb_audit --show` takes them; where it is empty there are none.
@@ -129,7 +129,7 @@ pub struct Wanted {
     /// Of a log without a fault an order that explains it.
     pub history: bool,
     /// Where a fault stands, how much was judged and how many faults there are of each kind;
-    /// without `all` these alone.
+    /// without `all` these alone. With `json` they come too where none stands.
     pub totals: bool,
     /// JSON objects, one a line, and not sentences.
     pub json: bool,
@@ -240,7 +240,8 @@ pub enum Reason {
 /// ```
 #[derive(Clone, Copy, Debug, PartialEq, Eq, Hash, PartialOrd, Ord)]
 pub struct Late {
-    /// The line that outdates the call and was the first to end.
+    /// Of the other lines that outdate the call, with a newer version than a read's, or one as new
+    /// as was drawn, the first to end.
     pub line: u32,
     /// From its end to where the call began, in the unit of the times: the fault stands under each
     /// lesser margin. 0 where it had not ended by then.

@@ -36,7 +36,7 @@ pub struct WatchOptions<'a> {
 }
 
 /// A watch of JSON Lines that come piece by piece: what `fdb_audit --follow` is. It keeps the lines
-/// that may yet come to matter, and no others.
+/// that may yet come to matter, and the name of each client and key.
 ///
 /// ```
 /// use fdb_read_version::{LogError, Watch, WatchOptions};
@@ -102,7 +102,7 @@ impl Watch {
     /// then on.
     ///
     /// Where `is_idle` holds, which is always allowed, it looks for it at once, and else, where more is
-    /// there to be read, once 8,192 lines have come since it last did: at each call that began more
+    /// there to be read, once 8,192 lines were taken since it last did: at each call that began more
     /// than `behind` before the newest end. A line that comes later and began as early is not refused; its
     /// version counts, but it is judged only if it began at most `behind` before that.
     ///
@@ -115,8 +115,8 @@ impl Watch {
     }
 
     /// Says, as the text, what is left where the log ends here, and says whether a fault was told,
-    /// at any time. Without one the text is `audit ok` and how many lines there were. The watch is
-    /// then over.
+    /// at any time. Without one the text is `audit ok` and how many lines there were, but with `json`
+    /// empty. The watch is then over.
     ///
     /// # Errors
     /// `Refused`, where no fault was told and lines were left out, with the last of them, or where
