@@ -1,21 +1,21 @@
 /*
  * The part of FoundationDB's read-version path that one thread runs: the chain of commit versions,
  * the register and the queue of a GRV proxy (FoundationDB 7.1); and the audit of a log of calls, of
- * any system. That each function does what stands here is proved, but for this header itself, which a
- * person wrote.
+ * any system. That each function does what stands here is proved, but for this header itself, which
+ * a person wrote.
  *
  *     cc prog.c libfdb_read_version.a liblibc_c.a
  *
  * A chain's versions end at 2^63 - 1, and its moments are in microseconds. A log's versions and
- * times are below 2^64, the times in any one unit. Nothing here locks, keeps a global or a pointer of
- * the caller's.
+ * times are below 2^64, the times in any one unit. Nothing here locks, keeps a global or a pointer
+ * of the caller's.
  *
  * Memory comes from the program's malloc, realloc and free, which have to be of one allocator, and
  * to align blocks for any type. What grows: a chain by each answer, until its proxy has processed
  * it; a queue by each request that waits, and by each throttle until it is forgotten. What a handle
  * has its `..._free` frees, and all else the function that took it. An audit or a watch takes up to
- * 140 KB of stack, where a line is nested as deep as it may be. The code is for x86-64-v2, and does not look
- * whether the processor is.
+ * 140 KB of stack, where a line is nested as deep as it may be. The code is for x86-64-v2, and does
+ * not look whether the processor is.
  *
  * Nothing checks what C passes. What a comment says of an argument is the caller's to keep:
  *
@@ -156,15 +156,15 @@ uint8_t fdb_chain_new(uint64_t epoch_end, uint64_t recovery, uint32_t proxies, f
  * The first version is the recovery version, and its `prev` the end of the epoch before. Each other
  * is above the one before by the microseconds from the request that drew that one to this, by 1 at
  * least and 5,000,000 at most: by 1 where this moment is the earlier one, from which the next step
- * then counts. A request that draws a version lets the answers of its proxy that are kept, up to its
- * `processed`, go, never its own: these numbers are then forgotten, as 0 always is. An answer takes
- * 72 bytes until it goes, and no more than that is kept: where proxies process what they get, a chain
- * stays as small as it is, and one that never does wants memory in the end.
+ * then counts. A request that draws a version lets the answers of its proxy that are kept, up to
+ * its `processed`, go, never its own: these numbers are then forgotten, as 0 always is. An answer
+ * takes 72 bytes until it goes, and no more than that is kept: where proxies process what they get,
+ * a chain stays as small as it is, and one that never does wants memory in the end.
  *
  * FDB_OK, else FDB_UNKNOWN_PROXY, FDB_EARLY, FDB_FORGOTTEN, FDB_EXHAUSTED, the first that stands;
  * `answer->status` is the same, and a refusal leaves the chain as it was. FDB_MEMORY comes only
- * where a version would be drawn, and leaves chain and answer, and so `answer->status`, as they were.
- * Constant time.
+ * where a version would be drawn, and leaves chain and answer, and so `answer->status`, as they
+ * were. Constant time.
  */
 uint8_t fdb_chain_ask(fdb_chain *chain, const fdb_ask *ask, fdb_answer *answer);
 
@@ -266,32 +266,33 @@ uint8_t fdb_queue_new(const fdb_queue_config *config, fdb_queue *queue);
 uint8_t fdb_queue_offer(fdb_queue *queue, const fdb_request *request, fdb_outcome *outcome);
 
 /*
- * Holds a window, `elapsed` microseconds (1 to 10,000,000) after the last one, or after the queue was
- * opened: starts the first requests of the row, up to the first that may not start and
- * FDB_MOST_STARTED at most, and writes them to the start of `started`, in order. This needs room for
- * as many as wait, or for FDB_MOST_STARTED where more do. `*queue` must be a queue.
+ * Holds a window, `elapsed` microseconds (1 to 10,000,000) after the last one, or after the queue
+ * was opened: starts the first requests of the row, up to the first that may not start and
+ * FDB_MOST_STARTED at most, and writes them to the start of `started`, in order. This needs room
+ * for as many as wait, or for FDB_MOST_STARTED where more do. `*queue` must be a queue.
  *
- * Let `sum` be the transactions of a request and of all that start before it in this window. A system
- * request may always start; a default one where the normal rate lets it, and a batch one where both
- * do. A rate does where
+ * Let `sum` be the transactions of a request and of all that start before it in this window. A
+ * system request may always start; a default one where the normal rate lets it, and a batch one
+ * where both do. A rate does where
  *
  *     sum * FDB_TRANSACTION <= rate * FDB_TRANSACTION + budget   and   sum <= 100,000
  *
- * Then a rate's budget becomes `budget + elapsed * (rate - paid)`, where `paid` are the transactions
- * that started: for the batch rate all, for the normal rate those of system and default requests. It
- * is 0 where that is below 0, and at most 100,000 transactions, or 10 where no request waits any more
- * that this rate would pay for.
+ * Then a rate's budget becomes `budget + elapsed * (rate - paid)`, where `paid` are the
+ * transactions that started: for the batch rate all, for the normal rate those of system and
+ * default requests. It is 0 where that is below 0, and at most 100,000 transactions, or 10 where no
+ * request waits any more that this rate would pay for.
  *
  * FDB_ROOM, else FDB_BAD_CONFIG for a time out of range, else FDB_MEMORY or FDB_OK. Of FDB_OK and
- * FDB_BAD_CONFIG `outcome->status` is the same, and the latter leaves the queue as it was. FDB_ROOM,
- * and FDB_MEMORY, leave queue, outcome and `started` as they were. Linear in what it starts.
+ * FDB_BAD_CONFIG `outcome->status` is the same, and the latter leaves the queue as it was.
+ * FDB_ROOM, and FDB_MEMORY, leave queue, outcome and `started` as they were. Linear in what it
+ * starts.
  */
 uint8_t fdb_queue_window(fdb_queue *queue, uint64_t elapsed, fdb_outcome *outcome,
                          fdb_request *started, size_t started_length);
 
 /* Takes the first request of the row out, whatever the rates say of it: `outcome->out`, if there is
- * one; `outcome->status` is FDB_OK, and the budgets stay. `*queue` must be a queue. Constant time, and
- * no memory. */
+ * one; `outcome->status` is FDB_OK, and the budgets stay. `*queue` must be a queue. Constant time,
+ * and no memory. */
 void fdb_queue_pop(fdb_queue *queue, fdb_outcome *outcome);
 
 /* A batch request that new rates turned away. */
@@ -301,12 +302,12 @@ typedef struct fdb_turned_away {
 } fdb_turned_away;
 
 /*
- * Sets the two rates, as in fdb_queue_config, from the next window on. The capacity, the budgets and
- * the throttles stay. Who waits, and would be let into a new queue of these rates, waits on; the
- * others, all of them batch requests, are written to the start of `turned_away`, in order, each with
- * why it would not be, and `*size` is how many. This needs room for all batch requests that wait.
- * None are turned away where the normal rate does not fall and the batch rate is not 0. `*queue`
- * must be a queue.
+ * Sets the two rates, as in fdb_queue_config, from the next window on. The capacity, the budgets
+ * and the throttles stay. Who waits, and would be let into a new queue of these rates, waits on;
+ * the others, all of them batch requests, are written to the start of `turned_away`, in order, each
+ * with why it would not be, and `*size` is how many. This needs room for all batch requests that
+ * wait. None are turned away where the normal rate does not fall and the batch rate is not 0.
+ * `*queue` must be a queue.
  *
  * FDB_OK, else FDB_ROOM, with `*size` the length that is needed, FDB_BAD_CONFIG (a rate is out of
  * range) or FDB_MEMORY, the first that stands; all else is then as it was. FDB_MEMORY comes only
@@ -326,9 +327,9 @@ uint8_t fdb_queue_set_rates(fdb_queue *queue, uint64_t normal, uint64_t batch,
 bool fdb_queue_waits(fdb_queue *queue, uint64_t elapsed, uint64_t *windows);
 
 /*
- * Sets the throttle of a tag, of 0 to 16 bytes, at a priority, in the place of an older one:
- * `rate` transactions per second, until the moment `expires`, in microseconds. It is kept to be asked
- * for: no throttle changes what a queue lets in or starts. `*queue` must be a queue.
+ * Sets the throttle of a tag, of 0 to 16 bytes, at a priority, in the place of an older one: `rate`
+ * transactions per second, until the moment `expires`, in microseconds. It is kept to be asked for:
+ * no throttle changes what a queue lets in or starts. `*queue` must be a queue.
  *
  * FDB_OK, else FDB_BAD_OP (no such priority), FDB_TAG_TOO_LONG or FDB_MEMORY, the first that
  * stands; the queue is then as it was. Logarithmic time.
@@ -377,10 +378,10 @@ typedef struct fdb_op {
  *
  * FDB_OK, and outcomes[i] is the outcome of ops[i] (FDB_BAD_OP for one that is none); `started` has
  * at its start all requests that were started, in order, and `*size` is how many. Else FDB_ROOM
- * where `outcomes` is shorter than `ops`, or FDB_BAD_CONFIG where the configuration is out of range,
- * the first that stands: then nothing is written. Else FDB_MEMORY: nothing is said of what was written.
- * Else FDB_ROOM where `started` is too short: `outcomes` are written, `*size` is the length that it
- * needs, and nothing is written to it.
+ * where `outcomes` is shorter than `ops`, or FDB_BAD_CONFIG where the configuration is out of
+ * range, the first that stands: then nothing is written. Else FDB_MEMORY: nothing is said of what
+ * was written. Else FDB_ROOM where `started` is too short: `outcomes` are written, `*size` is the
+ * length that it needs, and nothing is written to it.
  */
 uint8_t fdb_queue_outcomes(const fdb_queue_config *config,
                            const fdb_op *ops, size_t ops_length,
@@ -419,9 +420,9 @@ static inline const char *fdb_member_name(uint8_t member) {
 }
 
 /* A line of a log, where that is an array: all have times, or none has. Set `has_client`,
- * `has_times` and `has_ended` beside the members that they stand for: one without its flag is passed
- * over, so that a stale read may be FDB_OK. Only a text tells how much was compared (`timed`,
- * `ordered`). */
+ * `has_times` and `has_ended` beside the members that they stand for: one without its flag is
+ * passed over, so that a stale read may be FDB_OK. Only a text tells how much was compared
+ * (`timed`, `ordered`). */
 typedef struct fdb_call {
     uint64_t version; /* the version; of FDB_LEARN nothing */
     uint64_t began;   /* with `has_times`, when the call began, in any one unit */
@@ -513,9 +514,9 @@ typedef struct fdb_fault {
 
 /*
  * Audits the log that a text of JSON Lines stands for (docs/FORMATS.md), and writes what is found
- * to the start of `text`, in UTF-8, with no NUL: the counts of a log without a fault, with `history`
- * an order that explains it; or the first fault, with `all` each, and why it stands. Each line of it
- * ends with a line feed. Of
+ * to the start of `text`, in UTF-8, with no NUL: the counts of a log without a fault, with
+ * `history` an order that explains it; or the first fault, with `all` each, and why it stands. Each
+ * line of it ends with a line feed. Of
  *
  *     {"client":"a","commit":200,"began":10,"ended":14}
  *     {"client":"b","read":100,"began":15,"ended":16}
@@ -531,14 +532,15 @@ typedef struct fdb_fault {
  *     audit total faults 1 Order 1 Wrong 0 NotAbove 0 Twice 0 Stray 0
  *     audit total client "b" faults 1 Order 1 Wrong 0 NotAbove 0 Twice 0 Stray 0
  *
- * FDB_OK where some history explains the log, else FDB_FAULT; `*size` is how long the text is. Where
- * `text` is too short, FDB_ROOM goes before both: `*size` is then the length that it needs, and
- * nothing is written to it. Before all goes a refusal of the log: FDB_EMPTY where it has no line, and
- * for the first line that is wrong FDB_TOO_LONG, FDB_TOO_MANY, FDB_NOT_JSON, FDB_BAD_MEMBER (client),
- * FDB_NO_CALL, FDB_TWO_CALLS, FDB_BAD_MEMBER (the call, began, ended), FDB_SOME_TIMES, FDB_BAD_MEMBER
- * (learn with times; no client without), the first that stands: `*refused` says which line and
- * member. FDB_MEMORY comes anywhere. Where the log or memory is refused nothing else is written, and
- * else `*refused` is as it was. `n log n` in the lines, and linear in the bytes.
+ * FDB_OK where some history explains the log, else FDB_FAULT; `*size` is how long the text is.
+ * Where `text` is too short, FDB_ROOM goes before both: `*size` is then the length that it needs,
+ * and nothing is written to it. Before all goes a refusal of the log: FDB_EMPTY where it has no
+ * line, and for the first line that is wrong FDB_TOO_LONG, FDB_TOO_MANY, FDB_NOT_JSON,
+ * FDB_BAD_MEMBER (client), FDB_NO_CALL, FDB_TWO_CALLS, FDB_BAD_MEMBER (the call, began, ended),
+ * FDB_SOME_TIMES, FDB_BAD_MEMBER (learn with times; no client without), the first that stands:
+ * `*refused` says which line and member. FDB_MEMORY comes anywhere. Where the log or memory is
+ * refused nothing else is written, and else `*refused` is as it was. `n log n` in the lines, and
+ * linear in the bytes.
  */
 uint8_t fdb_audit_log_text(const uint8_t *log, size_t log_length,
                            const fdb_audit_options *options,
@@ -558,8 +560,8 @@ uint8_t fdb_audit_log_faults(const uint8_t *log, size_t log_length,
                              fdb_refused *refused);
 
 /*
- * Audits a log whose lines are `calls`, and writes a text as fdb_audit_log_text does, with `client 2`
- * for the client of that number.
+ * Audits a log whose lines are `calls`, and writes a text as fdb_audit_log_text does, with `client
+ * 2` for the client of that number.
  *
  * As fdb_audit_log_text, but of the first call that is wrong FDB_NO_CALL (`kind`), FDB_BAD_MEMBER
  * (FDB_LEARN: no call above is the teller's; FDB_ENDED: it ended before it began), FDB_TOO_MANY,
@@ -587,8 +589,8 @@ typedef struct fdb_audit {
 /*
  * Opens an audit of a text of JSON Lines of which nothing has come. `key` is the name, in UTF-8, of
  * the member that has a line's key, and each key is then judged by itself, as one register; `shown`
- * are the names of members that the text has beside each line that it tells, parted by commas. Either
- * may be empty: then there are no keys, and no member is shown. `*audit` must be none.
+ * are the names of members that the text has beside each line that it tells, parted by commas.
+ * Either may be empty: then there are no keys, and no member is shown. `*audit` must be none.
  *
  * FDB_OK, else FDB_BAD_MEMBER (`key` or `shown` is no UTF-8) or FDB_MEMORY; `*audit` is then still
  * none.
@@ -613,16 +615,16 @@ uint8_t fdb_audit_push(fdb_audit *audit, const uint8_t *bytes, size_t bytes_leng
  * Audits the log, which ends here, with half a line that has come last; what it kept of the log is
  * freed, and what it found stays. The audit is then over. `*audit` must be an audit.
  *
- * FDB_OK or FDB_FAULT; else the refusal, as by fdb_audit_push, and FDB_EMPTY where no line has come.
- * FDB_OVER where it was over before. FDB_MEMORY and a refusal find nothing. `n log n` in the lines,
- * twice.
+ * FDB_OK or FDB_FAULT; else the refusal, as by fdb_audit_push, and FDB_EMPTY where no line has
+ * come. FDB_OVER where it was over before. FDB_MEMORY and a refusal find nothing. `n log n` in the
+ * lines, twice.
  */
 uint8_t fdb_audit_end(fdb_audit *audit, fdb_refused *refused);
 
 /*
- * Writes the text of what was found to the start of `text`, with no NUL: as fdb_audit_log_text does;
- * nothing where nothing was found yet. It may be asked for as often as one likes. `*audit` must be
- * an audit.
+ * Writes the text of what was found to the start of `text`, with no NUL: as fdb_audit_log_text
+ * does; nothing where nothing was found yet. It may be asked for as often as one likes. `*audit`
+ * must be an audit.
  *
  * FDB_OK, and `*size` is how long it is; or FDB_ROOM where `text` is shorter: `*size` is then the
  * length that it needs, and nothing is written to it. No memory.
@@ -666,9 +668,9 @@ uint8_t fdb_watch_new(const fdb_watch_options *options, const uint8_t *key, size
                       const uint8_t *shown, size_t shown_length, fdb_watch *watch);
 
 /*
- * Takes the next bytes of a text of JSON Lines, cut anywhere. A line that is refused, also one without
- * times, is left out, and told among the warnings by what says something next. `*watch` must be a
- * watch.
+ * Takes the next bytes of a text of JSON Lines, cut anywhere. A line that is refused, also one
+ * without times, is left out, and told among the warnings by what says something next. `*watch`
+ * must be a watch.
  *
  * FDB_OK. FDB_MEMORY ends the watch: what it kept of the log is freed, what was said last stays.
  * FDB_OVER where it was over before; nothing has changed then. Linear in the bytes.
@@ -677,12 +679,13 @@ uint8_t fdb_watch_push(fdb_watch *watch, const uint8_t *bytes, size_t bytes_leng
 
 /*
  * Says what has become certain since it said so last: each stale read, and each version that was
- * drawn and is not above what its caller knew, once. With `is_idle`, which is always allowed, it looks
- * at once, and else, where more is there to be read, once 8,192 lines were taken since it last did:
- * at each call that began more than `behind` before the newest end. A line that comes later and began
- * as early is no refused one; its version counts, but it is judged only if it began at most `behind`
- * before that. What is said, be it nothing, is then the text, and the warnings have a line for each
- * line that was refused since; what they were before is gone. `*watch` must be a watch.
+ * drawn and is not above what its caller knew, once. With `is_idle`, which is always allowed, it
+ * looks at once, and else, where more is there to be read, once 8,192 lines were taken since it
+ * last did: at each call that began more than `behind` before the newest end. A line that comes
+ * later and began as early is no refused one; its version counts, but it is judged only if it began
+ * at most `behind` before that. What is said, be it nothing, is then the text, and the warnings
+ * have a line for each line that was refused since; what they were before is gone. `*watch` must be
+ * a watch.
  *
  * FDB_OK, else FDB_OVER or FDB_MEMORY, as fdb_watch_push; text and warnings are then as they were.
  * `n log n` in the lines that are kept.
@@ -691,9 +694,9 @@ uint8_t fdb_watch_tell(fdb_watch *watch, bool is_idle);
 
 /*
  * Says what is left where the log ends, with half a line that has come last: the text and the
- * warnings are that, as by fdb_watch_tell, and the watch is over. Where no fault was told, the text is
- * `audit ok` and how many lines were taken, but with `json` empty; `totals` follow. `*watch` must be a
- * watch.
+ * warnings are that, as by fdb_watch_tell, and the watch is over. Where no fault was told, the text
+ * is `audit ok` and how many lines were taken, but with `json` empty; `totals` follow. `*watch`
+ * must be a watch.
  *
  * FDB_FAULT where a fault was told, at any time. Else why the last line that was refused was, from
  * FDB_TOO_LONG to FDB_BAD_MEMBER, as fdb_audit_end, and `*refused` says which; FDB_EMPTY where no

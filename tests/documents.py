@@ -13,7 +13,7 @@ from harness import ROOT, done, fault_of, files_below, run, text_of
 # What a crate proves for itself, and what is private to it: others go by its public definitions.
 INNER_OF = re.compile(r"\bRattle\.(fdb_\w+)\.(proofs|specs\.private)\b")
 # The most edits of a crate that the gate tries.
-MOST_TRIED = 7
+MOST_TRIED = 6
 # What is trusted of a kit, in what rt says of it. Kits with the same logic differ in their letter.
 LOGIC = re.compile(r"\blogic [0-9a-f]+\b")
 # Where README.md says how many lines of definitions there are, by the names of believed.counts.

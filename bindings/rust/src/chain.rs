@@ -180,7 +180,8 @@ impl Chain {
     /// other is above the one before by the microseconds from the request that drew that one to
     /// this, by 1 at least and 5,000,000 at most: by 1 where this moment is the earlier one, from
     /// which the next step then counts. A request that draws lets the answers of its proxy that are
-    /// kept, up to its `processed`, go, never its own: these numbers are then forgotten, as 0 always is.
+    /// kept, up to its `processed`, go, never its own: these numbers are then forgotten, as 0
+    /// always is.
     ///
     /// # Errors
     /// `UnknownProxy`, `Early`, `Forgotten`, `Exhausted` or `Memory`, the first that stands.

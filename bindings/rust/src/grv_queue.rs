@@ -478,8 +478,8 @@ impl GrvQueue {
         }
     }
 
-    /// Forgets each throttle that expires at this moment, in microseconds, or before: from it on all answers are as
-    /// if none were forgotten.
+    /// Forgets each throttle that expires at this moment, in microseconds, or before: from it on
+    /// all answers are as if none were forgotten.
     pub fn forget_throttles(&mut self, at: u64) {
         // SAFETY: the handle is a queue.
         unsafe { sys::fdb_queue_forget_throttles(&mut self.handle, at) }

@@ -101,10 +101,11 @@ impl Watch {
     /// Says what has become certain since it said so last, each fault once; that is the text from
     /// then on.
     ///
-    /// Where `is_idle` holds, which is always allowed, it looks for it at once, and else, where more is
-    /// there to be read, once 8,192 lines were taken since it last did: at each call that began more
-    /// than `behind` before the newest end. A line that comes later and began as early is not refused; its
-    /// version counts, but it is judged only if it began at most `behind` before that.
+    /// Where `is_idle` holds, which is always allowed, it looks for it at once, and else, where
+    /// more is there to be read, once 8,192 lines were taken since it last did: at each call that
+    /// began more than `behind` before the newest end. A line that comes later and began as early
+    /// is not refused; its version counts, but it is judged only if it began at most `behind`
+    /// before that.
     ///
     /// # Errors
     /// As [`push`](Watch::push); what was said last then stays.

@@ -1,5 +1,5 @@
-//! Finds the library: `FDB_READ_VERSION_LIB` names its folder or a file there, by a path from the root,
-//! else the folder is that of the repository. Documents are made without it.
+//! Finds the library: `FDB_READ_VERSION_LIB` names its folder or a file there, by a path from the
+//! root, else the folder is that of the repository. Documents are made without it.
 
 use std::env;
 use std::path::PathBuf;

@@ -1,4 +1,4 @@
-"""Audits a log: `python -m fdb_read_version LOG` prints what `fdb_audit` does, and has its statuses."""
+"""Audits a log: `python -m fdb_read_version LOG` prints what `fdb_audit` does, by its statuses."""
 from __future__ import annotations
 
 import argparse

@@ -34,9 +34,9 @@ class Priority(Named):
 class QueueConfig:
     """The rates, and the most requests that wait.
 
-    A rate is how many transactions a window may start beside what the rate's budget has, which gains
-    as many in two seconds. `normal` is 1 to 100,000, `batch` 0 to 100,000 (with 0 no batch request is let in) and `room` 1
-    to 100,000.
+    A rate is how many transactions a window may start beside what the rate's budget has, which
+    gains as many in two seconds. `normal` is 1 to 100,000, `batch` 0 to 100,000 (with 0 no batch
+    request is let in) and `room` 1 to 100,000.
     """
 
     normal: int

@@ -69,10 +69,10 @@ class Call:
     """A line of a log: what was done, and the version that it got or reported.
 
     `kind` is READ, COMMIT, ASK, REPORT or LEARN. `client` is any number of 32 bits for who made the
-    call; `began` and `ended` are in any one unit, on all lines or on none, and `ended` is None where
-    it is not known: it then comes before no other call, not of its own client either. Without times every line names its client, and one that has learnt what another
-    knew, the `teller`, has no version: `Call(Member.LEARN, client=1, teller=0)`. A call above is the
-    teller's.
+    call; `began` and `ended` are in any one unit, on all lines or on none, and `ended` is None
+    where it is not known: it then comes before no other call, not of its own client either. Without
+    times every line names its client, and one that has learnt what another knew, the `teller`, has
+    no version: `Call(Member.LEARN, client=1, teller=0)`. A call above is the teller's.
     """
 
     kind: Member

@@ -59,11 +59,11 @@ class Watch(Handle):
     def tell(self, idle: bool = True) -> str:
         """Says what has become certain since it said so last, each fault once: as `text` from then.
 
-        With `idle`, which is always allowed, it looks for that at once, and else, where more is there
-        to be read, once 8,192 lines have been taken since it last did: at each call that began more
-        than `behind` before the newest end. A line that comes later and began as early is not refused; its version
-        counts, but it is judged only if it began at most `behind` before that. It is refused as
-        `push` is; what was said last then stays.
+        With `idle`, which is always allowed, it looks for that at once, and else, where more is
+        there to be read, once 8,192 lines have been taken since it last did: at each call that
+        began more than `behind` before the newest end. A line that comes later and began as early
+        is not refused; its version counts, but it is judged only if it began at most `behind`
+        before that. It is refused as `push` is; what was said last then stays.
         """
         is_idle = flag("idle", idle)
 
