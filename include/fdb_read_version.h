@@ -11,11 +11,11 @@
  * of the caller's.
  *
  * Memory comes from the program's malloc, realloc and free, which have to be of one allocator, and
- * to align blocks for any type. What grows: a chain by each answer, until its proxy has processed
- * it; a queue by each request that waits, and by each throttle until it is forgotten. What a handle
- * has its `..._free` frees, and all else the function that took it. An audit or a watch takes up to
- * 140 KB of stack, where a line is nested as deep as it may be. The code is for x86-64-v2, and does
- * not look whether the processor is.
+ * to align blocks for any type. What grows: a chain by the answers that its proxies have not
+ * processed; a queue by the requests that wait, and by the throttles that are not forgotten. A
+ * handle uses again what it took, until its `..._free` frees it; all else is freed by the function
+ * that took it. An audit or a watch takes up to 140 KB of stack, where a line is nested as deep as
+ * it may be. The code is for x86-64-v2, and does not look whether the processor is.
  *
  * Nothing checks what C passes. What a comment says of an argument is the caller's to keep:
  *
@@ -158,8 +158,8 @@ uint8_t fdb_chain_new(uint64_t epoch_end, uint64_t recovery, uint32_t proxies, f
  * least and 5,000,000 at most: by 1 where this moment is the earlier one, from which the next step
  * then counts. A request that draws a version lets the answers of its proxy that are kept, up to
  * its `processed`, go, never its own: these numbers are then forgotten, as 0 always is. An answer
- * takes 72 bytes until it goes, and no more than that is kept: where proxies process what they get,
- * a chain stays as small as it is, and one that never does wants memory in the end.
+ * takes up to 144 bytes until it goes: where proxies process what they get, a chain grows no more,
+ * and one that never does wants memory in the end.
  *
  * FDB_OK, else FDB_UNKNOWN_PROXY, FDB_EARLY, FDB_FORGOTTEN, FDB_EXHAUSTED, the first that stands;
  * `answer->status` is the same, and a refusal leaves the chain as it was. FDB_MEMORY comes only
@@ -497,19 +497,20 @@ enum {
  * fdb_refused count them from 1. What a reason does not name is 0. */
 typedef struct fdb_fault {
     uint64_t known;  /* the greatest that was known: of REASON_KNOWN and REASON_REPORTED */
-    uint64_t late;   /* with `has_late`, by how much the call was late, in the times' unit, from the end
-                        of `first`: the fault stands under each lesser margin; 0 where `first` had
-                        not ended by then */
+    uint64_t late;   /* with `has_late`, by how much the call was late, in the times' unit, from the
+                        end of `first`: the fault stands under each lesser margin; 0 where `first`
+                        had not ended by then */
     uint32_t line;   /* the line at which the fault stands */
     uint32_t other;  /* the line that reported or drew: of REASON_REPORTED and REASON_DRAWN */
     uint32_t by;     /* the line that let `known` be known; of several, any */
     uint32_t learnt; /* the line by which the client had learnt of that */
-    uint32_t first;  /* with `has_late`, of the other lines that outdate the call, with a newer version
-                        than a read's, or one as new as was drawn, the first to end */
+    uint32_t first;  /* with `has_late`, of the lines that outdate the call, with a newer version than
+                        a read's, or one as new as was drawn, the first to end */
     uint8_t kind;    /* FDB_FAULT_ORDER to FDB_FAULT_STRAY */
     uint8_t reason;  /* FDB_REASON_KNOWN to FDB_REASON_UNDRAWN */
     uint8_t means;   /* how `known` was known, FDB_MEANS_START to FDB_MEANS_LEARNT */
-    bool has_late;   /* whether there is such a line: of ORDER and NOT_ABOVE, in a log with times */
+    bool has_late;   /* whether there is such a line, and another than the call itself, which outdates
+                        what it drew: of ORDER and NOT_ABOVE, in a log with times */
 } fdb_fault;
 
 /*
@@ -589,8 +590,9 @@ typedef struct fdb_audit {
 /*
  * Opens an audit of a text of JSON Lines of which nothing has come. `key` is the name, in UTF-8, of
  * the member that has a line's key, and each key is then judged by itself, as one register; `shown`
- * are the names of members that the text has beside each line that it tells, parted by commas.
- * Either may be empty: then there are no keys, and no member is shown. `*audit` must be none.
+ * are the names of members that the text has beside each line that it tells, parted by commas, each
+ * named once and not the key's. Either may be empty: then there are no keys, and no member is shown.
+ * `*audit` must be none.
  *
  * FDB_OK, else FDB_BAD_MEMBER (`key` or `shown` is no UTF-8) or FDB_MEMORY; `*audit` is then still
  * none.
@@ -644,12 +646,13 @@ void fdb_audit_free(fdb_audit *audit);
 typedef struct fdb_watch_options {
     uint64_t behind; /* how far behind the newest end a line may begin, in the times' unit */
     uint64_t margin; /* how far the clocks of two clients may be apart, in that unit */
-    bool totals;     /* whether the end tells how much was read, and how many faults of each kind */
+    bool totals;     /* whether the end tells how much was read, and how many faults of each kind:
+                        where a fault was told, or with `json` */
     bool json;       /* whether JSON objects are told, and not sentences */
 } fdb_watch_options;
 
-/* A watch, or none. It keeps the lines that may yet come to matter, and the name of each client and
- * key. */
+/* A watch, or none. It keeps the lines that may yet come to matter, the name of each client and key,
+ * 8 bytes for each line that was refused and, with `totals`, each fault that it told. */
 typedef struct fdb_watch {
     void *at;
 } fdb_watch;
@@ -680,12 +683,12 @@ uint8_t fdb_watch_push(fdb_watch *watch, const uint8_t *bytes, size_t bytes_leng
 /*
  * Says what has become certain since it said so last: each stale read, and each version that was
  * drawn and is not above what its caller knew, once. With `is_idle`, which is always allowed, it
- * looks at once, and else, where more is there to be read, once 8,192 lines were taken since it
- * last did: at each call that began more than `behind` before the newest end. A line that comes
- * later and began as early is no refused one; its version counts, but it is judged only if it began
- * at most `behind` before that. What is said, be it nothing, is then the text, and the warnings
- * have a line for each line that was refused since; what they were before is gone. `*watch` must be
- * a watch.
+ * looks at once, and else, where more is there to be read, once 8,192 lines came since it last did,
+ * and were not refused: at each call that began more than `behind` before the newest end. A line
+ * that comes later and began as early is no refused one; its version counts, but it is judged only
+ * if it began at most `behind` before that. What is said, be it nothing, is then the text, and the
+ * warnings have a line for each line that was refused since; what they were before is gone.
+ * `*watch` must be a watch.
  *
  * FDB_OK, else FDB_OVER or FDB_MEMORY, as fdb_watch_push; text and warnings are then as they were.
  * `n log n` in the lines that are kept.
@@ -695,8 +698,8 @@ uint8_t fdb_watch_tell(fdb_watch *watch, bool is_idle);
 /*
  * Says what is left where the log ends, with half a line that has come last: the text and the
  * warnings are that, as by fdb_watch_tell, and the watch is over. Where no fault was told, the text
- * is `audit ok` and how many lines were taken, but with `json` empty; `totals` follow. `*watch`
- * must be a watch.
+ * is `audit ok` and how many lines were not refused; with `json` it is empty but for `totals`.
+ * `*watch` must be a watch.
  *
  * FDB_FAULT where a fault was told, at any time. Else why the last line that was refused was, from
  * FDB_TOO_LONG to FDB_BAD_MEMBER, as fdb_audit_end, and `*refused` says which; FDB_EMPTY where no

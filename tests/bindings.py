@@ -119,6 +119,12 @@ def linked(_program):
     for name in sorted({*header.declared(), *exports}):
         fault = "the library does not export it" if name not in exports else None
         yield name, fault or (None if name in header.declared() else "it is not declared")
+    shared = run(["nm", "--dynamic", "--defined-only", SHARED]).out.decode().splitlines()
+    fault = {it.split()[-1] for it in shared} ^ {*header.declared()}
+    yield "what the shared object exports", f"{fault}" if fault else None
+    said = run(["readelf", "--dynamic", SHARED]).out
+    fault = None if b"soname: [libfdb_read_version.so]" in said else "it has none"
+    yield "the shared object's name", fault
 
 
 # ---- Python
@@ -264,16 +270,35 @@ def bare(text):
     return re.sub(r",([)}])", r"\1", text)
 
 
+def declared_in(text):
+    """What a text of Rust declares: of each type and function, by its whole name, how."""
+    found = {}
+    for name, body in re.findall(r"^impl (\w+) \{\n(.*?)^\}$", text, re.M | re.S):
+        found |= {f"{name}::{it}": how for it, how in functions_in(body, "    ")}
+    found |= dict(functions_in(text, ""))
+    types = re.compile(r"^pub (?:struct|enum) (\w+)[^{\n]*\{(?:[^\n]+|\n.*?^)\}$", re.M | re.S)
+    for it in types.finditer(text):
+        # (what has private fields is a handle)
+        if it[0].startswith("pub enum") or "pub " in it[0][1:]:
+            found[it[1]] = bare(it[0])
+    return found
+
+
+def functions_in(text, indent):
+    how = r"^%s(pub fn (\w+)[(<][^{;]*?)\s*[{;]$" % indent
+    return [(name, bare(declared)) for declared, name in re.findall(how, text, re.M | re.S)]
+
+
 def declared_in_rust(_program):
-    """What the README declares is what the sources do, and no public function is left out."""
-    sources = "\n".join(map(text_of, files_below("bindings/rust/src", ".rs")))
+    """What the README declares is what the sources do, and nothing public is left out."""
+    tests = re.compile(r"^#\[cfg\(test\)\].*", re.M | re.S)
+    sources = "\n".join(tests.sub("", text_of(it)) for it in files_below("bindings/rust/src", ".rs"))
+    sources = re.sub(r"^\s*(//|#\[).*\n", "", sources, flags=re.M)
     blocks = re.findall(r"^```rust,ignore\n(.*?)^```$", text_of(README_OF_RUST), re.M | re.S)
-    lines = [it.strip() for it in "".join(blocks).splitlines()]
-    for line in (it for it in lines if it.startswith("pub ")):
-        wanted = bare(line[:-1] + "{" if line.endswith(";") else line)
-        yield line, None if wanted in bare(sources) else "it is declared otherwise"
-    for name in sorted({*re.findall(r"\bpub fn (\w+)", sources)}):
-        yield name, None if f"pub fn {name}(" in "".join(blocks) else "it is left out"
+    own, shown = declared_in(sources), declared_in("".join(blocks))
+    for name in sorted({*own, *shown}):
+        same = own.get(name) == shown.get(name)
+        yield name, None if same else f"{shown.get(name)!r} in place of {own.get(name)!r}"
 
 
 def of_rust(_program):

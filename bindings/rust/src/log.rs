@@ -240,8 +240,8 @@ pub enum Reason {
 /// ```
 #[derive(Clone, Copy, Debug, PartialEq, Eq, Hash, PartialOrd, Ord)]
 pub struct Late {
-    /// Of the other lines that outdate the call, with a newer version than a read's, or one as new
-    /// as was drawn, the first to end.
+    /// Of the lines that outdate the call, with a newer version than a read's, or one as new as was
+    /// drawn, the first to end; where that is the call itself, there is none.
     pub line: u32,
     /// From its end to where the call began, in the unit of the times: the fault stands under each
     /// lesser margin. 0 where it had not ended by then.

@@ -29,14 +29,16 @@ pub struct WatchOptions<'a> {
     /// The members that are told beside each line, parted by commas, as `fdb_audit --show` takes
     /// them; where it is empty there are none.
     pub shown: &'a str,
-    /// Whether the end tells how much was read, and how many faults of each kind.
+    /// Whether the end tells how much was read, and how many faults of each kind: where a fault was
+    /// told, or with `json`.
     pub totals: bool,
     /// Whether JSON objects are told, and not sentences.
     pub json: bool,
 }
 
 /// A watch of JSON Lines that come piece by piece: what `fdb_audit --follow` is. It keeps the lines
-/// that may yet come to matter, and the name of each client and key.
+/// that may yet come to matter, the name of each client and key, 8 bytes for each line that was
+/// refused and, with `totals`, each fault that it told.
 ///
 /// ```
 /// use fdb_read_version::{LogError, Watch, WatchOptions};
@@ -102,10 +104,10 @@ impl Watch {
     /// then on.
     ///
     /// Where `is_idle` holds, which is always allowed, it looks for it at once, and else, where
-    /// more is there to be read, once 8,192 lines were taken since it last did: at each call that
-    /// began more than `behind` before the newest end. A line that comes later and began as early
-    /// is not refused; its version counts, but it is judged only if it began at most `behind`
-    /// before that.
+    /// more is there to be read, once 8,192 lines came since it last did, and were not refused: at
+    /// each call that began more than `behind` before the newest end. A line that comes later and
+    /// began as early is not refused; its version counts, but it is judged only if it began at most
+    /// `behind` before that.
     ///
     /// # Errors
     /// As [`push`](Watch::push); what was said last then stays.
@@ -116,8 +118,8 @@ impl Watch {
     }
 
     /// Says, as the text, what is left where the log ends here, and says whether a fault was told,
-    /// at any time. Without one the text is `audit ok` and how many lines there were, but with `json`
-    /// empty. The watch is then over.
+    /// at any time. Without one the text is `audit ok` and how many lines were not refused, or with
+    /// `json` empty but for `totals`. The watch is then over.
     ///
     /// # Errors
     /// `Refused`, where no fault was told and lines were left out, with the last of them, or where

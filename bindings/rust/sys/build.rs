@@ -7,6 +7,7 @@ use std::process::exit;
 
 fn main() {
     println!("cargo:rerun-if-env-changed=FDB_READ_VERSION_LIB");
+    println!("cargo:rerun-if-env-changed=DOCS_RS");
     if env::var_os("DOCS_RS").is_some() {
         return;
     }

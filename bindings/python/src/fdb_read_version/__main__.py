@@ -6,7 +6,6 @@ import sys
 from typing import List, Optional
 
 from . import Audit, LogRefused, Refused, Status
-from ._values import number
 
 # (2 is argparse's, of words that are refused)
 _FINE, _LOG_REFUSED, _NO_MEMORY, _FAULT, _NO_STREAM = 0, 1, 3, 4, 5
@@ -18,9 +17,9 @@ def _read(name: str) -> bytes:
 
 
 def _count(text: str) -> int:
-    if not (text.isascii() and text.isdigit()):
-        raise argparse.ArgumentTypeError(f"no whole number: {text}")
-    return number("it", int(text), 63)
+    if not (text.isascii() and text.isdigit() and len(text) < 20 and int(text) < 1 << 63):
+        raise argparse.ArgumentTypeError(f"no whole number below 2^63: {text}")
+    return int(text)
 
 
 def main(words: Optional[List[str]] = None) -> int:

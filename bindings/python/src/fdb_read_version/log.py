@@ -120,9 +120,10 @@ class Known:
 class Late:
     """By how much a call was late, and by which line, counted from 0.
 
-    Of the other lines that outdate the call, with a newer version than a read's, or one as new as
-    was drawn, it was the first to end. `by` is from its end to where the call began, and the fault
-    stands under each lesser margin; 0 where it had not ended by then.
+    Of the lines that outdate the call, with a newer version than a read's, or one as new as was
+    drawn, it was the first to end; where that is the call itself, there is none. `by` is from its
+    end to where the call began, and the fault stands under each lesser margin; 0 where it had not
+    ended by then.
     """
 
     line: int

@@ -14,14 +14,15 @@ from .log import objects_in, verdict
 class Watch(Handle):
     """A watch of JSON Lines that come piece by piece: what `fdb_audit --follow` is.
 
-    It keeps the lines that may yet come to matter, and the name of each client and key. A line
-    begins at most so far `behind` the newest end, and the clocks of two clients are at most
-    `margin` apart, both in the unit of the times. `key` names the member that has a line's key, and
-    each key is then watched by itself; where it is None or empty there are no keys. `show` names
-    members that are told beside each line; a name that is empty or has a comma is a `ValueError`.
-    With `totals` the end tells how much was read, and how many faults of each kind; with `json`
-    objects are told, and not sentences. `Refused` says MEMORY, or BAD_MEMBER where `key` is no
-    UTF-8.
+    It keeps the lines that may yet come to matter, the name of each client and key, 8 bytes for
+    each line that was refused and, with `totals`, each fault that it told. A line begins at most so
+    far `behind` the newest end, and the clocks of two clients are at most `margin` apart, both in
+    the unit of the times. `key` names the member that has a line's key, and each key is then
+    watched by itself; where it is None or empty there are no keys. `show` names members that are
+    told beside each line; a name that is empty or has a comma is a `ValueError`. With `totals` the
+    end tells how much was read, and how many faults of each kind, where one was told or with
+    `json`: then objects are told, and not sentences. `Refused` says MEMORY, or BAD_MEMBER where
+    `key` is no UTF-8.
 
     Threads may share one: their calls wait for one another. It is freed by `close`, at the end of a
     `with`, or when nobody has it any more, and can be neither copied nor pickled.
@@ -60,10 +61,10 @@ class Watch(Handle):
         """Says what has become certain since it said so last, each fault once: as `text` from then.
 
         With `idle`, which is always allowed, it looks for that at once, and else, where more is
-        there to be read, once 8,192 lines have been taken since it last did: at each call that
-        began more than `behind` before the newest end. A line that comes later and began as early
-        is not refused; its version counts, but it is judged only if it began at most `behind`
-        before that. It is refused as `push` is; what was said last then stays.
+        there to be read, once 8,192 lines came since it last did, and were not refused: at each
+        call that began more than `behind` before the newest end. A line that comes later and began
+        as early is not refused; its version counts, but it is judged only if it began at most
+        `behind` before that. It is refused as `push` is; what was said last then stays.
         """
         is_idle = flag("idle", idle)
 
@@ -81,8 +82,8 @@ class Watch(Handle):
 
         FAULT where a fault was told, at any time, else OK. Where none was, and lines were left out,
         it raises `LogRefused` of the last of them, or of EMPTY where no line came; text and warnings
-        are there all the same. Without a fault the text is `audit ok` and how many lines there were,
-        but with `json` empty. `Refused` is raised as by `push`.
+        are there all the same. Without a fault the text is `audit ok` and how many lines were not
+        refused, or with `json` empty but for `totals`. `Refused` is raised as by `push`.
         """
         refused = RawRefused()
         return verdict(self._call(library.fdb_watch_end, byref(refused)), refused)
