@@ -291,8 +291,8 @@ def functions_in(text, indent):
 
 def declared_in_rust(_program):
     """What the README declares is what the sources do, and nothing public is left out."""
-    tests = re.compile(r"^#\[cfg\(test\)\].*", re.M | re.S)
-    sources = "\n".join(tests.sub("", text_of(it)) for it in files_below("bindings/rust/src", ".rs"))
+    files = map(text_of, files_below("bindings/rust/src", ".rs"))
+    sources = "\n".join(it.partition("\n#[cfg(test)]\n")[0] for it in files)
     sources = re.sub(r"^\s*(//|#\[).*\n", "", sources, flags=re.M)
     blocks = re.findall(r"^```rust,ignore\n(.*?)^```$", text_of(README_OF_RUST), re.M | re.S)
     own, shown = declared_in(sources), declared_in("".join(blocks))
