@@ -1,8 +1,8 @@
 /*
  * The part of FoundationDB's read-version path that one thread runs: the chain of commit versions,
  * the register and the queue of a GRV proxy (FoundationDB 7.1); and the audit of a log of calls, of
- * any system. That each function does what stands here is proved, but for this header itself, which
- * a person wrote.
+ * any system. What the functions promise by proof crates/fdb_c/README.md lists; this header, which a
+ * person wrote, and what it says of memory, stack and time, is no part of that.
  *
  *     cc prog.c libfdb_read_version.a liblibc_c.a
  *

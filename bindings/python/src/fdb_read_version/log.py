@@ -219,10 +219,10 @@ def audit_text(
     stands on, and with `history` an order that explains the lines. `totals` say, where a fault
     stands, how much was judged and how many faults there are of each kind; without `all` these
     alone. With `json` it is objects, one a line, and not sentences: totals too where no fault
-    stands. (`fdb_audit --all` is `all` and
-    `totals`, `--summary` is `totals` alone, `--json` is all three.) `show` names members that are
-    told beside each line; a name that is empty or has a comma is a `ValueError`. An iterable of
-    `Call` has no members, and its clients are told by number, as `client 2`.
+    stands. (`fdb_audit --all` is `all` and `totals`, `--summary` is `totals` alone, `--json` is all
+    three.) `show` names members that are told beside each line; a name that is empty or has a comma
+    is a `ValueError`. An iterable of `Call` has no members, and its clients are told by number, as
+    `client 2`.
     """
     has_members = any(members(key, show)[1::2])
     given, _, name = _log(log, has_members)
