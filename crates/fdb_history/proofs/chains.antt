@@ -1,5 +1,4 @@
 pub mod ChainLaws
-mod ChainExamples
 pub mod AnswerLaws
 pub mod Answering
 pub mod KeptReplies

@@ -1,4 +1,3 @@
-mod AuditExamples
 pub mod FirstCalls
 pub mod ByTable
 pub mod Audited

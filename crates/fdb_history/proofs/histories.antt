@@ -2,4 +2,3 @@ pub mod AfterReport
 pub mod HistoryLaws
 pub mod KnownCommits
 pub mod Minima
-mod Examples

@@ -12,7 +12,7 @@ use Rattle.fdb_live.specs.declared.change.Change.{Change}
 use Rattle.fdb_live.specs.declared.epoch.Epoch.{Epoch}
 use Rattle.fdb_live.specs.declared.view.View.{View}
 use Rattle.fdb_live.specs.Holding.{AreDrawn, versions}
-use Rattle.fdb_live.specs.Seen.{IsLog, IsRecord, epoch_from, epoch_of, own_among}
+use Rattle.fdb_live.specs.Seen.{IsRecord, epoch_from, epoch_of, own_among}
 use Rattle.fdb_live.specs.private.Rule.{IsRegister, Looks, Settles, Tells, having_seen, joined, taken}
 use Rattle.fdb_live.specs.private.Token.{HasNumber, IsBelow, IsHolder, IsMember}
 use Rattle.fdb_live.proofs.Logs.{position_below, taken_last}
@@ -21,10 +21,6 @@ use Rattle.fdb_live.proofs.Logs.{position_below, taken_last}
 own_stays : (number : Option ℕ) (v : View) (list : List Change) → HasNumber number v → Tells v list → own_among number list ≡ own_among number v.mine
 own_stays None v list h t = refl
 own_stays (Some n) v list h t = sym (t.own n (omega (arith, h.0)) (omega (arith, h.1)))
-
--- once a list is seen
-settled_as : (start : Record) (reporters : ℕ) (number : Option ℕ) (v w : View) (list : List Change) (answers : List Issued) → v.start ≡ start → v.reporters ≡ reporters → 0 < reporters → HasNumber number v → w ≡ having_seen v list answers → IsLog start reporters list → IsHolder start reporters number w
-settled_as start reporters number v w list answers begun count some numbers is log = grind (arith, common_steps, nat_tests)
 
 -- what a look makes of a token
 pub record HasLooked (start : Record) (reporters : ℕ) (number : Option ℕ) (v : View) (fetched : Fetched) (w : View) : Type 0 where

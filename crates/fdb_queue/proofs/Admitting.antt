@@ -1,5 +1,5 @@
 -- A queue stays one when a request is let in.
-use Rattle.std.proofs.Common.{◌≡◌, ℕ, suc, ◌+◌, ◌<◌, ◌==◌, ◌&&◌, Bool, true, false, List, [], ◌∷◌, ◌++◌, length, drop, None, Some, refl, arith, length-append}
+use Rattle.std.proofs.Common.{◌≡◌, ℕ, suc, ◌+◌, ◌<◌, ◌==◌, Bool, true, false, List, [], ◌∷◌, ◌++◌, length, drop, None, refl, arith, length-append}
 use Rattle.std.specs.Prelude.{All, if◌then◌else◌, not}
 use Rattle.std.proofs.lemmas.Grind.{common_steps}
 use Rattle.std.proofs.lemmas.List.Elements.{All-push, All-drop}
@@ -18,14 +18,6 @@ pub record IsLetIn {T : Type 0} (queue : Queue T) (request : Req T) : Type 0 whe
   pub count : is_count queue.config request.priority request.count ≡ true
   pub unthrottled : is_throttled queue.config request.priority ≡ false
   pub room : is_full queue ≡ true → (length (below request.priority queue.waiting) == 0) ≡ false
-
-let_in_by : {E : Type 0} (one two three : E) (count throttled full none : Bool) → (if not count then Some one else if throttled then Some two else if full && none then Some three else None) ≡ None
-    → (count ≡ true) × (throttled ≡ false) × (full ≡ true → none ≡ false)
-let_in_by one two three true false true false h = (refl, refl, λ _. refl)
-let_in_by one two three true false true true h = cc
-let_in_by one two three true false false none h = (refl, refl, λ e. cc)
-let_in_by one two three true true full none h = cc
-let_in_by one two three false throttled full none h = cc
 
 pub let_in : {T : Type 0} (queue : Queue T) (request : Req T) → refusal_of queue request ≡ None → IsLetIn queue request
 let_in queue request h = grind (arith, common_steps, nat_tests)

@@ -1,10 +1,10 @@
 -- What a window leaves.
-use Rattle.std.proofs.Common.{◌≡◌, ℕ, ◌+◌, ◌==◌, ◌<◌, ◌≤◌, Bool, true, false, List, [], ◌∷◌, ◌++◌, length, take, drop, refl, ◌⊎◌, inl, inr, ap, ◌∙◌, arith, length-append, length-drop}
+use Rattle.std.proofs.Common.{◌≡◌, ℕ, ◌+◌, ◌==◌, ◌<◌, Bool, true, false, List, [], ◌∷◌, ◌++◌, length, take, drop, refl, ap, ◌∙◌, arith, length-append, length-drop}
 use Rattle.std.specs.Prelude.{All}
 use Rattle.std.proofs.lemmas.Grind.{common_steps}
 use Rattle.std.proofs.lemmas.Bool.Decides.{nat_tests}
 use Rattle.std.proofs.lemmas.List.{append-nil, length-take-le}
-use Rattle.std.proofs.lemmas.List.Elements.{All-head, All-tail, All-take, All-drop, filter-append}
+use Rattle.std.proofs.lemmas.List.Elements.{All-head, All-tail, All-take, All-drop}
 use Rattle.std.proofs.lemmas.List.Sums.{sum_by-append}
 use Rattle.fdb_history.specs.declared.grv.Priority.{Priority}
 use Rattle.fdb_history.specs.declared.grv.Priority.TheVariants.{System, Default, Batch}
@@ -97,9 +97,6 @@ after_is queue reach elapsed normal batch left h is left_same normal_is batch_is
     let batch_same : batch ≡ own.batch = batch_is ∙ rw (← lengths, is.all) refl in
     let here : record queue { waiting = left; budgets = record { normal = normal; batch = batch } } ≡ after_leaving queue elapsed left = rw (normal_same, batch_same) refl in
     here ∙ ap (λ some. after_leaving queue elapsed some) same
-
-zero_or_more : (n : ℕ) → (n ≡ 0) ⊎ (0 < n)
-zero_or_more n = grind arith
 
 -- how far a window comes has nothing to do with throttles
 pub IsReach-throttled : {T : Type 0} (queue : Queue T) (reach : Reach) → IsReach (record queue { throttles = [] }) reach → IsReach queue reach

@@ -7,7 +7,6 @@ pub mod Lawful
 pub mod Lost
 pub mod Turning
 pub mod Keeping
-mod Examples
 pub mod Popping
 pub mod Skipping
 pub mod Forgetting

@@ -1,8 +1,7 @@
 -- Requests that wait under other rates.
-use Rattle.std.proofs.Common.{◌≡◌, ℕ, ◌+◌, ◌<◌, ◌≤◌, ◌==◌, Bool, true, false, List, [], ◌∷◌, ◌++◌, length, take, drop, get_or, Option, None, Some, refl, sym, ap, ◌∙◌, arith, suc, append_assoc, length-append, map}
+use Rattle.std.proofs.Common.{◌≡◌, ℕ, ◌+◌, ◌<◌, ◌≤◌, ◌==◌, true, false, List, [], ◌∷◌, ◌++◌, length, take, drop, get_or, Option, None, Some, refl, sym, ap, ◌∙◌, arith, suc, append_assoc, length-append, map}
 use Rattle.std.specs.Prelude.{if◌then◌else◌, not, option_map, All, IsPermutation}
 use Rattle.std.specs.List.{cons_option, slice_index_or}
-use Rattle.std.specs.Option.{is_none}
 use Rattle.std.proofs.lemmas.Grind.{common_steps}
 use Rattle.std.proofs.lemmas.Bool.Decides.{nat_tests}
 use Rattle.std.proofs.lemmas.List.{take_more, drop_more, append-nil}
@@ -123,15 +122,6 @@ left-leaves config list now rest before out place x cause so_far within is some 
     rw next.left (omega (arith, all))
 
 -- ---- what a queue keeps to
-
-none_by : {E : Type 0} (one two : E) (count throttled : Bool) → (if not count then Some one else if throttled then Some two else None) ≡ None → (count ≡ true) × (throttled ≡ false)
-none_by one two true false h = (refl, refl)
-none_by one two true true h = cc
-none_by one two false throttled h = cc
-
-none_from : {X : Type 0} (o : Option X) → is_none o ≡ true → o ≡ None
-none_from None h = refl
-none_from (Some x) h = cc
 
 -- what waits on is admitted under the other rates
 admitted_under : {T : Type 0} (config other : QueueConfig) (priority : Priority) (request : Req T) → 1 ≤ other.room → IsAdmitted config priority request → may_wait other request ≡ true → IsAdmitted other priority request

@@ -1,6 +1,6 @@
 -- What the clients of a run are at its start, and what they leave.
 use Rattle.std.proofs.Common.{◌≡◌, ℕ, suc, ◌+◌, ◌<◌, List, [], ◌∷◌, Some, length, replicate, refl, ap, sym, ◌∙◌, subst, arith, zero, map}
-use Rattle.std.specs.List.{AllByRecursion, slice_get}
+use Rattle.std.specs.List.{slice_get}
 use Rattle.std.specs.Option.{option_map}
 use Rattle.std.proofs.lemmas.Option.{slice_get-map, slice_get_within}
 use Rattle.fdb_client.specs.Account.{Account, new_account}
@@ -27,12 +27,6 @@ first_new first client clients new =
     let this : client ≡ new_account (first + 0) [] [] = cc in
     this ∙ ap (λ n. new_account n [] []) (omega arith)
 
-none_called_from : (first : ℕ) (clients : List Account) → AreNewFrom first clients → AllByRecursion HasNotCalled clients
-none_called_from first [] new = tt
-none_called_from first (client ∷ clients) new =
-    let is = first_new first client clients new in
-    (record { begun = ap (λ one. one.begun) is; calls = ap (λ one. one.calls) is }, none_called_from (first + 1) clients (others_new first client clients new))
-
 no_calls_from : (first : ℕ) (clients : List Account) → AreNewFrom first clients → logs_of clients ≡ replicate (length clients) (record { calls = [] })
 no_calls_from first [] new = refl
 no_calls_from first (client ∷ clients) new =
@@ -42,9 +36,6 @@ no_calls_from first (client ∷ clients) new =
 module _ (clients : List Account) (n : ℕ) (count : n ≡ length clients) (new : (k : ℕ) → k < n → slice_get clients k ≡ Some (new_account k [] [])) where
   from_first : AreNewFrom 0 clients
   from_first k within = subst (λ n. slice_get clients k ≡ Some (new_account n [] [])) (omega arith) (new k (omega (arith, within, count)))
-
-  pub none_called : AllByRecursion HasNotCalled clients
-  none_called = none_called_from 0 clients from_first
 
   pub no_calls : logs_of clients ≡ replicate n (record { calls = [] })
   no_calls = no_calls_from 0 clients from_first ∙ ap (λ n. replicate n (record { calls = [] })) (sym count)
