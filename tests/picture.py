@@ -3,7 +3,9 @@
 Values that were worked out by hand stand in pictures.txt. What the page's code makes of a drawing
 is looked at by browsed.py.
 """
+import itertools
 import json
+import math
 import os
 import re
 import sys
@@ -389,34 +391,56 @@ def random_logs(_program):
         met += len(drawing.faults)
         data = json.loads(json.dumps(drawings.columns_of(drawing)))
         objects = [it for it in map(json.loads, said.splitlines()) if "fault" in it]
-        wrong = (path_fault(drawing, *both) for both in zip(drawing.faults, objects, strict=True))
+        options = options_of(words)
+        cases = [case for case, *_ in Log(lines_of(given, options.key), options).faults()]
+        found = zip(drawing.faults, objects, cases, strict=True)
+        wrong = (path_fault(drawing, *its) for its in found)
         yield name, log_fault(text, words, data, drawing) or next(filter(None, wrong), None)
     yield "enough faults", None if met > LOGS else f"{met}"
 
 
-def path_fault(drawing, fault, said):
+def path_fault(drawing, fault, said, case):
     """Says what of a fault's object its links, its view and its lateness have not."""
     names = ["at", "reported", "drawn", "by", "teller", *["first"] * bool(said.get("late"))]
     at = {name: said[name]["line"] - 1 for name in names if said.get(name)}
     knower, other = at.get("reported", at["at"]), at.get("drawn", at.get("reported"))
-    beside = [(other, at["at"])] * (other is not None and at.get("by") != at["at"])
+    is_beside = other is not None and at.get("by") != at["at"]
+    beside = links_between(case, other, at["at"]) if is_beside else []
     chain = [it[:2] for it in fault.links]
     way = [at["by"], knower] if "by" in at else []
     if "teller" in at:
-        learns = [end for _start, end in chain[:-1 - len(beside)]]
+        learns = [end for _start, end in chain[:len(chain) - len(beside) - 1]]
         way = [at["by"], *learns, knower] if learns[-1:] == [at["teller"]] else []
-    wanted = [*zip(way, way[1:]), *beside]
-    lines, late = drawing.lines, [it for it in (said.get("late"),) if it]
-    for start, end, has_tip in fault.links:
-        one, two = lines[start], lines[end]
-        if has_tip and (one.ended is None or one.ended > two.began):
-            return f"an arrow from {one} to {two}"
+    wanted = [*((*both, True) for both in zip(way, way[1:])), *beside]
+    late = [it for it in (said.get("late"),) if it]
+    unknown = [both for both in zip(way, way[1:]) if not is_known(case, *both)]
     is_right = (
-        chain == wanted and set(at.values()) <= set(fault.roles) and fault.at == at["at"]
+        fault.links == wanted and not unknown and set(at.values()) <= set(fault.roles)
+        and fault.at == at["at"]
         and (fault.known, fault.knower) == (str(said["known"]) if "known" in said else None, knower)
         and (fault.late, fault.first) == (f"{late[0]:,} too late" if late else "", at.get("first"))
     )
-    return None if is_right else f"{fault}, of {said}"
+    return None if is_right else f"{fault}, of {said}, with {wanted}"
+
+
+def links_between(case, one, other):
+    """What may join two calls that a reason names: an arrow where one came before, and a dashed
+    line where none did, whatever the ends are that are not known."""
+    for both in ((one, other), (other, one)):
+        if is_known(case, *both):
+            return [(*both, True)]
+    lines = [case.lines[case.at.index(it)] for it in (one, other)]
+    ends = [[it.began, math.inf] if it.ended is None else [it.ended] for it in lines]
+    are_sure = not case.has_times or all(
+        max(it.began for it in lines) <= min(its) for its in itertools.product(*ends))
+    return [(one, other, False)] * are_sure
+
+
+def is_known(case, one, other):
+    """Whether a call knew of another by the model, or was a learn by which its client did."""
+    one, other = map(case.at.index, (one, other))
+    learns = dict(case.learns[case.lines[other].client])
+    return one in case.before[other] or one in learns.get(other, ())
 
 
 # ---- bugs that were planted, and what they would change

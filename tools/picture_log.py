@@ -4,7 +4,7 @@ import math
 from types import SimpleNamespace
 
 from drawing import (DRAWING, SHOWING, START, Drawing, Fault, Line, Refused, column, counted,
-                     heading, known_by_telling, known_by_time, quoted, rising, shown)
+                     end_of, heading, known_by_telling, known_by_time, quoted, rising, shown)
 
 # Each kind of call: at its bar, in the key, and in words.
 KINDS = {
@@ -231,11 +231,40 @@ class Log:
                  for name, its in named.items() for at in its if at is not None}
         ended = lambda at: math.inf if self.lines[at].ended is None else self.lines[at].ended
         links = [(*both, ended(both[0]) <= self.lines[both[1]].began) for both in zip(way, way[1:])]
-        links += [(it.other, it.at, False)] * (it.other is not None and it.by != it.at)
+        if it.other is not None and it.by != it.at:
+            links += filter(None, [self.link(it.other, it.at)])
         return Fault(
             f"{plain} at line {it.at + 1}", f"{means} ({it.kind})", self.reason(it), it.at, roles,
             links, None if it.known is None else str(it.known), it.knower,
             f"{it.late:,} too late" if it.late else "", it.first)
+
+    def link(self, one, other):
+        """What joins two calls: from the one that came before, if one did; none if that is not known.
+        """
+        for both in ((one, other), (other, one)):
+            if (self.had_ended if self.has_times else self.is_known)(*both):
+                return (*both, True)
+        its = [self.lines[it] for it in (one, other)]
+        # One whose end is not known may have ended as it began, and within the margin one may have
+        # come before.
+        is_sure = not self.has_times or max(it.began for it in its) <= min(map(end_of, its))
+        return (one, other, False) if is_sure else None
+
+    def had_ended(self, one, other):
+        """Whether a call came before another, by their times."""
+        ended, is_own = self.lines[one].ended, self.calls[one].client == self.calls[other].client
+        is_own = is_own and self.calls[one].client is not None
+        return ended is not None and (
+            ended + self.said.margin < self.lines[other].began
+            or is_own and (ended, one) < (self.lines[other].began, other))
+
+    def is_known(self, one, other):
+        """Whether a client knew of a call when it made another: it is its own, or it had learnt."""
+        knowing = {self.calls[one].client}
+        for it in self.calls[one + 1:other]:
+            if it.kind == "learn" and it.value in knowing:
+                knowing.add(it.client)
+        return one < other and self.calls[other].client in knowing
 
     def told(self, it):
         """The learns by which what a line showed came to another, the last of them that one."""
