@@ -66,7 +66,8 @@ class Fault(NamedTuple):
     links: list  # two of these that are joined, and whether the first had ended before the second
     known: Optional[str]  # the version that was known, to which call
     knower: int
-    late: str  # how late the call at fault was, since which one's end
+    late: str  # how late the call at fault was, or at least was, since which one's end
+    is_least: bool
     first: Optional[int]
 
 
