@@ -14,6 +14,7 @@ import types
 from collections import defaultdict
 from html.parser import HTMLParser
 
+import follow_model
 import judging
 from audit_logs import example_cases, random_cases
 from audit_model import DRAWING, Log, judged, options_of, printed
@@ -46,7 +47,9 @@ def drawn(text, name=None):
 
 
 def audited(text, *words):
-    """What fdb_audit --json says of a log, by its model."""
+    """What fdb_audit --json says of a log, by its model, or of one that grows."""
+    if "--follow" in words:
+        return follow_model.judged_as(text.encode(), ["--json", *words]).out.decode()
     return judged(text.encode(), options_of(["--json", *words]))[1].decode()
 
 
@@ -245,40 +248,53 @@ def log_fault(text, words, data, drawing):
     """What of a log's bars is not as its line is, and what of its faults is not as the audit says.
     """
     options = options_of(words)
-    log, bars = Log(lines_of(text.encode(), options.key), options), dict(bars_in(data))
-    first = int(data["origin"].replace(",", "") or 0)
-    for number, (line, bar) in enumerate(zip(log.lines, bars.values(), strict=True), 1):
+    log = Log(lines_of(text.encode(), options.key), options)
+    sentences = [case.sentence(fault, k, case.reasons(fault, k)[0])
+                 for case, fault, k in log.faults()]
+    return bars_fault(log, range(len(log.lines)), data) or reasons_fault(drawing, sentences)
+
+
+def bars_fault(log, places, data):
+    """What of the bars is not as the lines are, which stand at these places of a log."""
+    bars, first = dict(bars_in(data)), int(data["origin"].replace(",", "") or 0)
+    for place, line, (name, bar) in zip(places, log.lines, bars.items(), strict=True):
+        number = place + 1
         times = [it if it is None else it - first for it in (line.began, line.ended)]
         times = [10 * number - 9, 10 * number - 1] if line.began is None else times
         label = f"from {printed(line.value)[1:-1]}" if line.kind == "learn" else str(line.value)
         nameless = line.client is None
         lane = "callers without a name" if nameless else f"client {printed(line.client)[1:-1]}"
-        found = (plain(bar.lane), bar.kind, bar.left, bar.right, plain(bar.label))
-        wanted = (plain(lane), line.kind, *times, plain(label))
+        found = (name, plain(bar.lane), bar.kind, bar.left, bar.right, plain(bar.label))
+        wanted = (f"line {number}", plain(lane), line.kind, *times, plain(label))
         said = f"Line {number}: {'a caller' if nameless else f'client {printed(line.client)}'} "
         if found != wanted or not plain(bar.words).startswith(plain(said)):
             return f"line {number} is drawn as {found}: {bar.words}"
         end = "; its end is not known." if line.ended is None else f" to {line.ended}."
         if line.began is not None and f", from {line.began}{end}" not in bar.words:
             return f"line {number} is told as {bar.words}"
-    return log_known_fault(log, data) or differing(
-        "reasons", [re.sub(r"(?<=\d),(?=\d{3})", "", plain(it.reason)) for it in drawing.faults],
-        [case.sentence(fault, k, case.reasons(fault, k)[0]) for case, fault, k in log.faults()])
+    return log_known_fault(log, places, data)
 
 
-def log_known_fault(log, data):
+def reasons_fault(drawing, sentences):
+    """What differs between the reasons of faults and these sentences, in which no number is parted.
+    """
+    reasons = [re.sub(r"(?<=\d),(?=\d{3})", "", plain(it.reason)) for it in drawing.faults]
+    return differing("reasons", reasons, sentences)
+
+
+def log_known_fault(log, places, data):
     """What is said of what a call knew, or of what is known to all, that the model does not say."""
     by_key = dict(zip(dict.fromkeys(it.key for it in log.lines), data["bands"], strict=True))
+    bar_of = {place: bar for place, (_name, bar) in zip(places, bars_in(data))}
     for case in log.cases:
-        begins = [bar.left for _name, bar in bars_in(data)]
         for k, line in enumerate(case.lines):
-            known = max(case.knows[k], case.last[k] * (line.kind in DRAWING))
-            said = re.search(r"before it: (\d+)\.$", data["words"][case.at[k]])
+            known, bar = max(case.knows[k], case.last[k] * (line.kind in DRAWING)), bar_of[case.at[k]]
+            said = re.search(r"before it: (\d+)\.$", bar.words)
             if line.kind != "learn" and int(said[1] if said else 0) != known:
                 return f"line {case.at[k] + 1}: it says {said}, and {known} was known"
             bands = by_key[line.key]
             before = [int(label.split()[0]) for left, label in zip(bands["left"], bands["label"])
-                      if left < begins[case.at[k]]]
+                      if left < bar.left]
             past = [case.lines[j].value for j in case.before[k]
                     if case.is_past(j, k) and case.lines[j].kind != "ask"] if line.began else []
             if before and case.has_times and before[-1] != max([*past, case.start]):

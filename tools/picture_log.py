@@ -191,8 +191,8 @@ class Log:
         told = [counted(kinds.count(it), it) for it in KINDS if it in kinds] or ["no lines"]
         by_key = f"; each {shown(asked.key)} is judged by itself" * asked.by_key
         found = counted(count, "fault") if count else "No fault"
-        is_watched = " was told by a watch" * self.said.is_watched
-        said = [f"{found}{is_watched} in {', '.join(told)}{by_key}."]
+        by_watch = " told by a watch" * self.said.is_watched
+        said = [f"{found}{by_watch} in {', '.join(told)}{by_key}."]
         return "\n".join(said + [*self.watch()] * self.said.is_watched)
 
     def watch(self):
