@@ -288,7 +288,8 @@ def log_known_fault(log, places, data):
     bar_of = {place: bar for place, (_name, bar) in zip(places, bars_in(data))}
     for case in log.cases:
         for k, line in enumerate(case.lines):
-            known, bar = max(case.knows[k], case.last[k] * (line.kind in DRAWING)), bar_of[case.at[k]]
+            bar = bar_of[case.at[k]]
+            known = max(case.knows[k], case.last[k] * (line.kind in DRAWING))
             said = re.search(r"before it: (\d+)\.$", bar.words)
             if line.kind != "learn" and int(said[1] if said else 0) != known:
                 return f"line {case.at[k] + 1}: it says {said}, and {known} was known"

@@ -5,14 +5,16 @@ import random
 import follow
 from audit_search import text_of
 from follow_model import Followed, judged_as, rows_of
-from picture import bars_fault, data_of, differing, page_fault, page_of, reasons_fault, refusal_fault
+from picture import (bars_fault, data_of, differing, page_fault, page_of, reasons_fault,
+                     refusal_fault)
 
 # How many random logs there are, and how many of them at least have a fault that is at least so
 # late, and how many have lines that were refused.
 LOGS, LEAST = 150, 20
 # Counts of a watch while it runs, as a later one may write them, and how the page tells them.
 COUNTS = {"lines": 12, "by_kind": {"reads": 7, "asks": 5}, "newest_end": 1234, "settled": None}
-COUNTED = "While it ran it counted, at last: lines 12, reads 7, asks 5, newest end 1,234, settled null."
+COUNTED = ("While it ran it counted, at last: lines 12, reads 7, asks 5, newest end 1,234, "
+           "settled null.")
 NOT_ENDED = "The watch had not ended: some of the lines were not judged yet."
 MORE_LINES = b'\n{"read":1,"began":9,"ended":9}\n{'
 
@@ -120,6 +122,8 @@ CHANGED = (
     ('"follow":5', '"follow":null', "BadLog 3"),
     ('"line":2', '"line":3', "BadVerdict 1"),
     ('"lines":3', '"lines":4', "BadVerdict 2"),
+    ('"early":0', '"early":"none"', "BadVerdict 2"),
+    ('"total":{', '"total":[],"other":{', "BadVerdict 2"),
     ('"refused":1', '"refused":2', "BadVerdict 2"),
     ('"refused":1', '"refused":0', None),
     ('{"faults":1', '{"faults":2', "Cut 4"),
@@ -139,7 +143,8 @@ NO_LINES = (
 )
 LINES = (
     b'{"read":1,"began":1,"ended":2,"note":%s1%s}\r' % (b"[" * 126, b"]" * 126),
-    b'{"read":"01","began":1,"ended":2,"note":"\\ud83d\\ude00"}', b'{"read":1,"began":1,"ended":null}',
+    b'{"read":"01","began":1,"ended":2,"note":"\\ud83d\\ude00"}',
+    b'{"read":1,"began":1,"ended":null}',
 )
 
 

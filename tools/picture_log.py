@@ -26,8 +26,8 @@ mean that line of the log, counted from 1."""
 NOTES_BY_KEY = "The dashed lines are those of the key at fault, and calls of other keys are pale."
 NOTES_OF_WATCH = """A watch tells stale reads and commit versions that are too low, and no other
 fault. 'At least' so late: what it no longer keeps may have ended before."""
-NOTES_WHILE_WATCHED = """What is known to all is not drawn, as the watch has not said by which margin
-it judges."""
+NOTES_WHILE_WATCHED = """What is known to all is not drawn, as the watch has not said yet by which
+margin it judges."""
 # Of lines that a watch refused so many are named.
 MOST_NAMED = 10
 
@@ -128,8 +128,8 @@ class Log:
             it.first)
 
     def link(self, one, other):
-        """What joins two calls: from the one that came before, if one did; none if that is not known.
-        """
+        """What joins two calls: from the one that came before, if one did; None if that is not
+        known."""
         for both in ((one, other), (other, one)):
             if (self.had_ended if self.has_times else self.is_known)(*both):
                 return (*both, True)
@@ -197,7 +197,7 @@ class Log:
 
     def watch(self):
         """How far a watch came: what it left out, what it did not read, and what it counted."""
-        early, read = self.said.total("early"), self.said.total("lines") + self.said.total("refused")
+        early, read = self.said.total("early"), self.said.lines_read()
         if self.refused:
             numbers = ", ".join(map(str, self.refused[:MOST_NAMED]))
             more = ", .." * (len(self.refused) > MOST_NAMED)

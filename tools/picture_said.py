@@ -1,4 +1,4 @@
-"""Reads what `fdb_audit --json` said of a log, or with --follow of one that grows, for a picture."""
+"""Reads what `fdb_audit --json` said of a log, or has told of one that grows, for a picture."""
 import json
 from types import SimpleNamespace
 
@@ -36,7 +36,7 @@ class Said:
 
     def __init__(self, texts):
         self.objects, self.totals, self.counts, number = [], [], [], 0
-        self.asked, self.watched, self.is_ended = None, None, False
+        self.asked, self.watched, self.is_ended, self.members = None, None, False, []
         for number, text in enumerate(texts, 1):
             if text.startswith("fdb_audit: "):
                 # (it stood on standard error)
@@ -46,8 +46,9 @@ class Said:
             except NO_SUCH:
                 raise no_verdict(number, text) from None
         if self.asked is None and self.watched is not None:
-            self.asked = arguments_of({"margin": None, "by_key": False, "members": self.members()})
-        self.is_watched = self.watched is not None or getattr(self.asked, "follow", None) is not None
+            self.asked = arguments_of({"margin": None, "by_key": False, "members": self.members})
+        follow = getattr(self.asked, "follow", None)
+        self.is_watched = self.watched is not None or follow is not None
         if self.asked is None or not self.is_whole():
             why = "no totals, or not each of the faults that they count"
             raise Refused(f"Cut {number}: {why}")
@@ -56,19 +57,17 @@ class Said:
         """Takes an object. Turns of a history, and others that are not known, are passed over."""
         if "fault" in it.keys():
             self.objects.append((number, text, it))
+            self.members = [*it["at"].get("members", ())]
         if "arguments" in it:
             self.asked = arguments_of(it["arguments"])
         if "total" in it:
-            self.totals.append((number, text, it["total"]))
+            counts = {it: number_in(count) for it, count in it["total"].items() if count is not None}
+            self.totals.append((number, text, counts))
         if "watched" in it:
             self.watched = [*worded(it["watched"])]
         elif "faults" in it and not it.keys() & {"client", "members"}:
             self.counts.append(number_in(it["faults"]))
         self.is_ended = bool(self.totals) and not it.keys() & {"fault", "watched"}
-
-    def members(self):
-        """The members that stand beside lines."""
-        return [*self.objects[0][-1]["at"].get("members", ())] if self.objects else []
 
     def is_whole(self):
         """Whether all faults are there that were counted; what a watch tells now is not yet."""
@@ -78,13 +77,16 @@ class Said:
         return told == (sum(self.counts) if self.is_watched else (self.counts or [None])[-1])
 
     def total(self, name):
-        return sum(number_in(it.get(name, 0)) for _number, _text, it in self.totals)
+        return sum(it.get(name, 0) for _number, _text, it in self.totals)
+
+    def lines_read(self):
+        return self.total("lines") + self.total("refused")
 
     def faults_of(self, calls, count):
-        """The faults of the calls of a log of so many lines, of which a watch may have read some."""
+        """The faults of a log of so many lines, and these calls: a watch may have read some."""
         places, found = {it.number: place for place, it in enumerate(calls)}, []
         for number, text, it in self.totals[-1:]:
-            read = self.total("lines") + self.total("refused")
+            read = self.lines_read()
             if read > count or read < count and not self.is_watched:
                 raise no_verdict(number, text)
         for number, text, said in self.objects:
@@ -107,7 +109,8 @@ def arguments_of(said):
     """What was asked for: of a watch also how far lines may be behind."""
     it = SimpleNamespace(**{"complete": None, "follow": None, **said})
     it.start = number_in(it.complete or 0)
-    it.margin, it.follow = (None if one is None else number_in(one) for one in (it.margin, it.follow))
+    for name in ("margin", "follow"):
+        setattr(it, name, None if getattr(it, name) is None else number_in(getattr(it, name)))
     it.members = [*map(name_in, it.members)]
     it.key = it.members[0] if it.by_key else None
     return it
