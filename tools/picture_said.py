@@ -61,7 +61,8 @@ class Said:
         if "arguments" in it:
             self.asked = arguments_of(it["arguments"])
         if "total" in it:
-            counts = {it: number_in(count) for it, count in it["total"].items() if count is not None}
+            found = it["total"].items()
+            counts = {name: number_in(count) for name, count in found if count is not None}
             self.totals.append((number, text, counts))
         if "watched" in it:
             self.watched = [*worded(it["watched"])]
