@@ -1,5 +1,6 @@
 """Reads a log, and what `fdb_audit --json` said of it, for a picture."""
 import math
+from collections import defaultdict
 
 from drawing import (DRAWING, SHOWING, START, Drawing, Fault, Line, Refused, column, counted,
                      end_of, heading, known_by_telling, known_by_time, quoted, rising, shown)
@@ -28,8 +29,9 @@ NOTES_OF_WATCH = """A watch tells stale reads and commit versions that are too l
 fault. 'At least' so late: what it no longer keeps may have ended before."""
 NOTES_WHILE_WATCHED = """What is known to all is not drawn, as the watch has not said yet by which
 margin it judges."""
-# Of lines that a watch refused so many are named.
-MOST_NAMED = 10
+# Of lines that a watch refused so many are named; and of so many pairs of calls it is found at once
+# whether the one was known to the other's client.
+MOST_NAMED, AT_ONCE = 10, 4_096
 
 
 class Log:
@@ -41,6 +43,7 @@ class Log:
         self.calls, self.refused = calls_of(texts, self.asked.key, self.said.is_watched)
         self.faults = self.said.faults_of(self.calls, self.count)
         self.has_times = bool(self.calls) and self.calls[0].has_times
+        self.heard = set() if self.has_times else self.heard_of()
         lines = [self.line(at) for at in range(len(self.calls))]
         knew = " Known{} before it: {}."
         self.lines = [it._replace(words=it.words + knew.format(
@@ -131,7 +134,7 @@ class Log:
         """What joins two calls: from the one that came before, if one did; None if that is not
         known."""
         for both in ((one, other), (other, one)):
-            if (self.had_ended if self.has_times else self.is_known)(*both):
+            if self.had_ended(*both) if self.has_times else both in self.heard:
                 return (*both, True)
         its = [self.lines[it] for it in (one, other)]
         # One whose end is not known may have ended as it began, and within the margin one may have
@@ -147,13 +150,21 @@ class Log:
             ended + (self.asked.margin or 0) < self.lines[other].began
             or is_own and (ended, one) < (self.lines[other].began, other))
 
-    def is_known(self, one, other):
-        """Whether a client knew of a call when it made another: it is its own, or it had learnt."""
-        knowing = {self.calls[one].client}
-        for it in self.calls[one + 1:other]:
-            if it.kind == "learn" and it.value in knowing:
-                knowing.add(it.client)
-        return one < other and self.calls[other].client in knowing
+    def heard_of(self):
+        """Of the faults' calls and the others that they name those pairs of which the client of the
+        second knew of the first: it was its own, or it had learnt of it."""
+        pairs = [sorted((it.at, it.other)) for it in self.faults if it.other is not None]
+        found = set()
+        for first in range(0, len(pairs), AT_ONCE):
+            asked, bits, knows = defaultdict(list), {}, defaultdict(int)
+            for one, other in pairs[first:first + AT_ONCE]:
+                asked[other].append(one)
+                bits.setdefault(one, 1 << len(bits))
+            for at, it in enumerate(self.calls):
+                found.update((one, at) for one in asked.get(at, ()) if knows[it.client] & bits[one])
+                told = knows[it.value] if it.kind == "learn" else 0
+                knows[it.client] |= told | bits.get(at, 0)
+        return found
 
     def told(self, it):
         """The learns by which what a line showed came to another, the last of them that one."""
