@@ -131,7 +131,7 @@ CHANGED = (
     ('{"faults":1', '{"watched":{}}\n{"faults":1', None),
     ('{"faults":1', '{"watched":[]}\n{"faults":1', "BadVerdict 3"),
 )
-# Lines that a watch refuses, and that Python alone might read.
+# Lines that a watch refuses, of which Python alone would read some; and others that it takes.
 NO_LINES = (
     b'{"read":1,"began":1,"ended":2,"note":NaN}', b'{"read":1,"began":1,"ended":2,"note":1e999}',
     b'{"read":1,"began":1,"ended":2,"note":"\\ud800"}', b'{"read":-0,"began":1,"ended":2}',
@@ -140,6 +140,7 @@ NO_LINES = (
     b'{"read":1,"began":1,"ended":2,"note":%s1%s}' % (b"[" * 127, b"]" * 127),
     b'{"read":1,"began":1,"ended":2,"note":"%s"}' % (b" " * 2**20),
     b'{"read":1,"began":1,"ended":2,"key":true}', b'{"client":"b","learn":"a"}',
+    b'{"client":"b","read":1}',
 )
 LINES = (
     b'{"read":1,"began":1,"ended":2,"note":%s1%s}\r' % (b"[" * 126, b"]" * 126),
@@ -160,9 +161,9 @@ def refused_watches(_program):
     yield "early lines", differing("account", early.account.split("\n")[2:], [
         "2 lines came early, and may not have been judged."])
     for line in (*NO_LINES, *LINES):
-        given = LOG + line + b"\n"
+        given = line + b"\n" + LOG
         said = judged_as(given, ["--follow", "5", "--json", "--key", "key"]).out.decode()
-        wanted = f"{2 - (line in LINES)} refused line"
-        account = drawn_of(given, said.splitlines()).account.split("\n")[1]
-        yield f"{line[:60]}", None if account.startswith(wanted) and (
-            f'"refused":{2 - (line in LINES)},' in said) else f"{account}, of {said}"
+        refused = [1, 4] if line in NO_LINES else [4]
+        account = drawn_of(given, said.splitlines()).account.split("\n")[1:]
+        is_right = account == told_of_refused(refused) and f'"refused":{len(refused)},' in said
+        yield f"{line[:60]}", None if is_right else f"{account}, of {said}"
