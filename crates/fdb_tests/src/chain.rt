@@ -10,13 +10,13 @@
 //! - `patient` has nothing: from here on each request that is refused memory is made once more;
 //! - `stand` has nothing: how many answers stand, once the lock is gone.
 
-mod rows;
-
+use crate::words::say_cause;
 use fdb_chain::{ChainCore, ChainError, RecentChain, Sequencer};
-use fdb_checks::{CaseError, HoldsFirst, Player, TableLine, lines_of};
+use fdb_checks::{CaseError, HoldsFirst, Player, TableLine, lines_of, plays};
 use fdb_history::{Ask, Issued, OpenGate, Place, Service};
 use std::alloc::Global;
 use std::sync::Wait;
+use std::test::Fail;
 use std::thread;
 use std::thread::Threads;
 
@@ -71,7 +71,7 @@ impl<'a, R: Wait> Chain<'a, R> {
                 self.asked = Asked::Core(core);
                 line.say("ok");
             }
-            Err(cause) => say_cause(line, cause),
+            Err(cause) => say_cause(line, cause, cause == ChainError::Memory),
         }
     }
 
@@ -81,31 +81,24 @@ impl<'a, R: Wait> Chain<'a, R> {
                 self.asked = Asked::Behind(Sequencer::new(core));
                 line.say("ok");
             }
-            Err(cause) => say_cause(line, cause),
+            Err(cause) => say_cause(line, cause, cause == ChainError::Memory),
         }
     }
 
     /// Makes a request, with nobody beside it.
     fn answer(&mut self, ask: Ask) -> Result<Issued, ChainError> {
-        match &mut self.asked {
-            Asked::Nobody => Err(ChainError::NoProxy),
-            Asked::Core(core) => core.ask(ask),
-            Asked::Behind(sequencer) => sequencer.ask(self.rt, &OpenGate, ask),
+        let tries = if self.patient { 2 } else { 1 };
+        for _ in 0..tries {
+            let found = match &mut self.asked {
+                Asked::Nobody => Err(ChainError::NoProxy),
+                Asked::Core(core) => core.ask(ask),
+                Asked::Behind(sequencer) => sequencer.ask(self.rt, &OpenGate, ask),
+            };
+            if found != Err(ChainError::Memory) {
+                return found;
+            }
         }
-    }
-
-    /// The same once more where it is refused memory, if that is called for.
-    fn answer_patiently(&mut self, ask: Ask) -> Result<Issued, ChainError> {
-        let found = self.answer(ask);
-        if self.patient && found == Err(ChainError::Memory) {
-            return self.answer(ask);
-        }
-        found
-    }
-
-    fn ask(&mut self, line: &mut TableLine<'_>) {
-        let found = self.answer_patiently(ask_of(line));
-        say_answer(line, found);
+        Err(ChainError::Memory)
     }
 
     /// Has each of so many proxies ask under a number, once it has processed all before it.
@@ -120,7 +113,7 @@ impl<'a, R: Wait> Chain<'a, R> {
             });
             match found {
                 Ok(issued) => line.holds(issued.fresh, "kept"),
-                Err(cause) => say_cause(line, cause),
+                Err(cause) => say_cause(line, cause, cause == ChainError::Memory),
             }
         }
         line.say("fresh");
@@ -140,20 +133,15 @@ impl<R: Wait> Player for Chain<'_, R> {
         match call {
             "new" => self.open(line),
             "behind" => self.open_behind(line),
-            "ask" => self.ask(line),
+            "ask" => {
+                let found = self.answer(ask_of(line));
+                say_answer(line, found);
+            }
             "round" => self.round(line),
             "stand" => self.stand(line),
             "patient" => self.patient = true,
             _ => line.fails("no call"),
         }
-    }
-}
-
-/// Says the cause of a refusal, or notes that memory was refused.
-fn say_cause(line: &mut TableLine<'_>, cause: ChainError) {
-    match cause {
-        ChainError::Memory => line.refuse(),
-        cause => line.say(cause),
     }
 }
 
@@ -177,52 +165,50 @@ fn say_answer(line: &mut TableLine<'_>, found: Result<Issued, ChainError>) {
             line.say(issued.at);
             line.say(if issued.fresh { "fresh" } else { "kept" });
         }
-        Err(cause) => say_cause(line, cause),
+        Err(cause) => say_cause(line, cause, cause == ChainError::Memory),
     }
 }
 
-/// Plays a text in which each request passes the gate once, and another one comes that has to wait.
+/// Plays a text at a number. Each request passes the gate once, and another one comes that has to wait.
 fn play_held<R: Threads + Wait + Sync>(
     alloc: Global,
     chain: &mut Chain<'_, R>,
     text: &str,
+    number: u64,
 ) -> Result<(), CaseError> {
-    for mut line in lines_of(alloc, text, 0)? {
-        match line.word() {
-            "ask" => ask_held(chain, &mut line),
-            call => chain.called(call, &mut line),
+    for mut line in lines_of(alloc, text, number)? {
+        let call = line.word();
+        match &chain.asked {
+            Asked::Behind(sequencer) if call == "ask" => {
+                let found = held(chain.rt, sequencer, &mut line);
+                say_answer(&mut line, found);
+            }
+            _ => chain.called(call, &mut line),
         }
         line.ends()?;
     }
     Ok(())
 }
 
-/// Asks a sequencer. While the request is at the gate, with the lock, another one comes.
-fn ask_held<R: Threads + Wait + Sync>(chain: &Chain<'_, R>, line: &mut TableLine<'_>) {
-    match &chain.asked {
-        Asked::Behind(sequencer) => {
-            let (found, in_turn) = held(chain.rt, sequencer, ask_of(line));
-            line.holds(in_turn, "one waits for the other");
-            say_answer(line, found);
-        }
-        _ => line.fails("no lock"),
-    }
-}
-
-/// Asks a sequencer while another one comes. Answers too whether that one waited, and was refused.
+/// Asks a sequencer while another one comes, who waits until the answer is there, and is refused.
 fn held<R: Threads + Wait + Sync>(
     rt: &R,
     sequencer: &Sequencer<FromHundred>,
-    ask: Ask,
-) -> (Result<Issued, ChainError>, bool) {
+    line: &mut TableLine<'_>,
+) -> Result<Issued, ChainError> {
+    let ask = ask_of(line);
     let gate = HoldsFirst::new(Place::SequencerHeld, ask.proxy, STRANGER);
     let (found, behind) = thread::join(
         rt,
         || answered(rt, sequencer, &gate, ask),
-        || refused_behind(rt, sequencer, &gate, ask),
+        || answered_behind(rt, sequencer, &gate, ask),
     );
-    let refused = behind == Err(ChainError::UnknownProxy);
-    (found, refused && gate.was_passed(1, 1))
+    line.holds(
+        behind == Err(ChainError::UnknownProxy),
+        "a stranger is answered",
+    );
+    line.holds(gate.was_passed(1, 1), "one waits for the other");
+    found
 }
 
 /// Asks a sequencer, and tells the gate that the answer has come.
@@ -239,7 +225,7 @@ fn answered<R: Wait>(
 
 /// What it answers a stranger who comes while another request is held. It has processed something
 /// where the other has not.
-fn refused_behind<R: Wait>(
+fn answered_behind<R: Wait>(
     rt: &R,
     sequencer: &Sequencer<FromHundred>,
     gate: &HoldsFirst,
@@ -253,4 +239,64 @@ fn refused_behind<R: Wait>(
     gate.waits_until_held();
     gate.is_done_beside();
     sequencer.ask(rt, gate, ask)
+}
+
+/// A repeat; the least and the greatest step; an earlier moment; one processed; requests out of
+/// range; more processed than asked for.
+const ROWS: &str = "
+new 0 100 4 => ok; ask 0 1 0 1000 => 0 0 100 1000 fresh; ask 0 2 0 3000 => 1 100 2100 3000 fresh
+ask 0 2 0 9000 => 1 100 2100 3000 kept; ask 0 3 0 3500 => 2 2100 2600 3500 fresh; stand => 3
+new 0 100 4 => ok; ask 0 1 0 1000 => 0 0 100 1000 fresh; ask 0 2 0 1000 => 1 100 101 1000 fresh
+ask 0 3 0 20001000 => 2 101 5000101 20001000 fresh; stand => 3; new 0 100 4 => ok
+ask 0 1 0 1000 => 0 0 100 1000 fresh; ask 0 2 0 500 => 1 100 101 500 fresh
+ask 0 3 0 1200 => 2 101 801 1200 fresh; stand => 3; new 0 100 4 => ok
+ask 0 1 0 1000 => 0 0 100 1000 fresh; ask 0 2 0 3000 => 1 100 2100 3000 fresh
+ask 0 3 1 3500 => 2 2100 2600 3500 fresh
+ask 0 1 0 4000 => the answer is not kept any more; ask 0 2 0 4000 => 1 100 2100 3000 kept
+ask 0 2 2 4000 => 1 100 2100 3000 kept; ask 0 2 0 4000 => 1 100 2100 3000 kept; stand => 3
+new 0 100 4 => ok; ask 0 1 0 1000 => 0 0 100 1000 fresh; ask 0 2 0 3000 => 1 100 2100 3000 fresh
+ask 0 5 0 4000 => the next request number is 3; ask 0 5 2 4000 => the next request number is 3
+ask 0 0 0 4000 => the answer is not kept any more; ask 0 0 2 4000 => the answer is not kept any more
+ask 4 1 0 4000 => there is no such commit proxy; ask 4 1 2 4000 => there is no such commit proxy
+stand => 2; new 0 100 4 => ok
+ask 0 1 0 1000 => 0 0 100 1000 fresh; ask 0 2 9 3000 => 1 100 2100 3000 fresh
+ask 0 1 0 4000 => the answer is not kept any more; ask 0 2 0 4000 => 1 100 2100 3000 kept; stand => 2
+";
+
+/// The last version, and what a chain is not opened with.
+const BOUNDS: &str = "
+new 0 9223372036854775807 64 => ok; ask 63 1 0 0 => 0 0 9223372036854775807 0 fresh
+ask 0 1 0 0 => the versions are used up; stand => 1
+new 0 100 65 => the number of commit proxies is out of range
+new 100 100 0 => the recovery version is out of range
+";
+
+#[test]
+fn requests_through_the_lock(rt: HostRuntime) -> Result<(), Fail> {
+    let (alloc, mut chain) = (rt.alloc(), Chain::new(&rt));
+    plays(alloc, &mut chain, ROWS)?;
+    plays(alloc, &mut chain, BOUNDS)?;
+    let behind = ROWS.replace(alloc, "new 0 100", "behind")?;
+    Ok(play_held(alloc, &mut chain, &behind, 0)?)
+}
+
+/// Proxy 0 and 63 others ask behind a lock, in more than 1,024 turns. No time passes, so that each
+/// version is one above the one before: its ordinal and 100. The others ask under ten numbers, process
+/// the first, and repeat some.
+const OF_64: &str = "
+behind 64 => ok; ask 0 1 0 0 => 0 0 100 0 fresh; *ask @1 1 0 0 => @1 @100 @101 0 fresh
+*ask @1 2 0 0 => @64 @163 @164 0 fresh; *ask @1 1 1 0 => @1 @100 @101 0 kept
+*ask @1 3 1 0 => @127 @226 @227 0 fresh,ask @1 1 0 0 => the answer is not kept any more,\
+ask @1 2 0 0 => @64 @163 @164 0 kept,ask @1 3 0 0 => @127 @226 @227 0 kept,\
+ask @1 5 3 0 => the next request number is 4,ask 64 1 0 0 => there is no such commit proxy
+ask 0 1 0 0 => 0 0 100 0 kept; ask 0 2 0 0 => 190 289 290 0 fresh
+*ask @1 4 0 0 => @191 @290 @291 0 fresh; *ask @1 5 0 0 => @254 @353 @354 0 fresh
+*ask @1 6 0 0 => @317 @416 @417 0 fresh; *ask @1 7 0 0 => @380 @479 @480 0 fresh
+*ask @1 8 0 0 => @443 @542 @543 0 fresh; *ask @1 9 0 0 => @506 @605 @606 0 fresh
+*ask @1 10 0 0 => @569 @668 @669 0 fresh; *ask @1 4 4 0 => @191 @290 @291 0 kept; stand => 632
+";
+
+#[test]
+fn each_of_64_proxies_processes(rt: HostRuntime) -> Result<(), Fail> {
+    Ok(play_held(rt.alloc(), &mut Chain::new(&rt), OF_64, 63)?)
 }

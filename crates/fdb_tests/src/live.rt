@@ -18,7 +18,7 @@ mod master;
 mod rows;
 mod threads;
 
-use crate::audits::words::{plain, record};
+use crate::words::{plain, record, say_cause};
 use fdb_checks::{CaseError, Player, TableLine};
 use fdb_history::Record;
 use fdb_live::{Live, LiveError, LiveRecord, Opened};
@@ -45,7 +45,7 @@ impl<'a, R: Wait> Opener<'a, R> {
         let reporters = u32::try_from(line.number_behind("for")).unwrap_or_default();
         match opened(self.rt, line.alloc, start, reporters) {
             Ok(tokens) => line.say(tokens),
-            Err(cause) => say_cause(line, cause),
+            Err(cause) => say_cause(line, cause, cause == LiveError::Memory),
         }
     }
 }
@@ -58,14 +58,6 @@ impl<R: Wait> Player for Opener<'_, R> {
             "gather" => gathered::gather(self.rt, line),
             _ => line.fails("no call"),
         }
-    }
-}
-
-/// Says the cause of a refusal, or notes that memory was refused.
-pub(crate) fn say_cause(line: &mut TableLine<'_>, cause: LiveError) {
-    match cause {
-        LiveError::Memory => line.refuse(),
-        cause => line.say(cause),
     }
 }
 

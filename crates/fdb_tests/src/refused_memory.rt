@@ -16,14 +16,14 @@ const AUDITS: &str = "
 clear
 entry 0 0 1 0 0 200 200 fresh; entry 1 0 2 0 200 300 300 fresh
 entry 2 1 1 0 300 350 350 fresh; entry 3 1 2 0 350 200 200 fresh
-log; draws 0 0 0 1 0 0 200 200 fresh; draws 0 1 0 2 0 200 300 300 fresh; raises 0 1 1 200
-raises 1 2 2 300
-log; reads 0 1 200; draws 1 2 1 1 0 300 350 350 fresh; draws 1 3 1 2 0 350 200 200 fresh
-audit => NotAbove 1 2
+log; draws 0 0 0 1 0 0 200 200 fresh; draws 0 1 0 2 0 200 300 300 fresh
+reports 0 1 1 200 unlocked none raised; reports 1 2 2 300 unlocked none raised
+log; reads 0 1 200 unlocked none; draws 1 2 1 1 0 300 350 350 fresh
+draws 1 3 1 2 0 350 200 200 fresh; audit => NotAbove 1 2
 entry 0 0 1 0 0 200 200 fresh; entry 1 0 2 0 200 300 300 fresh
-log; draws 0 0 0 1 0 0 200 200 fresh; draws 0 1 0 2 0 200 300 300 fresh; raises 0 1 1 200
-raises 1 2 2 300; log; reads 0 1 200
-event 1 => read 1 0 200 unlocked none; events => 3 again; audit => ok
+log; draws 0 0 0 1 0 0 200 200 fresh; draws 0 1 0 2 0 200 300 300 fresh
+reports 0 1 1 200 unlocked none raised; reports 1 2 2 300 unlocked none raised
+log; reads 0 1 200 unlocked none; event 1 => read 1 0 200 unlocked none; audit => 3
 ";
 
 #[test]
@@ -53,17 +53,16 @@ fn a_sequencer_bears_it(rt: HostRuntime) -> Result<(), Fail> {
 }
 
 /// Requests of each priority, of which a window starts some, and throttles that are set, so that
-/// each list grows more than once.
+/// each list grows more than once. (tests/c/memory.c: more requests, and new rates)
 const QUEUE: &str = "
-new 3 2 6 => ok
+made 3 2 6 => ok
 offer batch 1 0 => in; offer batch 1 1 => in; offer default 1 2 => in; offer default 1 3 => in
 offer system 1 4 => in; offer system 1 5 => in; offer system 1 6 => out 0; window 1 => 4 5 6 | 0 0
-lengths => 0 2 1; rates 3 0 => 1 | 1 batch requests are not let in; lengths => 0 2 0
-throttle batch a 1 9 => ok; throttle batch b 2 9 => ok; throttle batch c 3 9 => ok
-throttle batch d 4 9 => ok; throttle batch e 5 9 => ok; throttle batch f 6 9 => ok
-throttle batch g 7 9 => ok; throttle batch a 8 9 => ok; throttle system b 9 9 => ok
+with batch a 1 9; with batch b 2 9; with batch c 3 9; with batch d 4 9; with batch e 5 9
+with batch f 6 9; with batch g 7 9; with batch a 8 9; with system b 9 9
+set => ok ok ok ok ok ok ok ok ok
 tag a; tag b; tag c; tag d; tag e; tag f; tag g; tag a; tag h; limits batch 8 => 8 8 9
-with batch a 4 9; with batch b 6 9; copy => same; made 1 1 1 => ok; tag b; limits batch 8 => 1 6 9
+with batch a 4 9; with batch b 6 9; made 1 1 1 => ok; tag b; limits batch 8 => 1 6 9
 ";
 
 #[test]

@@ -3,11 +3,10 @@
 ghost use Rattle.std.specs.Prelude.{◌≡◌, false};
 ghost use Rattle.fdb_live.specs.Seen.{origin_of};
 
-use crate::audits::words::plain;
-use crate::live::say_cause;
+use crate::words::{plain, say_cause};
 use fdb_checks::TableLine;
 use fdb_history::OpenGate;
-use fdb_live::{Live, LiveRecord, Opened, Seen};
+use fdb_live::{Live, LiveError, LiveRecord, Opened, Seen};
 use std::marker::Brand;
 use std::sync::Wait;
 
@@ -16,7 +15,7 @@ use std::sync::Wait;
 pub(crate) fn gather<R: Wait>(rt: &R, line: &mut TableLine<'_>) {
     match LiveRecord::<Brand>::open(rt, line.alloc, plain(100), 2, None) {
         Ok(opened) => gather_named::<Brand, R>(rt, opened, line),
-        Err(cause) => say_cause(line, cause),
+        Err(cause) => say_cause(line, cause, cause == LiveError::Memory),
     }
 }
 
@@ -29,7 +28,7 @@ fn gather_named<J: Live, R: Wait>(rt: &R, opened: Opened, line: &mut TableLine<'
 {
     match opened.parts::<J>() {
         Ok((live, first, tokens)) => gather_tokens(rt, &live, first, tokens, line),
-        Err(cause) => say_cause(line, cause),
+        Err(cause) => say_cause(line, cause, cause == LiveError::Memory),
     }
 }
 

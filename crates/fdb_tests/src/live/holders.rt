@@ -11,9 +11,8 @@
 
 ghost use Rattle.std.specs.Prelude.{◌≡◌, false};
 
-use crate::audits::words::record;
-use crate::live::say_cause;
 use crate::live::threads::run_all;
+use crate::words::{record, say_cause};
 use fdb_checks::{CaseError, TableLine, lines_of};
 use fdb_history::{Gate, Place};
 use fdb_live::{Ack, Live, LiveError, LiveRecord, Seen};
@@ -185,7 +184,7 @@ fn say_ack(line: &mut TableLine<'_>, found: Result<Ack, LiveError>) {
             line.say(word_of(ack));
             line.say(format_args!("at {}", ack.position));
         }
-        Err(cause) => say_cause(line, cause),
+        Err(cause) => say_cause(line, cause, cause == LiveError::Memory),
     }
 }
 

@@ -2,8 +2,8 @@
 
 ghost use Rattle.std.specs.Prelude.{◌≡◌, Some};
 
-use crate::audits::words::plain;
 use crate::live::holders::{Bare, Holders};
+use crate::words::plain;
 use fdb_checks::{TableLine, stays_away};
 use fdb_history::{Gate, Place};
 use fdb_live::{Live, Seen};
