@@ -29,39 +29,38 @@ Replies::keep | of_each 1;*keep @1 0 @1 0 0 100 0 fresh;*kept 0 @1 => @1 | 65538
 /// The audit, which finds an event for each read and each report: logs, reads, raises by one client
 /// and by several, raises of the minimum, repeats, tells and refusals.
 const AUDITS: &str = "
-audit, history_of | clear;*log,reads 0 0 100 unlocked none;events => @0 | 0 few 65 many
-audit, history_of | clear;log;*reads 0 0 100 unlocked none;events => @0 | 0 few many
+audit, history_of | clear;*log,reads 0 0 100 unlocked none;audit => @0 | 0 few 65 many
+audit, history_of | clear;log;*reads 0 0 100 unlocked none;audit => @0 | 0 few many
 audit, history_of | clear;log;*entry @0 0 @1 0 @100 @101 0 fresh,draws @0 @0 0 @1 0 @100 @101 0 fresh,\
-reports @0 @1 @1 @101 unlocked none raised;events => @0 | 0 few many
+reports @0 @1 @1 @101 unlocked none raised;audit => @0 | 0 few many
 audit, history_of | clear;start 1000000 unlocked none;entry 0 0 1 0 99 1000000 0 fresh;log;\
 draws 0 0 0 1 0 99 1000000 0 fresh;*reports @0 @1 1 1000000 unlocked none min @1 changed;\
-events => @0 | 0 few many
+audit => @0 | 0 few many
 audit, history_of | clear;*log,entry @0 @0 1 0 @100 @101 0 fresh,draws 0 @0 @0 1 0 @100 @101 0 fresh,\
-reports 0 @1 1 @101 unlocked none raised;events => @0 | 0 few 65 many
+reports 0 @1 1 @101 unlocked none raised;audit => @0 | 0 few 65 many
 audit, history_of | clear;log;entry 0 0 1 0 99 100 0 fresh;draws 0 0 0 1 0 99 100 0 fresh;\
-*draws 0 0 0 1 0 99 100 0 kept;events => 0 | 0 few many
-audit, history_of | clear;log;*tells 0 1;events => 0 | 0 few many
-audit, history_of | clear;log;*refused @1;events => 0 | 0 few many
+*draws 0 0 0 1 0 99 100 0 kept;audit => 0 | 0 few many
+audit, history_of | clear;log;*tells 0 1;audit => 0 | 0 few many
+audit, history_of | clear;log;*refused @1;audit => 0 | 0 few many
 audit, history_of | clear;start @0 unlocked none min @0;log;reads 0 0 @0 unlocked none min @0;\
-events => 1 | 0 few many 9223372036854775807
-audit, history_of | clear;start @0 unlocked none;log;reads 0 0 @0 unlocked none;events => 1 \
+audit => 1 | 0 few many 9223372036854775807
+audit, history_of | clear;start @0 unlocked none;log;reads 0 0 @0 unlocked none;audit => 1 \
 | 0 few many 9223372036854775807
 ";
 
 /// `fdb_chain`: a chain of all answers, and requests for versions behind the sequencer's lock.
 const CHAINS: &str = "
-ChainCore::new, ChainCore::ask | *new 99 100 @1 => ok,round 1 @1 => fresh,stand => @1 | 64
+ChainCore::new, ChainCore::ask | new 99 100 64 => ok;*ask @0 1 0 0 => @0 @99 @100 0 fresh;stand => @0 \
+| 1 2 5 6 63 64
 ChainCore::new, ChainCore::ask | new 0 @0 64 => ok;ask 63 1 0 0 => 0 0 @0 0 fresh \
 | few many 9223372036854775807
 ChainCore::ask | new 99 100 1 => ok;*ask 0 @1 @0 0 => @0 @99 @100 0 fresh;stand => @0 | 65538
-ChainCore::ask | new 99 100 64 => ok;*round @1 64 => fresh | 1025
-ChainCore::ask | new 0 100 1 => ok;round 1 1 => fresh;ask 0 2 18446744073709551615 @0 \
-=> 1 100 @100 @0 fresh | few many 5000000
-ChainCore::ask | new 0 100 1 => ok;round 1 1 => fresh;ask 0 2 18446744073709551615 @0 \
-=> 1 100 5000100 @0 fresh | 5000001 18446744073709551615
-RecentChain::new, Sequencer::ask | *behind @1 => ok,round 1 @1 => fresh,stand => @1 | 64
-RecentChain::ask, Sequencer::ask | behind 1 => ok;*round @1 1 => fresh;stand => @0 | 65538
-Sequencer::ask | behind 64 => ok;*round @1 64 => fresh | 1025
+Sequencer::ask | behind @0 => ok;ask 0 1 0 0 => 0 0 100 0 fresh;stand => 1 | 1 2 5 6 63 64
+Sequencer::ask | behind 1 => ok;ask 0 1 0 0 => 0 0 100 0 fresh;*ask 0 @2 @1 0 => @1 @100 @101 0 fresh;\
+stand => @1 | 65538
+Sequencer::ask | behind 1 => ok;ask 0 1 0 0 => 0 0 100 0 fresh;\
+ask 0 2 18446744073709551615 @0 => 1 100 @100 @0 fresh \
+| few many 5000000
 ";
 
 /// `fdb_queue`, at each priority: throttles that a queue is made with or is given later, and limits.
@@ -70,11 +69,7 @@ GrvQueue::with_throttles, Throttle::clone | *with PRIORITY nr @0 @0 9;made 1 1 1
 *tag nr @0,limits PRIORITY 8 => 1 @0 9 | 0 few 999 1000 1001 many
 GrvQueue::with_throttles | *with PRIORITY t @1 9;made 1 1 1 => ok;tag t;limits PRIORITY 8 => 1 @0 9 \
 | few 999 1000 1001 many
-GrvQueue::with_throttles | with PRIORITY t 5 9;made @0 1 1 => ok;tag t;limits PRIORITY 8 => 1 5 9 \
-| few many 99999 100000
-GrvQueue::with_throttles | with PRIORITY t 5 9;made 1 @0 1 => ok;tag t;limits PRIORITY 8 => 1 5 9 \
-| 0 few many 99999 100000
-GrvQueue::with_throttles | with PRIORITY t 5 9;made 1 1 @0 => ok;tag t;limits PRIORITY 8 => 1 5 9 \
+GrvQueue::with_throttles | with PRIORITY t 5 9;made @0 @0 @0 => ok;tag t;limits PRIORITY 8 => 1 5 9 \
 | few many 99999 100000
 GrvQueue::with_throttles, GrvQueue::set_throttle, Throttle::clone | with PRIORITY of @0 5 9;\
 made 1 1 1 => ok;tag of @0;limits PRIORITY 8 => 1 5 9;with PRIORITY of @0 6 8;set => ok;\
@@ -109,7 +104,8 @@ Master::ask | master 100 64 @0 => fresh | 0 few
 
 /// `fdb_lines`: a watch that settles all lines, of which the reads are stale.
 const WATCHES: &str = "
-Watch::settle | clear;add none commit 5 0 1;*add none read 4 9 9;count 10 => @0 | 0 few 65537 100000
+Watch::settle | clear;*add none commit @1 @0 @0;add none read 0 99999 99999;settle @0 => \
+| 1 2 5 64 65537
 Watch::settle | clear;add none commit 5 0 1;add none read 4 @2 @2;settle @3 => Order 1 @1 0 \
 | 0 few many 18446744073709551610
 ";

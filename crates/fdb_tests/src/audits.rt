@@ -7,15 +7,14 @@
 //! and the record that was read; `reports` these, a number, the record, and `raised`, `changed` or
 //! `same`; `draws` the client's position, and the entry that was answered; `tells` a position and
 //! another client, and `refused` the number of a report of what was not issued;
-//! - `audit` wants a fault, or how many events there are, and forgets all, as `clear` does;
-//! - `event` has a place in the history, and `events` how many there are, and `register` what the
-//! register is after them. `history_of` finds the same events.
+//! - `audit` says a fault, or how many events the history has, and forgets all, as `clear` does;
+//! `register` says what the register is after them. `history_of` finds the same events.
 
 use crate::words::{issued, plain, record, untagged};
 use fdb_checks::{Player, TableLine, plays_all, says};
 use fdb_history::{
-    AuditFault, Call, CallAnswer, ClientLog, Event, History, Input, Issued, Record, Refusal,
-    Sequence, audit, history_of, register_after,
+    AuditFault, Call, CallAnswer, ClientLog, Input, Issued, Record, Refusal, Sequence, audit,
+    history_of, register_after,
 };
 use std::alloc::Global;
 use std::test::Fail;
@@ -43,7 +42,7 @@ impl Audits {
         }
     }
 
-    /// Says the fault, or what is asked of the history.
+    /// Says the fault, or of the history how many events it has, or what the register is after them.
     fn look(&self, what: &str, line: &mut TableLine<'_>) {
         if self.logs.len() > MOST {
             line.fails("too many logs");
@@ -56,21 +55,13 @@ impl Audits {
         match audit(self.alloc, self.start, &self.chain, &self.logs) {
             Ok(history) => {
                 line.holds(again.events == history.events, "other events");
-                self.say(what, line, &history);
+                match what {
+                    "register" => line.say(register_after(self.start, history.events.as_slice())),
+                    _ => line.say(history.events.len()),
+                }
             }
             Err(AuditFault::Memory) => line.refuse(),
             Err(fault) => line.say(fault),
-        }
-    }
-
-    fn say(&self, what: &str, line: &mut TableLine<'_>, history: &History) {
-        match what {
-            "event" => {
-                let place = line.number() as usize;
-                say_event(line, history.events.as_slice().get(place));
-            }
-            "register" => line.say(register_after(self.start, history.events.as_slice())),
-            _ => line.say(history.events.len()),
         }
     }
 
@@ -101,7 +92,7 @@ impl Player for Audits {
                 self.look(call, line);
                 *self = Audits::new(self.alloc);
             }
-            "events" | "event" | "register" => self.look(call, line),
+            "register" => self.look(call, line),
             kind => self.add(kind, line),
         }
     }
@@ -190,29 +181,10 @@ fn refused(kind: &str, line: &mut TableLine<'_>) -> Call {
     }
 }
 
-fn say_event(line: &mut TableLine<'_>, event: Option<&Event>) {
-    match event {
-        None => line.say("none"),
-        Some(Event::Read { client, call, rec }) => {
-            line.say(format_args!("read {client} {call} {rec}"));
-        }
-        Some(
-            Event::Report {
-                client,
-                call,
-                rec,
-                raised,
-                changed,
-            },
-        ) => line.say(format_args!("report {client} {call} {rec} {raised} {changed}")),
-    }
-}
-
-/// Events of logs that have a history, and none behind the last. Client 1 raises twice, client 0 reads
-/// before, between and after, and client 2 has a report that raises nothing. Then client 1 raises the
-/// minimum alone, client 0 the version, and client 1 the minimum again.
+/// Client 1 raises twice, client 0 reads before, between and after, and client 2 has a report that
+/// raises nothing. Then client 1 raises the minimum alone, client 0 the version, and client 1 the
+/// minimum again.
 const HISTORIES: &str = "
-event 0 => none; audit => 0
 entry 0 1 1 0 0 100 100 fresh; entry 1 1 2 0 100 200 200 fresh; entry 2 2 1 0 200 250 250 fresh
 entry 3 1 3 0 250 300 300 fresh
 log; reads 0 0 100 unlocked none; reads 0 2 300 unlocked none; reads 2 2 300 unlocked none
@@ -220,19 +192,12 @@ log; draws 0 0 1 1 0 0 100 100 fresh; draws 0 1 1 2 0 100 200 200 fresh
 draws 0 3 1 3 0 250 300 300 fresh; reports 0 1 2 200 unlocked none raised
 reports 1 2 3 300 unlocked none raised
 log; reads 0 1 200 unlocked none; draws 1 2 2 1 0 200 250 250 fresh
-reports 1 2 1 250 unlocked none same
-event 0 => read 0 0 100 unlocked none; event 1 => report 1 3 200 unlocked none true true
-event 2 => read 2 0 200 unlocked none; event 3 => report 1 4 300 unlocked none true true
-event 4 => read 0 1 300 unlocked none; event 5 => read 0 2 300 unlocked none
-event 6 => report 2 2 250 unlocked none false false; event 7 => none
-register => 300 unlocked none; audit => 7
+reports 1 2 1 250 unlocked none same; register => 300 unlocked none; audit => 7
 entry 0 1 1 0 0 100 100 fresh; entry 1 0 1 0 100 200 200 fresh
 log; draws 0 1 0 1 0 100 200 200 fresh; reads 0 1 100 unlocked none min 50
 reports 1 2 1 200 locked 0102030405060708090a min 20 raised
 log; draws 0 0 1 1 0 0 100 100 fresh; reports 0 1 1 100 unlocked none min 50 changed
 reports 1 3 1 100 unlocked none min 60 changed
-event 0 => report 1 1 100 unlocked none min 50 false true
-event 2 => report 0 2 200 locked 0102030405060708090a min 20 true true
 register => 200 locked 0102030405060708090a min 60; audit => 4
 ";
 

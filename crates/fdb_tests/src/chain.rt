@@ -6,7 +6,6 @@
 //! - `ask` has the members of a request (the proxy, the number, what was processed, the moment): the
 //! ordinal, the version before, the version and the moment of the answer, and `fresh` or `kept`, or
 //! why there is none;
-//! - `round` has a number and how many proxies: whether each is given a fresh version for it;
 //! - `patient` has nothing: from here on each request that is refused memory is made once more;
 //! - `stand` has nothing: how many answers stand, once the lock is gone.
 
@@ -101,24 +100,6 @@ impl<'a, R: Wait> Chain<'a, R> {
         Err(ChainError::Memory)
     }
 
-    /// Has each of so many proxies ask under a number, once it has processed all before it.
-    fn round(&mut self, line: &mut TableLine<'_>) {
-        let (num, proxies) = (line.number(), line.who());
-        for proxy in 0..proxies {
-            let found = self.answer(Ask {
-                proxy,
-                num,
-                processed: num.saturating_sub(1),
-                at: 0,
-            });
-            match found {
-                Ok(issued) => line.holds(issued.fresh, "kept"),
-                Err(cause) => say_cause(line, cause, cause == ChainError::Memory),
-            }
-        }
-        line.say("fresh");
-    }
-
     fn stand(&mut self, line: &mut TableLine<'_>) {
         match std::mem::replace(&mut self.asked, Asked::Nobody) {
             Asked::Nobody => line.fails("nobody is asked"),
@@ -137,7 +118,6 @@ impl<R: Wait> Player for Chain<'_, R> {
                 let found = self.answer(ask_of(line));
                 say_answer(line, found);
             }
-            "round" => self.round(line),
             "stand" => self.stand(line),
             "patient" => self.patient = true,
             _ => line.fails("no call"),
@@ -245,22 +225,15 @@ fn answered_behind<R: Wait>(
 /// range; more processed than asked for.
 const ROWS: &str = "
 new 0 100 4 => ok; ask 0 1 0 1000 => 0 0 100 1000 fresh; ask 0 2 0 3000 => 1 100 2100 3000 fresh
-ask 0 2 0 9000 => 1 100 2100 3000 kept; ask 0 3 0 3500 => 2 2100 2600 3500 fresh; stand => 3
-new 0 100 4 => ok; ask 0 1 0 1000 => 0 0 100 1000 fresh; ask 0 2 0 1000 => 1 100 101 1000 fresh
-ask 0 3 0 20001000 => 2 101 5000101 20001000 fresh; stand => 3; new 0 100 4 => ok
-ask 0 1 0 1000 => 0 0 100 1000 fresh; ask 0 2 0 500 => 1 100 101 500 fresh
-ask 0 3 0 1200 => 2 101 801 1200 fresh; stand => 3; new 0 100 4 => ok
-ask 0 1 0 1000 => 0 0 100 1000 fresh; ask 0 2 0 3000 => 1 100 2100 3000 fresh
-ask 0 3 1 3500 => 2 2100 2600 3500 fresh
-ask 0 1 0 4000 => the answer is not kept any more; ask 0 2 0 4000 => 1 100 2100 3000 kept
-ask 0 2 2 4000 => 1 100 2100 3000 kept; ask 0 2 0 4000 => 1 100 2100 3000 kept; stand => 3
-new 0 100 4 => ok; ask 0 1 0 1000 => 0 0 100 1000 fresh; ask 0 2 0 3000 => 1 100 2100 3000 fresh
-ask 0 5 0 4000 => the next request number is 3; ask 0 5 2 4000 => the next request number is 3
-ask 0 0 0 4000 => the answer is not kept any more; ask 0 0 2 4000 => the answer is not kept any more
-ask 4 1 0 4000 => there is no such commit proxy; ask 4 1 2 4000 => there is no such commit proxy
-stand => 2; new 0 100 4 => ok
-ask 0 1 0 1000 => 0 0 100 1000 fresh; ask 0 2 9 3000 => 1 100 2100 3000 fresh
-ask 0 1 0 4000 => the answer is not kept any more; ask 0 2 0 4000 => 1 100 2100 3000 kept; stand => 2
+ask 0 2 0 9000 => 1 100 2100 3000 kept; ask 0 3 0 3000 => 2 2100 2101 3000 fresh
+ask 0 4 0 2500 => 3 2101 2102 2500 fresh; ask 0 5 0 20002500 => 4 2102 5002102 20002500 fresh
+ask 0 7 0 1 => the next request number is 6; ask 0 7 2 1 => the next request number is 6
+ask 0 0 0 1 => the answer is not kept any more; ask 0 0 2 1 => the answer is not kept any more
+ask 4 1 0 1 => there is no such commit proxy; ask 4 1 2 1 => there is no such commit proxy
+ask 0 6 1 20003000 => 5 5002102 5002602 20003000 fresh; ask 0 1 0 1 => the answer is not kept any more
+ask 0 2 2 1 => 1 100 2100 3000 kept; ask 0 2 0 1 => 1 100 2100 3000 kept
+ask 0 7 9 20003001 => 6 5002602 5002603 20003001 fresh; ask 0 6 0 1 => the answer is not kept any more
+ask 0 7 0 1 => 6 5002602 5002603 20003001 kept; stand => 7
 ";
 
 /// The last version, and what a chain is not opened with.

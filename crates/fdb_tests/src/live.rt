@@ -4,15 +4,12 @@
 //! - `open` has the first record and, behind `for`, how many reporters there are: how many have
 //! tokens. What is done with these stands in texts of its own (`holders`);
 //! - `master` has a recovery version, how many commit proxies there are, and how often each asks:
-//! whether all answers are fresh;
-//! - `gather` has the versions that two reporters report: how far the first token has come before what
-//! they have seen is gathered, and how far all have come then.
+//! whether all answers are fresh.
 
 ghost use Rattle.std.specs.Prelude.{◌≡◌, false};
 ghost use Rattle.fdb_live.specs.Seen.{origin_of};
 
 mod gates;
-pub mod gathered;
 mod holders;
 mod master;
 mod rows;
@@ -55,7 +52,6 @@ impl<R: Wait> Player for Opener<'_, R> {
         match call {
             "open" => self.open(line),
             "master" => master::ask(self.rt, line),
-            "gather" => gathered::gather(self.rt, line),
             _ => line.fails("no call"),
         }
     }

@@ -3,7 +3,6 @@
 //! - `with` tells a throttle (priority, tag, rate and expiry); `made` opens a queue (its normal and
 //! its batch limit, and its room) with copies of those that were told, and `set` sets these;
 //! - `offer` has a priority, a count and a payload: `in`, or the payload that was pushed `out`;
-//! - `window` has a time: the payloads that start, and behind a bar the budgets after it;
 //! - `skip` has a time: how many idle windows were held at once, and behind a bar the budgets;
 //! - `limits` has a priority and a moment: how many limits the tags of the `tag` lines before it
 //! have, and the rate and the expiry of the last.
@@ -96,19 +95,10 @@ impl Queue {
         }
     }
 
-    /// Holds a window, or idle windows at once, and says the budgets then.
-    fn window(&mut self, line: &mut TableLine<'_>, is_idle: bool) {
-        let elapsed = line.number();
-        if is_idle {
-            line.say(self.queue.skip_idle(elapsed));
-        } else {
-            match self.queue.window(elapsed) {
-                Ok(started) => say_payloads(line, &started),
-                Err(cause) => say_cause(line, cause, cause == QueueError::Memory),
-            }
-        }
+    fn skip(&mut self, line: &mut TableLine<'_>) {
+        let windows = self.queue.skip_idle(line.number());
         let budgets = self.queue.budgets();
-        line.say(format_args!("| {} {}", budgets.normal, budgets.batch));
+        line.say(format_args!("{windows} | {} {}", budgets.normal, budgets.batch));
     }
 
     fn limits(&mut self, line: &mut TableLine<'_>) {
@@ -135,8 +125,7 @@ impl Player for Queue {
             "made" => self.made(line),
             "set" => self.set(line),
             "offer" => self.offer(line),
-            "window" => self.window(line, false),
-            "skip" => self.window(line, true),
+            "skip" => self.skip(line),
             "tag" => {
                 let tag = tag_of(line);
                 line.takes(self.tags.push(tag));
@@ -162,26 +151,14 @@ fn tag_of(line: &mut TableLine<'_>) -> Tag {
             let bytes = line.number();
             tag_of_bytes(line, bytes)
         }
-        "nr" => tag_of_number(line),
+        "nr" => match line.number().to_string(line.alloc) {
+            Ok(digits) => line.tag(digits.as_str()),
+            Err(_) => {
+                line.lacks();
+                Sequence::new(line.alloc)
+            }
+        },
         word => line.tag(word),
-    }
-}
-
-/// A tag of the digits of a number.
-fn tag_of_number(line: &mut TableLine<'_>) -> Tag {
-    match line.number().to_string(line.alloc) {
-        Ok(digits) => line.tag(digits.as_str()),
-        Err(_) => {
-            line.lacks();
-            Sequence::new(line.alloc)
-        }
-    }
-}
-
-/// Says the payloads of requests.
-fn say_payloads(line: &mut TableLine<'_>, started: &[Req<u32>]) {
-    for request in started {
-        line.say(request.payload);
     }
 }
 
@@ -197,14 +174,13 @@ with default t 7 8; with batch t 8 9; set => ok ok; tag t; limits default 7 => 1
 tag t; limits batch 8 => 1 8 9; tag t; limits system 0 => 1 6 9000; limits default 0 => 0 0 0
 with batch of 16 7 9; with batch of 15 8 9; made 1 0 1 => ok; tag of 16; limits batch 0 => 1 7 9
 with batch of 17 7 9; set => the tag is too long; with batch of 17 7 9; made 1 1 1 => the tag is too long
-made 0 0 1 => the configuration is out of range; window 0 => the configuration is out of range | 0 0
+made 0 0 1 => the configuration is out of range
 offer batch 1 0 => batch requests are not let in; offer default 0 0 => the request's count is out of range
 skip 1000000 => 0 | 0 0; offer default 100000 7 => in; skip 0 => 0 | 0 0; skip 10000001 => 0 | 0 0
 offer default 1 8 => the queue is full
-skip 1 => 199998000000 | 199998000000 0; skip 1 => 0 | 199998000000 0; window 1 => 7 | 20000000 0
+skip 1 => 199998000000 | 199998000000 0; skip 1 => 0 | 199998000000 0
 made 1 1 2 => ok; offer batch 11 3 => in; skip 1 => 20000000 | 20000000 20000000
-window 1 => 3 | 20000000 19999990; offer batch 11 4 => in; offer default 1 5 => in
-offer system 1 6 => out 4
+offer batch 11 4 => in; offer system 1 6 => out 3
 ";
 
 #[test]

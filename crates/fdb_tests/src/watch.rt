@@ -4,8 +4,8 @@
 //! - `add` has a key or `none`, a kind, a version, and when the call began and ended, which a watch of
 //! all lines takes, and one by key;
 //! - `settle` has a moment, up to which the one of all lines settles, and `settle_keys` the other:
-//! what is told, by the fault, its line, by how much that is late, and behind which line; `count` says
-//! how much the first tells, and `finish` what the other tells at the end;
+//! what is told, by the fault, its line, by how much that is late, and behind which line; `finish`
+//! says what the other tells at the end;
 //! - `kept` says of each line that is kept by key the number, the key and the version;
 //! - `clear` begins anew.
 
@@ -53,11 +53,9 @@ impl Watches {
         line.takes(self.of_all.push(added));
     }
 
-    /// Settles the watch of all lines, and says how much is told or what.
-    fn settle(&mut self, line: &mut TableLine<'_>, is_count: bool) {
+    fn settle(&mut self, line: &mut TableLine<'_>) {
         let at = line.number();
         match self.of_all.settle(self.alloc, at) {
-            Ok(told) if is_count => line.say(told.found.len()),
             Ok(told) => say_told(line, &told),
             Err(_) => line.refuse(),
         }
@@ -106,8 +104,7 @@ impl Player for Watches {
         match call {
             "clear" => *self = Watches::new(self.alloc),
             "add" => self.add(line),
-            "settle" => self.settle(line, false),
-            "count" => self.settle(line, true),
+            "settle" => self.settle(line),
             "settle_keys" => {
                 let at = line.number();
                 say_by_key(line, self.by_key.settle(self.alloc, at));

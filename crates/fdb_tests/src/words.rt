@@ -1,6 +1,8 @@
 //! What words of several texts stand for: records, answers, options of a read and tags; and how the
 //! cause of a refusal is said.
 
+ghost use Rattle.std.specs.Prelude.{◌≡◌};
+
 use fdb_checks::TableLine;
 use fdb_history::{GrvOpts, Issued, Priority, Record, Sequence, Tag};
 use hex::FromHex;
@@ -8,7 +10,9 @@ use std::alloc::Global;
 use std::fmt::Display;
 
 /// A record with no lock, no metadata version and no minimum.
-pub(crate) fn plain(version: u64) -> Record {
+pub(crate) fn plain(version: u64) -> Record
+    ensures { result.version ≡ version }
+{
     Record {
         version,
         locked: false,

@@ -7,7 +7,8 @@
 //! is refused. The gate is passed once, under a number of its own, and not where it is refused;
 //! - `split` has a token, `learns` and `meets` have two, and `at` one: the number or `nobody`, and
 //! the position, of the new token or of the first;
-//! - `threads` has how many readers there are beside all reporters and the first one: the last record.
+//! - `threads` has how many reporters there are, whose tokens and all others are given to threads: the
+//! last record.
 
 ghost use Rattle.std.specs.Prelude.{◌≡◌, false};
 
@@ -177,23 +178,18 @@ fn say_token<J: Live>(line: &mut TableLine<'_>, token: &Seen<J>) {
     line.say(format_args!("at {}", token.position()));
 }
 
-/// Says what a report is answered.
+/// Says what a report has done to the record, or why it is refused.
 fn say_ack(line: &mut TableLine<'_>, found: Result<Ack, LiveError>) {
     match found {
         Ok(ack) => {
-            line.say(word_of(ack));
+            line.say(match (ack.raised, ack.changed) {
+                (true, true) => "raised",
+                (true, false) => "raised, and not changed",
+                (false, true) => "changed",
+                (false, false) => "same",
+            });
             line.say(format_args!("at {}", ack.position));
         }
         Err(cause) => say_cause(line, cause, cause == LiveError::Memory),
-    }
-}
-
-/// What a report has done to the record.
-fn word_of(ack: Ack) -> &'static str {
-    match (ack.raised, ack.changed) {
-        (true, true) => "raised",
-        (true, false) => "raised, and not changed",
-        (false, true) => "changed",
-        (false, false) => "same",
     }
 }

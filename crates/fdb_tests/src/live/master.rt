@@ -3,9 +3,10 @@
 ghost use Rattle.std.specs.Prelude.{◌≡◌, true};
 ghost use Rattle.fdb_live.specs.Seen.{origin_of};
 
+use crate::words::plain;
 use fdb_chain::ChainError;
 use fdb_checks::TableLine;
-use fdb_history::{Ask, MAX_VERSION, OpenGate, Record};
+use fdb_history::{Ask, MAX_VERSION, OpenGate};
 use fdb_live::{Epoch, Live, LiveRecord, Master, Opened, Seen};
 use std::alloc::Global;
 use std::marker::Brand;
@@ -32,17 +33,11 @@ fn asked<R: Wait>(
     if members == 0 || members > 64 || recovery == 0 || recovery > MAX_VERSION {
         return Ok(false);
     }
-    let start = Record {
-        version: 0,
-        locked: false,
-        metadata: None,
-        min_known: 0,
-    };
     let epoch = Epoch {
         before: 0,
         recovery,
     };
-    match LiveRecord::<Brand>::open(rt, alloc, start, members, Some(epoch)) {
+    match LiveRecord::<Brand>::open(rt, alloc, plain(0), members, Some(epoch)) {
         Ok(opened) => asked_named::<Brand, R>(rt, opened, asks),
         Err(_) => Err(ChainError::Memory),
     }
@@ -73,26 +68,16 @@ fn are_fresh<J: Live, R: Wait>(
 ) -> Result<bool, ChainError> {
     let mut fresh = true;
     for processed in 0..asks {
-        fresh &= is_fresh(rt, master, token, processed)?;
+        let Some(proxy) = token.reporter() else {
+            return Ok(false);
+        };
+        let ask = Ask {
+            proxy,
+            num: processed.saturating_add(1),
+            processed,
+            at: 0,
+        };
+        fresh &= master.ask(rt, &OpenGate, token, ask)?.fresh;
     }
     Ok(fresh)
-}
-
-/// Whether the request behind those that were processed gets a fresh answer.
-fn is_fresh<J: Live, R: Wait>(
-    rt: &R,
-    master: &Master<J>,
-    token: &mut Seen<J>,
-    processed: u64,
-) -> Result<bool, ChainError> {
-    let Some(proxy) = token.reporter() else {
-        return Ok(false);
-    };
-    let ask = Ask {
-        proxy,
-        num: processed.saturating_add(1),
-        processed,
-        at: 0,
-    };
-    Ok(master.ask(rt, &OpenGate, token, ask)?.fresh)
 }

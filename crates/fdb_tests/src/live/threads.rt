@@ -96,46 +96,33 @@ impl<J: Live> Worker<J> {
     }
 }
 
-/// A worker for each token, and for so many readers beside that of the last one.
+/// A worker for each token.
 fn workers_of<J: Live, R: Wait>(
     holders: &mut Holders<'_, J, R>,
     line: &mut TableLine<'_>,
-    readers: u64,
 ) -> Vec<Worker<J>> {
     let mut workers = Vec::new(line.alloc);
     for token in holders.tokens.iter_mut() {
         if let Some(token) = token.take() {
-            add_worker(&mut workers, line, token);
-        }
-    }
-    for _ in 0..readers {
-        if let Some(last) = workers.last_mut() {
-            let token = holders.live.record.split(&mut last.token);
-            add_worker(&mut workers, line, token);
+            line.takes(workers.push(Worker {
+                token,
+                version: 0,
+                raises: 0,
+                failed: false,
+            }));
         }
     }
     workers
 }
 
-fn add_worker<J: Live>(workers: &mut Vec<Worker<J>>, line: &mut TableLine<'_>, token: Seen<J>) {
-    line.takes(workers.push(Worker {
-        token,
-        version: 0,
-        raises: 0,
-        failed: false,
-    }));
-}
-
-/// Every reporter reports rising versions that no other has, and readers read beside them: the first
-/// token's, and so many more. Then the greatest version stands, at the position that counts the
-/// raises.
+/// Every reporter reports rising versions that no other has, and whoever has another token reads beside
+/// them. Then the greatest version stands, at the position that counts the raises.
 pub(crate) fn run_all<J: Live + Send + Sync, R: Threads + Wait + Sync>(
     holders: &mut Holders<'_, J, R>,
     line: &mut TableLine<'_>,
 ) {
-    let reporters = (holders.tokens.len() as u64).saturating_sub(1);
-    let readers = line.number();
-    let mut workers = workers_of(holders, line, readers);
+    let reporters = line.number();
+    let mut workers = workers_of(holders, line);
     let gate = OneByOne {
         passed: AtomicU64::new(0),
         numbers: AtomicU64::new(0),
