@@ -15,8 +15,7 @@ use crate::watch::Watches;
 use fdb_checks::plays_cases;
 use std::test::Fail;
 
-/// Where `fdb_history` allocates beside the audit: lists, their copies, and the replies that are
-/// kept.
+/// Where `fdb_history` allocates beside the audit: lists, their copies, and replies that are kept.
 const LISTS: &str = "
 Sequence::push, Sequence::clone, GrvOpts::clone | copies @0 1 => @0 | 0 few many
 GrvOpts::clone, TagLimit::clone | copies 1 @0 => 1 | 0 few 15 16 17 many
@@ -83,8 +82,7 @@ GrvQueue::throttles | with PRIORITY t 5 @1;made 1 1 1 => ok;tag t;limits PRIORIT
 | 0 few many 18446744073709551614
 ";
 
-/// `fdb_live`: live records that are opened, for up to 64 reporters and with versions up to the
-/// greatest, and masters that are opened, and asked with the tokens of up to 64 commit proxies.
+/// `fdb_live`: records and masters that are opened, and masters that are asked with the tokens of all.
 const RECORDS: &str = "
 LiveRecord::open, Opened::parts | open 100 unlocked none for @0 => @0 | 1 2 5 6 63 64
 LiveRecord::open, Opened::parts | open @0 unlocked none min @0 for 64 => 64 \

@@ -64,15 +64,6 @@ impl Audits {
             Err(fault) => line.say(fault),
         }
     }
-
-    /// Adds a call to the last log.
-    fn add(&mut self, kind: &str, line: &mut TableLine<'_>) {
-        let call = call(kind, line);
-        match self.logs.last_mut() {
-            Some(log) => line.takes(log.calls.push(call)),
-            None => line.fails("no log"),
-        }
-    }
 }
 
 impl Player for Audits {
@@ -93,7 +84,13 @@ impl Player for Audits {
                 *self = Audits::new(self.alloc);
             }
             "register" => self.look(call, line),
-            kind => self.add(kind, line),
+            kind => {
+                let call = self::call(kind, line);
+                match self.logs.last_mut() {
+                    Some(log) => line.takes(log.calls.push(call)),
+                    None => line.fails("no log"),
+                }
+            }
         }
     }
 }
@@ -184,7 +181,8 @@ fn refused(kind: &str, line: &mut TableLine<'_>) -> Call {
 /// Client 1 raises twice, client 0 reads before, between and after, and client 2 has a report that
 /// raises nothing. Then client 1 raises the minimum alone, client 0 the version, and client 1 the
 /// minimum again.
-const HISTORIES: &str = "
+pub(crate) const HISTORIES: &str = "
+clear
 entry 0 1 1 0 0 100 100 fresh; entry 1 1 2 0 100 200 200 fresh; entry 2 2 1 0 200 250 250 fresh
 entry 3 1 3 0 250 300 300 fresh
 log; reads 0 0 100 unlocked none; reads 0 2 300 unlocked none; reads 2 2 300 unlocked none
@@ -202,7 +200,8 @@ register => 200 locked 0102030405060708090a min 60; audit => 4
 ";
 
 /// A fault of each kind, as it is printed, at clients and positions that are great.
-const FAULTS: &str = "
+pub(crate) const FAULTS: &str = "
+clear
 log; log; reads 0 1 100 unlocked none; reads 0 0 100 unlocked none; audit => Order 1 1
 log; reports 0 18446744073709551615 1 200 unlocked none raised
 log; reports 0 18446744073709551615 1 200 unlocked none raised

@@ -180,7 +180,11 @@ fn held<R: Threads + Wait + Sync>(
     let gate = HoldsFirst::new(Place::SequencerHeld, ask.proxy, STRANGER);
     let (found, behind) = thread::join(
         rt,
-        || answered(rt, sequencer, &gate, ask),
+        || {
+            let found = sequencer.ask(rt, &gate, ask);
+            gate.is_answered();
+            found
+        },
         || answered_behind(rt, sequencer, &gate, ask),
     );
     line.holds(
@@ -188,18 +192,6 @@ fn held<R: Threads + Wait + Sync>(
         "a stranger is answered",
     );
     line.holds(gate.was_passed(1, 1), "one waits for the other");
-    found
-}
-
-/// Asks a sequencer, and tells the gate that the answer has come.
-fn answered<R: Wait>(
-    rt: &R,
-    sequencer: &Sequencer<FromHundred>,
-    gate: &HoldsFirst,
-    ask: Ask,
-) -> Result<Issued, ChainError> {
-    let found = sequencer.ask(rt, gate, ask);
-    gate.is_answered();
     found
 }
 

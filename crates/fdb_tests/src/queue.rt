@@ -119,7 +119,12 @@ impl Player for Queue {
     fn called(&mut self, call: &str, line: &mut TableLine<'_>) {
         match call {
             "with" => {
-                let throttle = throttle(line);
+                let throttle = Throttle {
+                    priority: line.priority(),
+                    tag: tag_of(line),
+                    rate: line.number(),
+                    expires: line.number(),
+                };
                 line.takes(self.throttles.push(throttle));
             }
             "made" => self.made(line),
@@ -133,15 +138,6 @@ impl Player for Queue {
             "limits" => self.limits(line),
             _ => line.fails("no call"),
         }
-    }
-}
-
-fn throttle(line: &mut TableLine<'_>) -> Throttle {
-    Throttle {
-        priority: line.priority(),
-        tag: tag_of(line),
-        rate: line.number(),
-        expires: line.number(),
     }
 }
 

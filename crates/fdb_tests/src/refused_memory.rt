@@ -2,7 +2,7 @@
 //! in turn: each of these tests passes also where any one allocation is refused. `tests/run` refuses
 //! each, so they ask for little memory of their own.
 
-use crate::audits::Audits;
+use crate::audits::{Audits, FAULTS, HISTORIES};
 use crate::chain::Chain;
 use crate::lists::{LISTS, Lists};
 use crate::live::{Opener, played};
@@ -10,25 +10,11 @@ use crate::queue::Queue;
 use fdb_checks::bears;
 use std::test::Fail;
 
-/// The first client has raised the register twice, and the second has read it and then draws a
-/// version that is above, and one that is that of the first raise.
-const AUDITS: &str = "
-clear
-entry 0 0 1 0 0 200 200 fresh; entry 1 0 2 0 200 300 300 fresh
-entry 2 1 1 0 300 350 350 fresh; entry 3 1 2 0 350 200 200 fresh
-log; draws 0 0 0 1 0 0 200 200 fresh; draws 0 1 0 2 0 200 300 300 fresh
-reports 0 1 1 200 unlocked none raised; reports 1 2 2 300 unlocked none raised
-log; reads 0 1 200 unlocked none; draws 1 2 1 1 0 300 350 350 fresh
-draws 1 3 1 2 0 350 200 200 fresh; audit => NotAbove 1 2
-entry 0 0 1 0 0 200 200 fresh; entry 1 0 2 0 200 300 300 fresh
-log; draws 0 0 0 1 0 0 200 200 fresh; draws 0 1 0 2 0 200 300 300 fresh
-reports 0 1 1 200 unlocked none raised; reports 1 2 2 300 unlocked none raised
-log; reads 0 1 200 unlocked none; audit => 3
-";
-
 #[test]
 fn an_audit_bears_it(rt: HostRuntime) -> Result<(), Fail> {
-    bears(rt.alloc(), &mut Audits::new(rt.alloc()), AUDITS)
+    let (alloc, mut audits) = (rt.alloc(), Audits::new(rt.alloc()));
+    bears(alloc, &mut audits, HISTORIES)?;
+    bears(alloc, &mut audits, FAULTS)
 }
 
 #[test]

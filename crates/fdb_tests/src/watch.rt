@@ -119,12 +119,11 @@ impl Player for Watches {
     }
 }
 
-/// Each key is told by itself, by the numbers of all lines: a read is late from the end of the commit that
-/// was kept of its key, 31 - 15 and 33 - 13. Of a key that is quiet the newest line that shows a version is
-/// kept, and the newest that draws one; the line that came last may yet matter. Lines without a key are of
-/// one register, and of no other's. In a watch of all lines they are of one: by the commit that is kept for
-/// an older one a read is late at least so much, 25 - 4 and not 25 - 2. What comes late is told too, unless
-/// it began before the horizon.
+/// Each key is told by itself: a read is late from the end of the commit that was kept of its key, 31 - 15
+/// and 33 - 13. Of a key that is quiet the newest line that shows a version is kept, and the newest that
+/// draws one; the line that came last may yet matter. Lines without a key are of one register. Of all lines
+/// by the commit that is kept for an older one a read is late at least so much, 25 - 4 and not 25 - 2; what
+/// comes late is told too, unless it began before the horizon.
 const WATCHED: &str = "
 clear
 add 0 commit 190 10 11; add 1 commit 300 12 13; add 0 commit 200 14 15; add 0 ask 210 16 17

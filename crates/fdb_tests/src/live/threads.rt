@@ -128,7 +128,15 @@ pub(crate) fn run_all<J: Live + Send + Sync, R: Threads + Wait + Sync>(
         numbers: AtomicU64::new(0),
         failed: AtomicBool::new(false),
     };
-    work_all(holders.rt, &holders.live, &gate, &mut workers, reporters);
+    let (rt, live, threads) = (holders.rt, &holders.live, workers.len().max(1));
+    thread::for_each_mut(
+        rt,
+        &mut workers,
+        threads,
+        &|_, worker| {
+            worker.work(rt, live, &gate, reporters);
+        },
+    );
     gate.was_passed(line, reporters);
     let raises = raises_of(line, &workers);
     if let Some(worker) = workers.last_mut() {
@@ -136,25 +144,6 @@ pub(crate) fn run_all<J: Live + Send + Sync, R: Threads + Wait + Sync>(
         line.holds(fetched.position == raises, "its position");
         line.say(fetched.rec);
     }
-}
-
-/// Has each work in a thread of its own.
-fn work_all<J: Live + Send + Sync, R: Threads + Wait + Sync>(
-    rt: &R,
-    live: &Bare<J>,
-    gate: &OneByOne,
-    workers: &mut [Worker<J>],
-    reporters: u64,
-) {
-    let threads = workers.len().max(1);
-    thread::for_each_mut(
-        rt,
-        workers,
-        threads,
-        &|_, worker| {
-            worker.work(rt, live, gate, reporters);
-        },
-    );
 }
 
 /// How many reports raised the record. No worker failed.
