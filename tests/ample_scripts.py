@@ -1,4 +1,4 @@
-"""Scripts with ample memory: no number of commands, of rounds, or of anything else is refused for it.
+"""Scripts with ample memory: no number of commands, of rounds, or of anything is refused for it.
 
 No clause says that a call is not refused memory. Each row names what a script has so many of, or
 what is so great, how it is made, and the numbers: few, and those beside its bound. What is printed

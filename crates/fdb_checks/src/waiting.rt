@@ -9,13 +9,7 @@ const LOOKS: u32 = 1_000_000;
 pub fn comes<F: Fn() -> bool>(has_come: F) -> bool
     requires { F.IsAlwaysCallable has_come }
 {
-    for _ in 0..LOOKS {
-        if has_come() {
-            return true;
-        }
-        thread::yield_now();
-    }
-    false
+    !stays_away(LOOKS, has_come)
 }
 
 /// Looks so often whether another thread does something meanwhile. Answers whether it did not.

@@ -5,7 +5,8 @@ ghost use Rattle.fdb_client.specs.Cluster.{IsClusterConfig};
 ghost use Rattle.std.specs.List.{list_all};
 ghost use Rattle.fdb_queue.specs.Throttles.{is_throttle};
 
-use fdb_checks::{CaseError, TableLine, lines_of, tag};
+use crate::proxy::desks::tag;
+use fdb_checks::{CaseError, TableLine, lines_of};
 use fdb_client::{
     Client, ClientError, Cluster, ClusterConfig, Ends, FinishError, SettledRun, Workload,
     run_workload,

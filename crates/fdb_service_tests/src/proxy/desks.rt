@@ -3,7 +3,7 @@
 use crate::proxy::answers::rows_of;
 use crate::stand::{Service, Stand};
 use crossbeam_channel::{Receiver, bounded, unbounded};
-use fdb_checks::{TableLine, tag};
+use fdb_checks::TableLine;
 use fdb_history::{GrvOpts, Priority, Sequence, Tag};
 use fdb_live::{Live, Seen};
 use fdb_proxy::{Answer, Desk, ProxyError, Request, serve_batch};
@@ -163,6 +163,11 @@ fn of_two<'t, J: Live>(
     is_first: bool,
 ) -> &'t mut Seen<J> {
     if is_first { first } else { second }
+}
+
+/// A tag of just the bytes of a word.
+pub(crate) fn tag(alloc: Global, word: &str) -> Result<Tag, AllocError> {
+    Ok(Tag::from(Vec::from_slice(alloc, word.as_bytes())?))
 }
 
 /// A queue of these limits and this room, with no request in it, and with the throttle of `t`.

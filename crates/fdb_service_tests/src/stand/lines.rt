@@ -42,8 +42,8 @@ pub(crate) fn play_line<J: Live + Send + Sync, R: Threads + Wait + Sync>(
     if line.was_refused() {
         make_again(stand, before, line);
     }
-    if !line.text.contains("=>") {
-        line.hush();
+    if !line.text.contains("=>") && !line.was_refused() {
+        line.again();
     }
 }
 
