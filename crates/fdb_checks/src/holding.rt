@@ -4,9 +4,6 @@ use crate::waiting::{comes, stays_away};
 use fdb_history::{Gate, Place};
 use std::sync::atomic::{AtomicBool, AtomicU64, Ordering};
 
-/// How often who is held looks whether the other passes meanwhile.
-const LOOKS: u32 = 100;
-
 /// Whoever passes first is held until what is done beside it is done, and a little longer. A second
 /// one passes only once the call of the first is answered.
 #[derive(Drop)]
@@ -74,7 +71,7 @@ impl HoldsFirst {
 }
 
 impl Gate for HoldsFirst {
-    /// Holds the first, and looks whether the second passes meanwhile.
+    /// Holds the first, who looks a hundred times whether the second passes meanwhile.
     fn pass(&self, place: Place, who: u32) {
         let [first, second] = &self.passes;
         let mut right = place == self.place;
@@ -82,7 +79,7 @@ impl Gate for HoldsFirst {
             first.fetch_add(1, Ordering::SeqCst);
             self.held.store(true, Ordering::SeqCst);
             self.waits_for(&self.beside);
-            right &= stays_away(LOOKS, || second.load(Ordering::SeqCst) > 0);
+            right &= stays_away(100, || second.load(Ordering::SeqCst) > 0);
         } else {
             second.fetch_add(1, Ordering::SeqCst);
             self.waits_for(&self.answered);

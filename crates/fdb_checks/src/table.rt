@@ -1,10 +1,6 @@
 //! Tables of cases. Each line has some calls, what there is of something or how great it is, and
-//! the numbers of that at which the calls are made. `few` stands for numbers up to 101, and `many` for
-//! those beside 2^16:
-//!
-//! ```text
-//! Sequence::clone | items | 0 few many
-//! ```
+//! the numbers of that at which the calls are made, between bars. `few` stands for numbers up to 101,
+//! and `many` for those beside 2^16.
 
 ghost use Rattle.std.specs.Prelude.{◌≡◌, is_ok};
 

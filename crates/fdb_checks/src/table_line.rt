@@ -158,9 +158,7 @@ impl<'a> TableLine<'a> {
 
     /// Notes that the call was refused memory, if it was.
     pub fn takes<T: Drop, E: Drop>(&mut self, taken: Result<T, E>) {
-        if taken.is_err() {
-            self.refuse();
-        }
+        self.refused |= taken.is_err();
     }
 
     /// Notes that the test itself was refused memory.
@@ -179,11 +177,8 @@ impl<'a> TableLine<'a> {
         if self.why.is_empty() && (self.refused || self.lacking) {
             return Err(CaseError::Memory);
         }
-        let mut wanted = self
-            .text
-            .split_once("=>")
-            .map_or("", |parts| parts.1)
-            .split_whitespace();
+        let wanted = self.text.split_once("=>").map_or("", |parts| parts.1);
+        let mut wanted = wanted.split_whitespace();
         let mut is_wanted = self.why.is_empty();
         for word in self.said.split_whitespace() {
             is_wanted &= self.stands_for(wanted.next().unwrap_or_default(), word);
@@ -198,12 +193,9 @@ impl<'a> TableLine<'a> {
 
     /// Whether a word is another one, or stands for its number.
     fn stands_for(&self, wanted: &str, word: &str) -> bool {
-        if !wanted.starts_with('@') {
-            return word == wanted;
-        }
-        match (self.value(wanted), word.parse::<u64>()) {
-            (Some(number), Ok(found)) => number == found,
-            _ => false,
+        match self.value(wanted) {
+            Some(number) if wanted.starts_with('@') => word.parse() == Ok(number),
+            _ => word == wanted,
         }
     }
 }
