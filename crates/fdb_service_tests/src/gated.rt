@@ -8,9 +8,10 @@ mod side_by_side;
 use crate::gated::counting::Counting;
 use crate::gated::crossing::Crossing;
 use crate::gated::side_by_side::SideBySide;
-use fdb_checks::{holds, same_text};
+use fdb_checks::{holds, same_text, says};
 use fdb_history::{Gate, Place};
-use fdb_replay::{ReplayOpts, replay};
+use fdb_replay::{ReplayFault, ReplayOpts, replay};
+use fdb_script::ScriptError;
 use std::alloc::Global;
 use std::str::from_utf8;
 use std::sync::Wait;
@@ -217,4 +218,13 @@ fn replies_are<R: Threads + Wait + Sync>(
     let found = replayed(rt, alloc, &script, 2, gate)?;
     let wanted = replies.replace(alloc, '@', &client)?;
     same_text(from_utf8(&found)?, &wanted, "replies")
+}
+
+/// What is said of a replay that fails.
+#[test]
+fn faults_of_replays(rt: HostRuntime) -> Result<(), Fail> {
+    let refused = ReplayFault::Script(ScriptError::NotJson);
+    says(rt.alloc(), &refused, "script refused: NotJson")?;
+    says(rt.alloc(), &ReplayFault::Memory, "out of memory")?;
+    says(rt.alloc(), &ReplayFault::Write, "writing failed")
 }
