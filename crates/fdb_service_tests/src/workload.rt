@@ -332,12 +332,15 @@ fn visit<R: Threads + Wait + Sync>(rt: &R, line: &mut TableLine<'_>) {
     }
 }
 
-/// Each desk of 1 to 16 is another one, and the one after the last is the first.
+/// Each desk of 1 to 16 is another one, and the one after the last is the first, up to number 5,000.
 #[test]
 fn each_desk_is_closed_alone(rt: HostRuntime) -> Result<(), Fail> {
     let alloc = rt.alloc();
     for grv_proxies in 1..=16 {
-        let each = format!(in alloc; "*visits 1 {grv_proxies} 2 100 3 1 1 closes @1 => explained")?;
+        let reads = if grv_proxies == 5 { 1_000 } else { 3 };
+        let each = format!(in alloc;
+            "*visits 1 {grv_proxies} 2 100 {reads} 1 1 closes @1 => explained"
+        )?;
         play_workloads(&rt, alloc, &each, grv_proxies)?;
     }
     Ok(())
