@@ -10,7 +10,8 @@ from typing import NamedTuple
 
 ROOT = os.path.dirname(os.path.dirname(os.path.realpath(__file__)))
 EXAMPLES = f"{ROOT}/examples"
-SECONDS = 20
+# The seconds after which a run hangs, on a machine that is busy besides.
+SECONDS = 600
 # What a pipe takes in one piece.
 PIPE_PAGE = 4_096
 NOT_ENDED = -1000
