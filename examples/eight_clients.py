@@ -261,7 +261,7 @@ def is_as_said(log, soon, told):
     compared = 0 < of and 0 < sum(reads.values()) < len(lines) - of
     is_enough = compared and (by or ALL_RIGHT) and (soon or by < 10)
     if is_right and not is_enough:
-        print("too little to compare: the machine may be busy, or SECONDS few", file=sys.stderr)
+        print("too little came in time: the machine may be busy, or SECONDS few", file=sys.stderr)
     return is_right and is_enough
 
 

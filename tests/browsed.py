@@ -36,7 +36,7 @@ def scenes_of(drawing, calls):
     """What calls of the page's code answer, and how long they take."""
     given = [json.dumps(columns_of(drawing)), calls]
     words = [NODE, f"{ROOT}/tests/scenes.js", f"{TOOLS}/picture_scene.js"]
-    ran = run(words, json.dumps(given).encode(), 300)
+    ran = run(words, json.dumps(given).encode())
     if ran.status != DONE:
         raise ValueError(f"node ended with {ran.status}: {ran.err[-300:]!r}")
     return json.loads(ran.out)

@@ -6,8 +6,8 @@ from typing import Callable, NamedTuple
 
 import audit_logs
 from answers import MOST_COMMANDS
-from harness import NO_STREAM, OTHER_ARGUMENTS, REFUSED, ROOT, Ran, done, fault_of, first_script
-from harness import read, refused, run, script, under, written
+from harness import NO_STREAM, OTHER_ARGUMENTS, REFUSED, ROOT, SECONDS, Ran, done, fault_of
+from harness import first_script, read, refused, run, script, under, written
 from model import expected
 
 HELP = read(f"{ROOT}/tests/help.txt")
@@ -146,7 +146,8 @@ def nameless(it):
     with tempfile.TemporaryFile() as given:
         given.write(it.given)
         given.seek(0)
-        ran = subprocess.run([], executable=it.path, stdin=given, capture_output=True, timeout=20)
+        ran = subprocess.run([], executable=it.path, stdin=given, capture_output=True,
+                             timeout=SECONDS)
         return Ran(ran.returncode, ran.stdout, ran.stderr)
 
 
@@ -267,5 +268,5 @@ def in_pieces(it, given, size):
                 started.stdin.write(given[at : at + size])
         except BrokenPipeError:
             pass
-        out, err = started.communicate(timeout=20)
+        out, err = started.communicate(timeout=SECONDS)
     return Ran(started.returncode, out, err)

@@ -9,13 +9,13 @@ import tempfile
 import time
 
 from audit_logs import PROGRAM
-from harness import EXAMPLES, SECONDS, read, run
+from harness import EXAMPLES, MANY_SECONDS, read, run
 
 DATABASES = ["etcd", "zookeeper", "postgresql"]
 # How an example ends where its README.md is right, or is not, or its servers are not installed.
 AS_SAID, OTHERWISE, NOT_HERE = 0, 1, 2
 # What it says where nothing is wrong, but too little came of it.
-TOO_LITTLE = b"too little to compare"
+TOO_LITTLE = b"too little came in time"
 # How long the clients run at each try: a busy machine may need a second or a third one.
 TRIES = ("1.5", "5", "15")
 # So many seconds at most an ended program is there.
@@ -55,7 +55,7 @@ def settings(right, seconds):
 def ran(database, right):
     """How an example ended. A busy machine may need further tries, but not for a verdict."""
     for seconds in TRIES:
-        it = run(words_of(database), env=settings(right, seconds))
+        it = run(words_of(database), seconds=MANY_SECONDS, env=settings(right, seconds))
         is_judged = b"stale reads: " in it.out and TOO_LITTLE not in it.err
         if it.status in (AS_SAID, NOT_HERE) or is_judged:
             break
@@ -85,7 +85,7 @@ def ended_midway(database, seconds):
         with subprocess.Popen([*words, folder], **how) as it:
             begun = it.stdout.readline()
             it.send_signal(signal.SIGTERM)
-            _, err = it.communicate(timeout=SECONDS)
+            _, err = it.communicate(timeout=MANY_SECONDS)
         return begun, err, left_in(folder)
 
 

@@ -6,7 +6,7 @@ import shutil
 import subprocess
 import tempfile
 
-from harness import ROOT, Ran, fault_of, processor_time, read, run
+from harness import ROOT, SECONDS, Ran, fault_of, processor_time, read, run
 
 TOOLS = "bash sh cat cp mv mkdir mktemp rm sleep timeout find date readlink flock touch sed".split()
 NOT_BUILT = 70
@@ -202,7 +202,7 @@ def in_turn(room):
         ran, given = room.launch(*arguments, **how), how.get("given", b"bytes\n")
         wanted = room.wanted(*arguments, given=given, status=int(how.get("STATUS", 0)))
         yield f"no other build, with {arguments} and {how}", room.fault(ran, wanted, 1)
-    spent = min(processor_time(room.launch)[1] for _ in range(5))
+    _, spent = processor_time(room.launch, QUICK)
     yield "a launch without a build is quick", f"{spent:.3f} s" if spent > QUICK else None
     yield from after_edits(room)
     yield "four at once, nothing built", at_once(room)
@@ -250,7 +250,7 @@ def at_once(room):
     words = [f"{room.top}/fdb_replay"]
     all_of_them = [subprocess.Popen(words, env=room.env, cwd=room.away, **pipes) for _ in range(4)]
     for started in all_of_them:
-        out, _ = started.communicate(timeout=20)
+        out, _ = started.communicate(timeout=SECONDS)
         fault = fault_of(Ran(started.returncode, out, b""), room.wanted(given=b"", err=b""))
         if fault:
             return fault
