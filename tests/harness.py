@@ -13,7 +13,7 @@ ROOT = os.path.dirname(os.path.dirname(os.path.realpath(__file__)))
 EXAMPLES = f"{ROOT}/examples"
 # The seconds after which a run hangs, and one of many parts, on a machine that is busy besides.
 SECONDS, MANY_SECONDS = 300, 3_000
-# How often what takes too long is tried.
+# How often is tried at most what a busy machine may hold up.
 TRIES = 3
 # What a pipe takes in one piece.
 PIPE_PAGE = 4_096
