@@ -466,7 +466,7 @@ def rows(*tables, few=False):
 def worked(*tables):
     """Each run says what was worked out of it."""
     for name, _, words, log, said in rows(*tables):
-        yield name, fault_of(run([PROGRAM, *words], log.encode(), 60), ends(said))
+        yield name, fault_of(run([PROGRAM, *words], log.encode()), ends(said))
 
 
 def by_model(*tables):

@@ -6,7 +6,8 @@ from typing import Callable, NamedTuple
 
 import audit_logs
 from answers import MOST_COMMANDS
-from harness import NO_MEMORY, NO_STREAM, OTHER_ARGUMENTS, REFUSED, ROOT, Ran, done, fault_of
+from harness import NO_MEMORY, NO_STREAM, OTHER_ARGUMENTS, REFUSED, ROOT, SECONDS, Ran, done
+from harness import fault_of
 from harness import first_script, read, refused, run, script, under, written
 from model import expected
 
@@ -149,7 +150,8 @@ def nameless(it):
     with tempfile.TemporaryFile() as given:
         given.write(it.given)
         given.seek(0)
-        ran = subprocess.run([], executable=it.path, stdin=given, capture_output=True, timeout=20)
+        ran = subprocess.run([], executable=it.path, stdin=given, capture_output=True,
+                             timeout=SECONDS)
         return Ran(ran.returncode, ran.stdout, ran.stderr)
 
 
@@ -270,5 +272,5 @@ def in_pieces(it, given, size):
                 started.stdin.write(given[at : at + size])
         except BrokenPipeError:
             pass
-        out, err = started.communicate(timeout=20)
+        out, err = started.communicate(timeout=SECONDS)
     return Ran(started.returncode, out, err)

@@ -65,7 +65,7 @@ def long(it):
 def with_short(it, preloaded, words, given, **how):
     """Runs a program whose reads and writes are short."""
     env = {"LD_PRELOAD": preloaded, **{f"SHORT{name}": str(it) for name, it in how.items()}}
-    return run([it.path, *words], given, 60, env=env)
+    return run([it.path, *words], given, env=env)
 
 
 def short(it):
@@ -153,7 +153,7 @@ def slow_reader(it):
             found.extend(byte)
 
     with pipe_to(take, PAGE) as writer:
-        ran = run([it.path, *words], given, 60, stdout=writer)
+        ran = run([it.path, *words], given, stdout=writer)
     yield f"{len(ends.out)} bytes", fault_of(ran._replace(out=bytes(found)), ends)
 
 
@@ -165,7 +165,7 @@ def limited(it):
         for most in (0, 1, PAGE, PIECE - 1, PIECE, PIECE + 1, size // 2, size - 1, size, size + 1):
             limit = lambda: resource.setrlimit(resource.RLIMIT_FSIZE, (most, most))
             with open(f"{folder}/out", "wb+") as out:
-                ran = run([it.path, *words], given, 60, stdout=out, preexec_fn=limit,
+                ran = run([it.path, *words], given, stdout=out, preexec_fn=limit,
                           restore_signals=False)
                 out.seek(0)
                 ran = ran._replace(out=out.read())
