@@ -4,7 +4,7 @@ ghost use Rattle.std.specs.Prelude.{◌≡◌, ◌↔◌, IfOk, IsTrue, count_by
 ghost use Rattle.fdb_lines.specs.Audit.{case_of, AreExplained};
 ghost use Rattle.fdb_lines.specs.Listing.{faults_of};
 ghost use Rattle.fdb_lines.specs.Log.{lines_of};
-ghost use Rattle.fdb_guarantees.specs.Stale.{is_stale};
+ghost use Rattle.fdb_uses.specs.Stale.{is_stale};
 
 use fdb_lines::{AuditOpts, Fault, Found, Log, faults, first_fault};
 use std::alloc::{AllocError, Global};
