@@ -1,8 +1,9 @@
 -- What C asks of a watch, what a watch is, and what it has told. (this product's own)
 use Rattle.std.specs.Prelude.{◌≡◌, ℕ, ◌++◌, Bool, true, false, List, [], Option, None, Some}
 use Rattle.fdb_lines.specs.declared.opts.AuditOpts.{AuditOpts}
-use Rattle.fdb_audit.specs.Following.{none_kept}
-use Rattle.fdb_audit.specs.Watched.{AreAllTaken, AreLeftOut, HasFollowed, IsFollowed}
+use Rattle.fdb_log_reader.specs.declared.error.ReadError.{ReadError}
+use Rattle.fdb_audit.specs.Following.{fresh, left_out, none_kept}
+use Rattle.fdb_audit.specs.Watched.{HasFollowed, IsFollowed, lines_asked}
 use Rattle.fdb_audit.specs.declared.arguments.AuditArguments.{AuditArguments}
 use Rattle.fdb_audit.specs.declared.fault.LogFault.{LogFault}
 use Rattle.fdb_audit.specs.declared.follower.Follower.{Follower}
@@ -58,11 +59,15 @@ IsTold before after =
 
 -- a follower that began with no line has followed these bytes, and this was told of them
 abbrev pub Follows : AuditArguments → Follower → List ℕ → List ℕ → Type 0
-Follows arguments follower bytes told = HasFollowed arguments none_kept follower bytes told
+Follows arguments follower bytes told = (behind : ℕ) × HasFollowed arguments (fresh behind) follower bytes told
 
 -- this is told of a text by its end, with this first fault
 abbrev pub Tells : AuditArguments → List ℕ → List ℕ → Option LogFault → Type 0
-Tells arguments bytes told first = IsFollowed arguments none_kept bytes told first
+Tells arguments bytes told first = (behind : ℕ) × IsFollowed arguments (fresh behind) true bytes told first
+
+-- why a part of a text is refused, if it is: the last line that is, or that there is none
+abbrev pub refused_in : AuditArguments → List ℕ → Option ReadError
+refused_in arguments bytes = left_out none_kept (lines_asked arguments bytes)
 
 -- This was told of the bytes that have come, as by an audit that follows the log.
 pub record HasTold (watch : Watch) : Type 0 where
@@ -86,10 +91,11 @@ pub record HasToldFault (watch : Watch) : Type 0 where
 pub record HasTakenAll (watch : Watch) : Type 0 where
   pub arguments : AuditArguments
   pub are : asked_in arguments ≡ watch.asked
-  pub taken : AreAllTaken arguments watch.bytes
+  pub taken : refused_in arguments watch.bytes ≡ None
 
 -- Lines were left out, or there was none.
 pub record HasLeftOut (watch : Watch) : Type 0 where
   pub arguments : AuditArguments
   pub are : asked_in arguments ≡ watch.asked
-  pub left_out : AreLeftOut arguments watch.bytes
+  pub error : ReadError
+  pub refused : refused_in arguments watch.bytes ≡ Some error

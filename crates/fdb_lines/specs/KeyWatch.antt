@@ -65,3 +65,12 @@ pub record StaysQuiet (to : ℕ) (lines : List Line) (keys : List (Option ℕ)) 
 
 abbrev pub GoesOn : ℕ → List Line → List (Option ℕ) → List SettledKey → KeyPart → KeyPart → Type 0
 GoesOn to lines keys entries old new = (HasEntry entries old.key × HasSettled to old new) ⊎ StaysQuiet to lines keys old new
+
+-- An entry says which of the lines that a key had kept, by their places among these, it keeps on.
+pub record KeepsOnAt (entry : SettledKey) (part : KeyPart) : Type 0 where
+  pub key : part.key ≡ entry.key
+  pub numbers : part.numbers.items ≡ map (slice_index entry.settled.numbers.items) entry.settled.kept.items
+  pub within : All (λ place. place < length entry.settled.numbers.items) entry.settled.kept.items
+
+abbrev pub KeepsOn : List KeyPart → SettledKey → Type 0
+KeepsOn parts entry = (i : ℕ) × (i < length parts) × ((d : KeyPart) → KeepsOnAt entry (slice_index_or parts i d))

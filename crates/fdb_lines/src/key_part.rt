@@ -87,13 +87,13 @@ impl KeyPart {
             IsAlike was.margin was.horizon was.from self.new }
     {
         self.is_open = true;
-        if let Err(_refused) = self.numbers.push(number) {
+        if self.numbers.reserve(1).is_err() {
             return Err(WatchError::Line(LineError::Memory));
         }
         if let Err(error) = self.watch.push(line) {
-            self.numbers.pop();
             return Err(error);
         }
+        self.numbers.push_reserved(number);
         Ok(())
     }
 
@@ -101,7 +101,7 @@ impl KeyPart {
     pub(crate) fn add_kept(&self, kept: &mut Vec<KeptLine>) -> Result<(), AllocError>
         ensures { OnOk result (kept.new.items ≡ kept.old.items ++ kept_of self.now) }
     {
-        let lines = self.watch.lines();
+        let lines = self.watch.log.lines();
         for (place, number) in self.numbers.iter().enumerate() {
             kept.push(KeptLine {
                 number: *number,
@@ -153,6 +153,7 @@ impl KeyPart {
             → IsTold self.watch None lines self.watch.numbers.items it.settled.found.items) }
         ensures log { IfOk result (λ it. it.settled.log ≡ self.watch.log) }
         ensures numbers { IfOk result (λ it. it.settled.numbers ≡ self.numbers) }
+        ensures kept { IfOk result (λ it. it.settled.kept.items ≡ []) }
     {
         let mut settled = self.watch.finish(alloc)?;
         settled.numbers = self.numbers;

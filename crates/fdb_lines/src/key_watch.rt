@@ -3,10 +3,13 @@
 ghost use Rattle.std.specs.Prelude.{◌≡◌, ◌⊎◌, ◌<◌, ◌≤◌, ◌++◌, ◌∷◌, ℕ, All, List, IfErr, IfOk};
 ghost use Rattle.std.specs.Prelude.{[], None, OnErr, OnOk, Option, Some, false, true};
 ghost use Rattle.std.specs.Prelude.{◌↔◌, ◌==◌, cond, length, max, slice_index_or};
+ghost use Rattle.std.specs.Prelude.{IsPermutation};
 ghost use Rattle.std.specs.BTreeMap.{get};
 ghost use Rattle.std.specs.Ordering.{nat_cmp};
+ghost use Rattle.fdb_lines.specs.declared.fault.Found.{Found};
 ghost use Rattle.fdb_lines.specs.declared.key_part.KeyPart.{KeyPart};
 ghost use Rattle.fdb_lines.specs.declared.line.Line.{Line};
+ghost use Rattle.fdb_lines.specs.Before.{began};
 ghost use Rattle.fdb_lines.specs.KeyParts.{names_of, HaveStayed};
 ghost use Rattle.fdb_lines.specs.Keys.{key_at};
 ghost use Rattle.fdb_lines.specs.Lines.{has_times};
@@ -14,9 +17,7 @@ ghost use Rattle.fdb_lines.specs.private.Keys.{number_of, AreNumbered};
 ghost use Rattle.fdb_lines.specs.private.KeyParts.{flags_of, AreOpen, IsAlike};
 
 use crate::key_part::{KeptLine, KeyPart, SettledKey};
-use crate::key_parts::{
-    add_line, finish_parts, first_part, keep_open, kept_lines, next_parts, put_parts,
-};
+use crate::key_parts::{add_line, finish_parts, keep_open, kept_lines, next_parts, put_parts};
 use crate::line::Line;
 use crate::log::LineError;
 use crate::parts::number_of;
@@ -49,11 +50,13 @@ pub struct KeyWatch {
 impl KeyWatch {
     ghost use Rattle.fdb_lines.specs.declared.watch.WatchError.TheVariants.{NoTimes};
     ghost use Rattle.fdb_lines.specs.KeyWatch.{AreKept, AreTold, GoesOn, HasEntry};
-    ghost use Rattle.fdb_lines.specs.KeyWatch.{HasNothingToTell, HasSeenByKey};
+    ghost use Rattle.fdb_lines.specs.KeyWatch.{HasNothingToTell, HasSeenByKey, KeepsOn};
+    ghost use Rattle.fdb_lines.specs.ToldByKey.{audited, told_by_all, HasTold};
 
     /// A watch that has seen no line.
     pub fn new(alloc: Global, margin: u64, horizon: u64) -> Self
         ensures seen { HasSeenByKey result [] [] }
+        ensures told { HasTold result [] [] [] }
         ensures from { result.from ≡ 0 }
         ensures margin { result.margin ≡ margin }
         ensures horizon { result.horizon ≡ horizon }
@@ -91,6 +94,10 @@ impl KeyWatch {
         ensures ok { OnOk result ((lines : List Line) → (keys : List (Option ℕ))
             → HasSeenByKey self.old lines keys
             → HasSeenByKey self.new (lines ++ line ∷ []) (keys ++ key ∷ [])) }
+        ensures told { OnOk result ((lines : List Line) → (keys : List (Option ℕ))
+            → (told : List Found) → HasSeenByKey self.old lines keys
+            → HasTold self.old lines keys told → self.old.from ≤ began line
+            → HasTold self.new (lines ++ line ∷ []) (keys ++ key ∷ []) told) }
         ensures taken { OnOk result (has_times line ≡ true) }
         ensures untimed { IfErr result (λ error. error ≡ NoTimes ↔ (has_times line ≡ false)) }
         ensures err { OnErr result ((lines : List Line) → (keys : List (Option ℕ))
@@ -107,37 +114,19 @@ impl KeyWatch {
             return Err(WatchError::Line(LineError::TooMany));
         }
         if let Some(place) = self.numbers.get(&number_of(key)).copied() {
-            return self.push_to(place, line);
+            if let Err(error) = add_line(
+                &mut self.parts,
+                &mut self.open_parts,
+                place,
+                line,
+                self.count,
+            ) {
+                return Err(error);
+            }
+            self.count += 1;
+            return Ok(());
         }
         self.push_first(alloc, key, line)
-    }
-
-    /// Adds a line of a key that has a part.
-    fn push_to(&mut self, place: usize, line: Line) -> Result<(), WatchError>
-        requires within { place < length self.old.parts.items }
-        requires room { self.old.count < 18446744073709551615 }
-        ensures ok { OnOk result ((lines : List Line) → (keys : List (Option ℕ))
-            → HasSeenByKey self.old lines keys → HasSeenByKey self.new (lines ++ line ∷ [])
-            (keys ++ key_at (names_of self.old.parts.items) place ∷ [])) }
-        ensures err { OnErr result ((lines : List Line) → (keys : List (Option ℕ))
-            → HasSeenByKey self.old lines keys → HasSeenByKey self.new lines keys) }
-        ensures untimed { IfErr result (λ error. error ≡ NoTimes → has_times line ≡ false) }
-        ensures stays { HaveStayed self.old.parts.items self.new.parts.items }
-        ensures settled { self.new.from ≡ self.old.from }
-        ensures margin { (self.new.margin ≡ self.old.margin)
-            × (self.new.horizon ≡ self.old.horizon) }
-    {
-        if let Err(error) = add_line(
-            &mut self.parts,
-            &mut self.open_parts,
-            place,
-            line,
-            self.count,
-        ) {
-            return Err(error);
-        }
-        self.count += 1;
-        Ok(())
     }
 
     /// Adds the first line of a key.
@@ -155,30 +144,30 @@ impl KeyWatch {
         ensures margin { (self.new.margin ≡ self.old.margin)
             × (self.new.horizon ≡ self.old.horizon) }
     {
-        let part = match first_part(alloc, key, self.margin, self.horizon, line, self.count) {
-            Ok(part) => part,
-            Err(error) => return Err(error),
-        };
+        let mut part = KeyPart::new(alloc, key, self.margin, self.horizon);
+        if let Err(error) = part.push(line, self.count) {
+            return Err(error);
+        }
+        if self.open_parts.reserve(1).is_err() {
+            return Err(WatchError::Line(LineError::Memory));
+        }
+        if self.parts.reserve(1).is_err() {
+            return Err(WatchError::Line(LineError::Memory));
+        }
         let place = self.parts.len();
-        if let Err(_refused) = self.open_parts.push(place) {
-            return Err(WatchError::Line(LineError::Memory));
-        }
-        if let Err(_refused) = self.parts.push(part) {
-            self.open_parts.pop();
-            return Err(WatchError::Line(LineError::Memory));
-        }
         if let Err(_refused) = give_number(&mut self.numbers, number_of(key), place) {
-            self.open_parts.pop();
-            self.parts.pop();
             return Err(WatchError::Line(LineError::Memory));
         }
+        self.open_parts.push_reserved(place);
+        self.parts.push_reserved(part);
         self.count += 1;
         Ok(())
     }
 
     /// Settles each key up to a moment, or up to where all have settled, if that is later. What is
     /// told of a key is what its watch tells. Of a key that has no entry there is nothing to tell.
-    /// An error only where memory is refused; all is as it was then.
+    /// Where no line began before what had been settled, each fault of the lines that began before
+    /// the moment has been told once. An error only where memory is refused; all is as it was then.
     pub fn settle(&mut self, alloc: Global, at: u64) -> Result<Vec<SettledKey>, AllocError>
         ensures told { IfOk result (λ told. (lines : List Line) → (keys : List (Option ℕ))
             → HasSeenByKey self.old lines keys
@@ -188,6 +177,11 @@ impl KeyWatch {
             → (i : ℕ) → (d : KeyPart) → i < length self.old.parts.items
             → GoesOn (max self.old.from at) lines keys told.items
             (slice_index_or self.old.parts.items i d) (slice_index_or self.new.parts.items i d)) }
+        ensures once { IfOk result (λ entries. (lines : List Line) → (keys : List (Option ℕ))
+            → (told : List Found) → HasSeenByKey self.old lines keys
+            → HasTold self.old lines keys told
+            → HasTold self.new lines keys (told ++ told_by_all entries.items)) }
+        ensures kept { IfOk result (λ entries. All (KeepsOn self.new.parts.items) entries.items) }
         ensures seen { (lines : List Line) → (keys : List (Option ℕ))
             → HasSeenByKey self.old lines keys → HasSeenByKey self.new lines keys }
         ensures settled { OnOk result (self.new.from ≡ max self.old.from at) }
@@ -208,7 +202,9 @@ impl KeyWatch {
         Ok(next.told)
     }
 
-    /// Tells of all lines that it has not told of. An error only where memory is refused.
+    /// Tells of all lines that it has not told of. Where no line began before what had been settled,
+    /// what was told in all is what an audit of all lines finds, each fault once. An error only where
+    /// memory is refused.
     pub fn finish(self, alloc: Global) -> Result<Vec<SettledKey>, AllocError>
         ensures told { IfOk result (λ told. (lines : List Line) → (keys : List (Option ℕ))
             → HasSeenByKey self lines keys
@@ -217,6 +213,12 @@ impl KeyWatch {
             → HasSeenByKey self lines keys
             → All (λ part. HasEntry told.items part.key
             ⊎ HasNothingToTell None lines keys part) self.parts.items) }
+        ensures once { IfOk result (λ entries. (lines : List Line) → (keys : List (Option ℕ))
+            → (told : List Found) → HasSeenByKey self lines keys → HasTold self lines keys told
+            → IsPermutation (told ++ told_by_all entries.items)
+            (audited self.margin lines keys)) }
+        ensures kept { IfOk result (λ entries.
+            All (λ entry. entry.settled.kept.items ≡ []) entries.items) }
     {
         let told = finish_parts(alloc, self.parts, &self.open_parts)?;
         Ok(told)

@@ -324,3 +324,18 @@ pub last_taken : (old new : LineReader) (read : Result ReadLine Why) → 0 < len
 last_taken old new read some none takes =
     ap (all_of (map string_bytes old.shown.items) (line_names old)) (last_line old.front.items old.one_line some ∙ sym (first_line old.front.items [] old.one_line))
     ∙ (takes.goes [] ∙ ap (behind (said_in read ∷ [])) (nothing_left new none))
+
+-- ---- the member that has the keys is one and the same
+
+more_behind : (shown : List (List ℕ)) (names : LineNames) (lines : List (List ℕ)) → AreMore names (names_behind shown names lines)
+more_behind shown names [] = all_same names
+more_behind shown names (line ∷ lines) =
+    let next = names_after names (line_read shown names line) in
+    all_yet names next (names_behind shown next lines) (fits shown names line).more (more_behind shown next lines)
+
+member_same : (keys more : Option MemberNames) → AreMoreKeys keys more → option_map (λ (one : MemberNames). one.member) more ≡ option_map (λ (one : MemberNames). one.member) keys
+member_same None more is = ap (option_map (λ (one : MemberNames). one.member)) is
+member_same (Some keys) more (new, is, same, rest) = ap (option_map (λ (one : MemberNames). one.member)) is ∙ ap (λ (name : List ℕ). Some name) same
+
+pub member_behind : (shown : List (List ℕ)) (names : LineNames) (lines : List (List ℕ)) → member_in (names_behind shown names lines) ≡ member_in names
+member_behind shown names lines = member_same names.keys (names_behind shown names lines).keys (more_behind shown names lines).1

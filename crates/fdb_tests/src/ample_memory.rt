@@ -143,13 +143,13 @@ Master::ask | master 100 64 @0 => fresh | 0 few
 /// `fdb_lines`: what no program calls. Behind a commit that ended at 1 all reads of 4 that began at 3
 /// are stale, and of lines that none had ended before all stand for themselves.
 const LINES: &str = "
-Log::push, faults | clear;commit 0 5 0 1;*read 1 4 3 4;faults => @0 | 0 few 65537 100000
-first_fault, first_finding | clear;commit 0 5 0 1;*read 1 5 3 4;read 1 4 3 4;first => @1 \
+Log::push, findings | clear;commit 0 5 0 1;*read 1 4 3 4;faults => @0 | 0 few 65537 100000
+first_finding | clear;commit 0 5 0 1;*read 1 5 3 4;read 1 4 3 4;first => @1 \
 | 0 few 65537 100000
-first_fault | clear;commit 0 @1 0 1;read 1 @0 3 4;first => 1 | 0 few many 18446744073709551614
-first_fault | clear;commit 0 5 0 @0;read 1 4 @1 @1;first => 1 | 0 few many 18446744073709551614
-order | clear;*commit 0 @1 @0 @0;order => @0 | 0 few 65537 100000
-order | clear;commit 0 @1 0 1;order => 1 | 0 few many 18446744073709551614
+first_finding | clear;commit 0 @1 0 1;read 1 @0 3 4;first => 1 | 0 few many 18446744073709551614
+first_finding | clear;commit 0 5 0 @0;read 1 4 @1 @1;first => 1 | 0 few many 18446744073709551614
+order_or_findings | clear;*commit 0 @1 @0 @0;order => @0 | 0 few 65537 100000
+order_or_findings | clear;commit 0 @1 0 1;order => 1 | 0 few many 18446744073709551614
 standing | clear;*commit 0 @1 @0 @0;standing 0 => @0 | 0 few 65537 100000
 standing | clear;commit 0 5 0 0;ask 0 6 0 0;standing @1 => 2 | 0 few many 18446744073709551614
 Watch::push, Watch::finish | clear;commit 0 5 0 1;*read 1 4 3 4;finish => @0 | 0 few 65537 100000

@@ -7,7 +7,7 @@ mod judged;
 pub(crate) mod lines;
 
 use fdb_checks::same_text;
-use fdb_lines::{AuditOpts, OrderStep, order};
+use fdb_lines::{AuditOpts, Finding, Order, OrderStep, order_or_findings};
 use fdb_log_reader::{LogReader, NamedLog, ReadError, read_log};
 use std::alloc::{AllocError, Global};
 use std::test::Fail;
@@ -79,16 +79,15 @@ fn order_text(alloc: Global, bytes: &[u8]) -> Result<String, AllocError> {
         margin: 0,
     };
     match read_log(alloc, bytes) {
-        Ok(named) => steps_text(alloc, order(alloc, &named.log, &opts)?),
+        Ok(named) => steps_text(alloc, &order_or_findings(alloc, &named.log, None, &opts)?),
         Err(_) => String::from_str(alloc, "no log"),
     }
 }
 
-fn steps_text(alloc: Global, steps: Option<Vec<OrderStep>>) -> Result<String, AllocError> {
+fn steps_text(alloc: Global, order: &Result<Order, Vec<Finding>>) -> Result<String, AllocError> {
     let mut text = String::new(alloc);
-    match steps {
-        None => text.push_str("none")?,
-        Some(steps) => {
+    match order {
+        Ok(Order::One(steps)) => {
             for OrderStep {
                 effect,
                 line,
@@ -97,6 +96,7 @@ fn steps_text(alloc: Global, steps: Option<Vec<OrderStep>>) -> Result<String, Al
                 write!(text, "{effect:?} {line:?} {shared}; ")?;
             }
         }
+        _ => text.push_str("none")?,
     }
     Ok(text)
 }

@@ -7,7 +7,7 @@ use crate::logs::parts;
 use fdb_checks::same_text;
 use fdb_lines::{
     AuditOpts, Finding, Found, KeptLine, KeyWatch, Late, Line, Log, Settled, SettledKey, Watch,
-    findings, findings_by_key,
+    findings,
 };
 use fdb_log_reader::read_log;
 use std::alloc::{AllocError, Global};
@@ -29,14 +29,14 @@ fn log_of(alloc: Global, text: &str) -> Log {
 /// The faults of a log with how late each is; behind a bar those of each client's lines by themselves.
 fn late_text(alloc: Global, log: &Log) -> Result<String, AllocError> {
     let mut text = String::new(alloc);
-    push_findings(&mut text, &findings(alloc, log, &OPTS)?)?;
+    push_findings(&mut text, &findings(alloc, log, None, &OPTS)?)?;
     text.push_str("| ")?;
     let mut keys = Vec::new(alloc);
     for line in log.lines() {
         keys.push(line.client)?;
     }
     if log.is_timed() && keys.len() == log.lines().len() {
-        push_findings(&mut text, &findings_by_key(alloc, log, &keys, &OPTS)?)?;
+        push_findings(&mut text, &findings(alloc, log, Some(&keys), &OPTS)?)?;
     }
     Ok(text)
 }

@@ -11,8 +11,8 @@
 
 use fdb_checks::{Player, TableLine};
 use fdb_lines::{
-    AuditOpts, Log, Operation, OrderStep, Settled, Times, Watch, faults, first_fault,
-    first_finding, order, standing,
+    AuditOpts, Log, Operation, Order, OrderStep, Settled, Times, Watch, findings, first_finding,
+    order_or_findings, standing,
 };
 use std::alloc::{AllocError, Global};
 use std::mem::replace;
@@ -62,31 +62,24 @@ impl Lines {
     }
 
     fn faults(&self, line: &mut TableLine<'_>) {
-        match faults(self.alloc, &self.log, &OPTS) {
+        match findings(self.alloc, &self.log, None, &OPTS) {
             Ok(found) => line.say(found.len()),
             Err(_) => line.refuse(),
         }
     }
 
     fn first(&self, line: &mut TableLine<'_>) {
-        let (Ok(fault), Ok(finding)) = (
-            first_fault(self.alloc, &self.log, &OPTS),
-            first_finding(self.alloc, &self.log, &OPTS),
-        ) else {
-            line.refuse();
-            return;
-        };
-        line.holds(fault == finding.map(|it| it.found), "another first fault");
-        match fault {
-            Some(found) => line.say(found.line),
-            None => line.say("none"),
+        match first_finding(self.alloc, &self.log, None, &OPTS) {
+            Ok(Some(finding)) => line.say(finding.found.line),
+            Ok(None) => line.say("none"),
+            Err(_) => line.refuse(),
         }
     }
 
     fn order(&self, line: &mut TableLine<'_>) {
-        match order(self.alloc, &self.log, &OPTS) {
-            Ok(Some(steps)) => say_steps(line, &steps),
-            Ok(None) => line.say("none"),
+        match order_or_findings(self.alloc, &self.log, None, &OPTS) {
+            Ok(Ok(Order::One(steps))) => say_steps(line, &steps),
+            Ok(_) => line.say("none"),
             Err(_) => line.refuse(),
         }
     }

@@ -1,5 +1,5 @@
 use Rattle.std.proofs.Common.{refl}
-use Rattle.fdb_audit.specs.Following.{none_kept}
+use Rattle.fdb_audit.specs.Following.{fresh}
 use Rattle.fdb_c.specs.Watch.{Follows}
 use Rattle.fdb_c.proofs.Some.{at_both, of_some}
 use Rattle.fdb_c.proofs.watched.Watched.tell.Goals as goal
@@ -14,5 +14,5 @@ returns-in-Ok-clause-told c = λ _.
       arguments = it.asked;
       are = refl;
       follower = c.tell.new.self;
-      followed = at_both (Follows it.asked c.tell.new.self) now.0 now.1 (c.in-Ok.ensures it.asked none_kept it.story.bytes it.story.told followed);
+      followed = at_both (Follows it.asked c.tell.new.self) now.0 now.1 (followed.0, c.in-Ok.ensures it.asked (fresh followed.0) it.story.bytes it.story.told followed.1);
     }
