@@ -5,7 +5,6 @@ use Rattle.std.specs.Prelude.{unwrap_or}
 use Rattle.std.specs.List.{All}
 use Rattle.std.specs.List.Sorted.{IsPartitionPoint}
 use Rattle.std.proofs.lemmas.List.{get_or_append_left, get_or_push, length-map, length_push, map_push, take_more}
-use Rattle.std.proofs.lemmas.List.Elements.{All-cons, All-nil, All-weaker}
 use Rattle.std.proofs.lemmas.Bool.{cases_lt}
 use Rattle.std.proofs.lemmas.Bool.Decides.{nat_tests}
 use Rattle.std.proofs.lemmas.List.Sums.{count_by-le-length, sum_by-append, sum_by-cons}
@@ -71,15 +70,6 @@ pub counted : (above : ℕ) (read : List (Result SaidLine Why)) → length read 
 counted above [] = refl
 counted above (Ok said ∷ read) = let rest = counted (above + 1) read in omega arith
 counted above (Err why ∷ read) = let rest = counted above read in omega arith
-
--- no more are taken above a line than all
-pub above_within : (above : ℕ) (read : List (Result SaidLine Why)) → All (λ one. one ≤ above + length (taken read)) (taken_above above read)
-above_within above [] = All-nil (λ one. one ≤ above + 0)
-above_within above (Ok said ∷ read) =
-    All-weaker (λ one. one ≤ (above + 1) + length (taken read)) (λ one. one ≤ above + length (said ∷ taken read)) (λ one le. omega (arith, le))
-    (taken_above (above + 1) read) (above_within (above + 1) read)
-above_within above (Err why ∷ read) =
-    All-cons (λ one. one ≤ above + length (taken read)) above (taken_above above read) (omega arith) (above_within above read)
 
 -- ---- of those that came since, with one more line
 

@@ -12,10 +12,9 @@ use Rattle.fdb_lines.specs.Before.{began}
 use Rattle.fdb_log_reader.specs.declared.error.Why.{Why}
 use Rattle.fdb_log_reader.specs.declared.line_reader.LineReader.{LineReader}
 use Rattle.fdb_log_reader.specs.LineReader.{line_names, lines_on}
-use Rattle.fdb_log_reader.specs.ReadLine.{LineNames, SaidLine, line_read, lines_read, member_in, names_after, no_names}
+use Rattle.fdb_log_reader.specs.ReadLine.{LineNames, SaidLine, line_read, lines_read, member_in, names_after, names_behind, no_names}
 use Rattle.fdb_log_reader.specs.Reading.{is_line_feed, lines_in}
 use Rattle.fdb_log_reader.specs.private.{IsOneLine}
-use Rattle.fdb_log_reader.proofs.SingleLines.{member_behind}
 use Rattle.fdb_log_reader.proofs.Splitting.{last_line}
 use Rattle.fdb_audit.specs.declared.arguments.AuditArguments.{AuditArguments}
 use Rattle.fdb_audit.specs.declared.follower.Follower.{Follower}
@@ -179,14 +178,17 @@ of_key : (key : Option (List ℕ)) → member_in (no_names key) ≡ key
 of_key None = refl
 of_key (Some name) = refl
 
-pub member_asked : (asked : AuditArguments) (bytes : List ℕ) → member_in (names_asked asked bytes) ≡ option_map string_bytes asked.key
-member_asked asked bytes =
-    let key = option_map string_bytes asked.key in
-    member_behind (map string_bytes asked.shown.items) (no_names key) (lines_in bytes) ∙ of_key key
+abbrev StaysInOne : Type 0
+StaysInOne = (shown : List (List ℕ)) (names : LineNames) (lines : List (List ℕ)) → member_in (names_behind shown names lines) ≡ member_in names
 
-pub member_followed : (asked : AuditArguments) (start : Start) (follower : Follower) (bytes told : List ℕ) → HasFollowed asked start follower bytes told
+pub member_asked : (asked : AuditArguments) (bytes : List ℕ) → StaysInOne → member_in (names_asked asked bytes) ≡ option_map string_bytes asked.key
+member_asked asked bytes stays =
+    let key = option_map string_bytes asked.key in
+    stays (map string_bytes asked.shown.items) (no_names key) (lines_in bytes) ∙ of_key key
+
+pub member_followed : (asked : AuditArguments) (start : Start) (follower : Follower) (bytes told : List ℕ) → HasFollowed asked start follower bytes told → StaysInOne
     → member_in (line_names follower.reader) ≡ option_map string_bytes asked.key
-member_followed asked start follower bytes told has =
+member_followed asked start follower bytes told has stays =
     let reader = follower.reader in
-    sym (member_behind (map string_bytes reader.shown.items) (line_names reader) (lines_in (reader.front.items ++ [])))
-    ∙ (sym (ap member_in (has.behind [])) ∙ member_asked asked (bytes ++ []))
+    sym (stays (map string_bytes reader.shown.items) (line_names reader) (lines_in (reader.front.items ++ [])))
+    ∙ (sym (ap member_in (has.behind [])) ∙ member_asked asked (bytes ++ []) stays)

@@ -22,6 +22,7 @@ use crate::refused::KeptRefused;
 use crate::taking::Taking;
 use crate::teller::Teller;
 use fdb_lines::{KeyWatch, laws};
+use fdb_log_reader::laws::keys_stay_in_one_member;
 use fdb_log_reader::{LineReader, ReadError, Why};
 use std::alloc::{AllocError, Global};
 use std::mem::replace;
@@ -187,6 +188,7 @@ impl Follower {
             → Keeps (option_map string_bytes asked.key) start.numbers self.now.taking has.read
             (string_bytes text))) }
     {
+        keys_stay_in_one_member();
         self.read_back()
     }
 
@@ -202,7 +204,13 @@ impl Follower {
         let places = places_of(self.alloc, &kept)?;
         let key = self.teller.key.as_deref();
         let text = kept_text(self.alloc, &self.reader, &self.taking, key, &kept)?;
-        match refusal_of(self.alloc, &self.reader, &self.taking, &places, text.as_bytes())? {
+        match refusal_of(
+            self.alloc,
+            &self.reader,
+            &self.taking,
+            &places,
+            text.as_bytes(),
+        )? {
             Some(refused) => Ok(Err(refused)),
             None => Ok(Ok(text)),
         }
@@ -295,6 +303,7 @@ impl Follower {
         let refused = self.taking.left_out();
         let kept = self.read_back()?;
         laws::all_is_told_up_to_where_it_settled();
+        keys_stay_in_one_member();
         let followed = self.conclude(refused)?;
         Ok(Stopped { followed, kept })
     }

@@ -13,6 +13,7 @@ use crate::figures::{Figure, push_figures};
 use crate::refused::KeptRefused;
 use crate::taking::Taking;
 use fdb_lines::{KeptLine, Operation};
+use fdb_log_reader::laws::digits_are_read_as_their_number;
 use fdb_log_reader::{LineReader, Names, ReadLine, Why, printed_name};
 use std::alloc::{AllocError, Global};
 use std::fmt::Write;
@@ -203,6 +204,7 @@ fn number_at(alloc: Global, read: &ReadLine, place: usize) -> Result<Option<u64>
     ensures { IfOk result (λ found. IfSome found (λ number.
         number_kept place (said_by read.now) ≡ Some number)) }
 {
+    digits_are_read_as_their_number();
     match read.shown.get(place) {
         Some(Some(text)) => number_in(alloc, text),
         _ => Ok(None),

@@ -93,11 +93,7 @@ fn settled_if(is_said: bool, at: u64) -> u64
 }
 
 /// The numbers of the lines at some places.
-fn numbers_at(
-    alloc: Global,
-    numbering: &Numbering,
-    places: &[u64],
-) -> Result<Vec<u64>, AllocError>
+fn numbers_at(alloc: Global, numbering: &Numbering, places: &[u64]) -> Result<Vec<u64>, AllocError>
     ensures { IfOk result (λ numbers. AreNumbersOf (kept_by numbering.now)
         numbering.now.above.items places.now numbers.items) }
 {

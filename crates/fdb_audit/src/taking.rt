@@ -16,7 +16,7 @@ use crate::counts::Counts;
 use crate::numbering::Numbering;
 use crate::refused::LogsRefused;
 use crate::rows::Rows;
-use fdb_lines::{KeyWatch, Line, WatchError};
+use fdb_lines::{KeyWatch, Line, WatchError, laws};
 use fdb_log_reader::{ReadError, ReadLine, Why};
 use std::alloc::{AllocError, Global};
 use std::fmt::Write;
@@ -160,6 +160,7 @@ impl Taking {
     {
         let told = self.watch.settle(self.alloc, at)?;
         self.rows.let_go_all(&told);
+        laws::all_is_told_up_to_where_it_settled();
         self.note_settled();
         Ok(())
     }

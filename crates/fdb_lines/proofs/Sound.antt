@@ -12,7 +12,6 @@ use Rattle.fdb_lines.specs.Reasons.{draws_it, reports_it, draws_again}
 use Rattle.fdb_lines.proofs.Numbers.{greatest_among, some_at, some_find}
 use Rattle.fdb_lines.proofs.Facts.{raises_it, draws_own}
 
-
 module _ (c : Case) (history : List Effect) (e : Explains c history) where
   -- what a call knows was reported before it
   known_before : (k p : ℕ) → k < length c.lines → IsMoment c e.asked e.took k p → ReportedBefore c.start history p (knows c k)

@@ -163,11 +163,15 @@ pub fn faults_by_key_are_those_of_each_key()
 {}
 
 /// What a watch has told is all that there is to tell of the lines that began before the moment up to
-/// which it has settled, each fault once, if none of them came late.
+/// which it has settled, each fault once, if none of them came late; so it may as well be said to have
+/// told that.
 pub fn all_is_told_up_to_where_it_settled()
-    ensures { (watch : KeyWatch) (lines : List Line) (keys : List (Option ℕ)) (told : List Found)
-        → HasSeenByKey watch lines keys → HasTold watch lines keys told
+    ensures each_once { (watch : KeyWatch) (lines : List Line) (keys : List (Option ℕ))
+        (told : List Found) → HasSeenByKey watch lines keys → HasTold watch lines keys told
         → IsPermutation told (audited_to watch.margin watch.from lines keys) }
+    ensures as_well { (watch : KeyWatch) (lines : List Line) (keys : List (Option ℕ))
+        (told : List Found) → HasSeenByKey watch lines keys → HasTold watch lines keys told
+        → HasTold watch lines keys (audited_to watch.margin watch.from lines keys) }
 {}
 
 /// Lines that stand for all do so for whoever goes on from them: of the lines that begin from a moment

@@ -1,8 +1,10 @@
-use Rattle.std.proofs.Common.{◌≡◌, ◌∙◌, ◌^◌, ◌<◌, ℕ, None, Option, Some, IfSome, ap, decimal, get_or, length, subst, sym}
+use Rattle.std.proofs.Common.{◌≡◌, ◌∙◌, ◌^◌, ◌<◌, ℕ, zero, suc, List, [], ◌∷◌, None, Option, Some, IfSome, ap, arith, decimal, get_or, length, option_and_then, option_map, slice_get, subst, sym}
+use Rattle.std.specs.Option.{option_flatten}
 use Rattle.std.specs.Slice.{IsGetResult}
+use Rattle.std.proofs.lemmas.Option.{slice_get-map}
 use Rattle.std.proofs.lemmas.Result.{IfOk-weaker}
-use Rattle.fdb_log_reader.specs.ReadLine.{said_by}
-use Rattle.fdb_log_reader.proofs.ShownNumbers.{number_there}
+use Rattle.fdb_log_reader.specs.Members.{whole}
+use Rattle.fdb_log_reader.specs.ReadLine.{said_by, text_says}
 use Rattle.fdb_audit.specs.Kept.{number_kept}
 use Rattle.fdb_audit.proofs.kept.number_at.Goals as goal
 
@@ -18,9 +20,15 @@ returns-in-Some-Some c =
     IfOk-weaker c.number_in.result
     (λ found. IfSome found (λ number. (c.deref-in-Some-Some.result.now ≡ decimal number) × (number < 2 ^ 64)))
     (λ found. IfSome found (λ number. number_kept place (said_by c.args.read.now) ≡ Some number))
-    (λ found is. by found is (λ n says small. number_there shown place text n within there (sym c.deref-in-Some-Some.ensures ∙ says) small))
+    (λ found is. by found is (λ n says small. ap (λ o. option_and_then whole (option_flatten o)) (slice_get-map text_says shown place ∙ ap (option_map text_says) (at_place shown place (Some text) within there))
+    ∙ c.digits_are_read_as_their_number.ensures text n small (sym c.deref-in-Some-Some.ensures ∙ says)))
     c.number_in.ensures
   where
     by : {P Q : ℕ → Type 0} (found : Option ℕ) → IfSome found (λ n. P n × Q n) → {R : ℕ → Type 0} → ((n : ℕ) → P n → Q n → R n) → IfSome found R
     by None is give = tt
     by (Some n) is give = give n is.0 is.1
+
+    at_place : {X : Type 0} (xs : List X) (k : ℕ) (x : X) → k < length xs → get_or xs k x ≡ x → slice_get xs k ≡ Some x
+    at_place [] k x lt is = absurd (omega (arith, lt))
+    at_place (y ∷ xs) zero x lt is = ap (λ it. Some it) is
+    at_place (y ∷ xs) (suc k) x lt is = at_place xs k x (omega (arith, lt)) is

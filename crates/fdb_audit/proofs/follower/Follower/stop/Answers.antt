@@ -19,7 +19,7 @@ returns-clause-told c = λ asked start bytes told has.
     let all = start.told ++ told_in_all read is.windows in (
       watch.from,
       subst (λ margin. IsPermutation all (audited_to margin watch.from (lines_taken read) (keys_taken read))) is.margin
-          (c.all_is_told_up_to_where_it_settled.ensures watch (lines_taken read) (keys_taken read) all is.taken.seen (is.taken.once none_before none)),
+          (c.all_is_told_up_to_where_it_settled.ensures.each_once watch (lines_taken read) (keys_taken read) all is.taken.seen (is.taken.once none_before none)),
     )))
     (c.in_ok-take_last.ensures.names asked start bytes told has)
 
@@ -38,6 +38,6 @@ returns-clause-kept c =
       taking,
       faults,
       is.taken,
-      subst (λ key. Keeps key start.numbers taking read (string_bytes text)) (ap member_in (sym (c.in_ok-take_last.ensures.names asked start bytes told has)) ∙ member_asked asked bytes)
+      subst (λ key. Keeps key start.numbers taking read (string_bytes text)) (ap member_in (sym (c.in_ok-take_last.ensures.names asked start bytes told has)) ∙ member_asked asked bytes c.keys_stay_in_one_member.ensures)
           (says start read faults is.taken),
     )) c.in_ok-kept.ensures

@@ -1,7 +1,6 @@
 use Rattle.std.proofs.Common.{◌++◌, false, max, subst}
 use Rattle.std.proofs.lemmas.Bool.{false≢true}
 use Rattle.fdb_lines.specs.ToldByKey.{HasTold, audited_to, told_by_all}
-use Rattle.fdb_lines.proofs.OnceTold.{told_so}
 use Rattle.fdb_audit.specs.Following.{keys_taken, lines_taken}
 use Rattle.fdb_audit.proofs.taking.Taking.settle_untold.Goals as goal
 
@@ -25,5 +24,5 @@ returns-clause-taken c = λ start read told are.
           let has = c.in_ok-told.ensures.once lines keys told are.seen (are.once none_before none) in
           subst (λ margin. HasTold new lines keys (audited_to margin (max old.from c.args.at) lines keys)) c.settle.ensures.margin.0
           (subst (λ from. HasTold new lines keys (audited_to new.margin from lines keys)) c.in_ok-told.ensures.settled
-          (told_so new lines keys (told ++ told_by_all c.in_ok-told.told.items) seen has));
+          (c.all_is_told_up_to_where_it_settled.ensures.as_well new lines keys (told ++ told_by_all c.in_ok-told.told.items) seen has));
     })
