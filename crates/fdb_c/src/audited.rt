@@ -153,6 +153,7 @@ impl Audited {
         ensures over { (result ≡ FDB_OVER) ↔ (self.old.is_over ≡ true) }
         ensures not_told { (result ≡ FDB_OVER) → refused.new ≡ refused.old }
         ensures ends { (result ≢ FDB_OK) → self.new ≡ over self.old }
+        ensures statuses { (result ≡ FDB_OK) ⊎ (result ≡ FDB_MEMORY) ⊎ IsRefusal result }
     {
         let Some(reader) = mem::replace(&mut self.reader, None) else {
             return FDB_OVER;
@@ -179,6 +180,8 @@ impl Audited {
         ensures over { (result ≡ FDB_OVER) ↔ (self.old.is_over ≡ true) }
         ensures not_told { (result ≡ FDB_OVER) → refused.new ≡ refused.old }
         ensures ends { (result ≢ FDB_OK) → (result ≢ FDB_FAULT) → self.new ≡ over self.old }
+        ensures statuses { (result ≡ FDB_OK) ⊎ (result ≡ FDB_FAULT) ⊎ (result ≡ FDB_MEMORY)
+            ⊎ IsRefusal result }
     {
         let Some(reader) = mem::replace(&mut self.reader, None) else {
             return FDB_OVER;
