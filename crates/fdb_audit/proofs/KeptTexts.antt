@@ -1,7 +1,6 @@
 -- What texts say that keep lines.
-use Rattle.std.proofs.Common.{◌≡◌, ◌∙◌, ℕ, zero, suc, ◌+◌, ◌-◌, ◌<◌, ◌≤◌, nat_lt, Bool, true, false, List, [], ◌∷◌, ◌++◌, Option, None, Some, Result, Ok, Err, ap, cond, append-nil, arith, drop, inl, inr, is_some, length, map, min, option_map, refl, string_bytes, subst, sym, take, unwrap_or}
+use Rattle.std.proofs.Common.{◌≡◌, ◌∙◌, ℕ, zero, suc, ◌+◌, ◌-◌, nat_lt, Bool, false, List, [], ◌∷◌, ◌++◌, Option, None, Some, Result, Ok, Err, ap, cond, append-nil, arith, drop, inl, inr, is_some, length, map, min, option_map, refl, string_bytes, sym, take, unwrap_or}
 use Rattle.std.specs.Prelude.{OnOk, count_by}
-use Rattle.std.specs.List.{All}
 use Rattle.std.proofs.lemmas.Bool.{cases_lt}
 use Rattle.std.proofs.lemmas.Bool.Decides.{nat_tests}
 use Rattle.std.proofs.lemmas.List.{drop_all, length-append, length-map, length_push, map-append, map_push, take_all}

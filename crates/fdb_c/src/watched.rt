@@ -54,7 +54,7 @@ impl Model for Watched {
 
     ghost invariant = { λ it. IfSome it.follower
         (λ follower. HasFollowed it.asked (fresh it.behind) follower
-            it.story.bytes it.story.told) };
+        it.story.bytes it.story.told) };
 }
 
 impl Watched {

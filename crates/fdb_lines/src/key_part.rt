@@ -55,9 +55,7 @@ pub(crate) struct NextPart {
 }
 
 impl KeyPart {
-    ghost use Rattle.fdb_lines.specs.declared.watch.WatchError.TheVariants.{NoTimes};
     ghost use Rattle.fdb_lines.specs.KeyParts.{HasStayed};
-    ghost use Rattle.fdb_lines.specs.Lines.{has_times};
     ghost use Rattle.fdb_lines.specs.private.KeyParts.{kept_of, HasNoMore, HasOneMore, IsAlike};
     ghost use Rattle.fdb_lines.specs.private.KeyParts.{IsNext};
 
@@ -80,7 +78,6 @@ impl KeyPart {
     pub(crate) fn push(&mut self, line: Line, number: u64) -> Result<(), WatchError>
         ensures ok { OnOk result (HasOneMore line number self.old self.new) }
         ensures err { OnErr result (HasNoMore self.old self.new) }
-        ensures untimed { IfErr result (λ error. error ≡ NoTimes → has_times line ≡ false) }
         ensures opened { self.new.is_open ≡ true }
         ensures stays { HasStayed self.old self.new }
         ensures alike { let was = self.old.watch in

@@ -4,8 +4,6 @@
 ghost use Rattle.std.specs.Prelude.{◌≡◌, ◌≢◌, ◌<◌, All, IfErr, IfOk, OnErr, OnOk};
 ghost use Rattle.std.specs.Prelude.{None, [], false, length};
 ghost use Rattle.std.specs.List.{AllPairs, filter, flat_map};
-ghost use Rattle.fdb_lines.specs.declared.watch.WatchError.TheVariants.{NoTimes};
-ghost use Rattle.fdb_lines.specs.Lines.{has_times};
 ghost use Rattle.fdb_lines.specs.private.KeyParts.{flag_at, flags_of, AreEntries, AreNext, AreOpen};
 ghost use Rattle.fdb_lines.specs.private.KeyParts.{ArePut, HasNoMoreAt, HasOneMoreAt};
 ghost use Rattle.fdb_lines.specs.private.KeyParts.{kept_of, StaysAt};
@@ -36,7 +34,6 @@ pub(crate) fn add_line(
     requires opened { AreOpen (flags_of parts.old.items) open_parts.old.items }
     ensures opened { AreOpen (flags_of parts.new.items) open_parts.new.items }
     ensures stays { StaysAt place parts.old.items parts.new.items }
-    ensures untimed { IfErr result (λ error. error ≡ NoTimes → has_times line ≡ false) }
     ensures ok { OnOk result (HasOneMoreAt place line number parts.old.items parts.new.items) }
     ensures err { OnErr result (HasNoMoreAt place parts.old.items parts.new.items) }
 {

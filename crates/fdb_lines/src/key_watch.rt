@@ -1,7 +1,7 @@
 //! An audit that watches a log with keys: each key is watched by itself.
 
 ghost use Rattle.std.specs.Prelude.{◌≡◌, ◌⊎◌, ◌<◌, ◌≤◌, ◌++◌, ◌∷◌, ℕ, All, List, IfErr, IfOk};
-ghost use Rattle.std.specs.Prelude.{[], None, OnErr, OnOk, Option, Some, false, true};
+ghost use Rattle.std.specs.Prelude.{[], IfSome, None, OnErr, OnOk, Option, Some, false, true};
 ghost use Rattle.std.specs.Prelude.{◌↔◌, ◌==◌, cond, length, max, slice_index_or};
 ghost use Rattle.std.specs.Prelude.{IsPermutation};
 ghost use Rattle.std.specs.BTreeMap.{get};
@@ -12,14 +12,15 @@ ghost use Rattle.fdb_lines.specs.declared.line.Line.{Line};
 ghost use Rattle.fdb_lines.specs.Before.{began};
 ghost use Rattle.fdb_lines.specs.KeyParts.{names_of, HaveStayed};
 ghost use Rattle.fdb_lines.specs.Keys.{key_at};
-ghost use Rattle.fdb_lines.specs.Lines.{has_times};
+ghost use Rattle.fdb_lines.specs.Lines.{has_times, Lines};
+ghost use Rattle.fdb_lines.specs.Log.{refusal_of};
 ghost use Rattle.fdb_lines.specs.private.Keys.{number_of, AreNumbered};
 ghost use Rattle.fdb_lines.specs.private.KeyParts.{flags_of, AreOpen, IsAlike};
 
 use crate::key_part::{KeptLine, KeyPart, SettledKey};
 use crate::key_parts::{add_line, finish_parts, keep_open, kept_lines, next_parts, put_parts};
 use crate::line::Line;
-use crate::log::LineError;
+use crate::log::{LineError, Log};
 use crate::parts::number_of;
 use crate::watch::WatchError;
 use std::alloc::{AllocError, Global};
@@ -50,7 +51,8 @@ pub struct KeyWatch {
 impl KeyWatch {
     ghost use Rattle.fdb_lines.specs.declared.watch.WatchError.TheVariants.{NoTimes};
     ghost use Rattle.fdb_lines.specs.KeyWatch.{AreKept, AreTold, GoesOn, HasEntry};
-    ghost use Rattle.fdb_lines.specs.KeyWatch.{HasNothingToTell, HasSeenByKey, KeepsOn};
+    ghost use Rattle.fdb_lines.specs.KeyWatch.{HasNothingToTell, HasSeenByKey, IsLogOf, KeepsOn};
+    ghost use Rattle.fdb_lines.specs.KeyWatch.{refusal_in, IsRefusedFor};
     ghost use Rattle.fdb_lines.specs.ToldByKey.{audited, told_by_all, HasTold};
 
     /// A watch that has seen no line.
@@ -100,6 +102,9 @@ impl KeyWatch {
             → HasTold self.new (lines ++ line ∷ []) (keys ++ key ∷ []) told) }
         ensures taken { OnOk result (has_times line ≡ true) }
         ensures untimed { IfErr result (λ error. error ≡ NoTimes ↔ (has_times line ≡ false)) }
+        ensures refused { (log : Lines) × IsLogOf self.old.parts.items key log
+            × OnOk result (refusal_in self.old.count log line ≡ None)
+            × IfErr result (IsRefusedFor (refusal_in self.old.count log line)) }
         ensures err { OnErr result ((lines : List Line) → (keys : List (Option ℕ))
             → HasSeenByKey self.old lines keys → HasSeenByKey self.new lines keys) }
         ensures stays { HaveStayed self.old.parts.items self.new.parts.items }
@@ -107,26 +112,55 @@ impl KeyWatch {
         ensures margin { (self.new.margin ≡ self.old.margin)
             × (self.new.horizon ≡ self.old.horizon) }
     {
-        if line.times.is_none() {
-            return Err(WatchError::NoTimes);
-        }
-        if self.count == u64::MAX {
-            return Err(WatchError::Line(LineError::TooMany));
+        if let Some(error) = self.refusal(key, &line) {
+            return Err(error);
         }
         if let Some(place) = self.numbers.get(&number_of(key)).copied() {
-            if let Err(error) = add_line(
+            if let Err(_refused) = add_line(
                 &mut self.parts,
                 &mut self.open_parts,
                 place,
                 line,
                 self.count,
             ) {
-                return Err(error);
+                return Err(WatchError::Line(LineError::Memory));
             }
             self.count += 1;
             return Ok(());
         }
         self.push_first(alloc, key, line)
+    }
+
+    /// Why a line of a key is not taken, if it is not, but for want of memory.
+    fn refusal(&self, key: Option<u32>, line: &Line) -> Option<WatchError>
+        ensures why { (log : Lines) × IsLogOf self.now.parts.items key log
+            × (result ≡ refusal_in self.now.count log line.now) }
+        ensures untimed { IfSome result (λ error. error ≡ NoTimes ↔ (has_times line.now ≡ false)) }
+        ensures taken { result ≡ None → (has_times line.now ≡ true)
+            × (self.now.count < 18446744073709551615) }
+    {
+        let why = self.refusal_of_key(key, line);
+        if line.times.is_none() {
+            return Some(WatchError::NoTimes);
+        }
+        if self.count == u64::MAX {
+            return Some(WatchError::Line(LineError::TooMany));
+        }
+        match why {
+            Some(error) => Some(WatchError::Line(error)),
+            None => None,
+        }
+    }
+
+    /// Why the lines that are kept of a key do not take a line, if they do not.
+    fn refusal_of_key(&self, key: Option<u32>, line: &Line) -> Option<LineError>
+        ensures { (log : Lines) × IsLogOf self.now.parts.items key log
+            × (result ≡ refusal_of log line.now) }
+    {
+        match self.numbers.get(&number_of(key)) {
+            Some(place) => self.parts[*place].watch.log.refusal(line),
+            None => Log::refusal_alone(line),
+        }
     }
 
     /// Adds the first line of a key.
@@ -138,15 +172,15 @@ impl KeyWatch {
             → HasSeenByKey self.new (lines ++ line ∷ []) (keys ++ key ∷ [])) }
         ensures err { OnErr result ((lines : List Line) → (keys : List (Option ℕ))
             → HasSeenByKey self.old lines keys → HasSeenByKey self.new lines keys) }
-        ensures untimed { IfErr result (λ error. error ≡ NoTimes → has_times line ≡ false) }
+        ensures memory { IfErr result (λ error. error ≡ WatchError.Line LineError.Memory) }
         ensures stays { HaveStayed self.old.parts.items self.new.parts.items }
         ensures settled { self.new.from ≡ self.old.from }
         ensures margin { (self.new.margin ≡ self.old.margin)
             × (self.new.horizon ≡ self.old.horizon) }
     {
         let mut part = KeyPart::new(alloc, key, self.margin, self.horizon);
-        if let Err(error) = part.push(line, self.count) {
-            return Err(error);
+        if let Err(_refused) = part.push(line, self.count) {
+            return Err(WatchError::Line(LineError::Memory));
         }
         if self.open_parts.reserve(1).is_err() {
             return Err(WatchError::Line(LineError::Memory));

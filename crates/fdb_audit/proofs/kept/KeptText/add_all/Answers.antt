@@ -1,7 +1,5 @@
-use Rattle.std.proofs.Common.{◌∙◌, ◌++◌, ◌∷◌, [], List, Result, ap, append_assoc, map, sym}
+use Rattle.std.proofs.Common.{◌∙◌, ◌++◌, ◌∷◌, [], List, ap, append_assoc, map, sym}
 use Rattle.std.proofs.lemmas.List.{map_push}
-use Rattle.fdb_log_reader.specs.declared.error.Why.{Why}
-use Rattle.fdb_log_reader.specs.declared.read_line.ReadLine.{ReadLine}
 use Rattle.fdb_log_reader.specs.ReadLine.{SaidLine, said_in}
 use Rattle.fdb_audit.specs.Following.{taken}
 use Rattle.fdb_audit.specs.Kept.{kept_said}

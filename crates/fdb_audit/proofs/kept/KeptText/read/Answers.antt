@@ -5,7 +5,7 @@ use Rattle.fdb_log_reader.specs.LineReader.{lines_on}
 use Rattle.fdb_log_reader.specs.ReadLine.{SaidLine, lines_read, no_names, said_in}
 use Rattle.fdb_log_reader.specs.Reading.{lines_in}
 use Rattle.fdb_audit.specs.Following.{taken}
-use Rattle.fdb_audit.specs.Kept.{kept_members, kept_said, lines_kept}
+use Rattle.fdb_audit.specs.Kept.{kept_members, kept_said}
 use Rattle.fdb_audit.proofs.KeptTexts.{ends_so, on_not_err}
 use Rattle.fdb_audit.proofs.kept.KeptText.read.Goals as goal
 

@@ -1,4 +1,4 @@
-use Rattle.std.proofs.Common.{◌≡◌, ◌∙◌, ◌++◌, ◌∷◌, [], Option, None, Some, List, ℕ, ap, arith, is_some, length, refl, sym, true}
+use Rattle.std.proofs.Common.{◌≡◌, ◌∙◌, Option, None, Some, ℕ, ap, arith, is_some, refl, true}
 use Rattle.std.proofs.lemmas.Grind.{common_steps}
 use Rattle.fdb_audit.specs.private.KeptTexts.{said_of}
 use Rattle.fdb_audit.proofs.KeptTexts.{added}

@@ -1,7 +1,7 @@
 use Rattle.std.proofs.Common.{◌≡◌, ◌∙◌, ◌++◌, ◌≤◌, ◌+◌, [], ℕ, List, Result, ap, arith, drop, false, length, map, max, min, refl, subst, sym, take}
 use Rattle.std.proofs.lemmas.Bool.{false≢true}
 use Rattle.std.proofs.lemmas.List.{drop_all, length-map, map-append, take-append-drop}
-use Rattle.fdb_lines.specs.ToldByKey.{HasTold, audited_to}
+use Rattle.fdb_lines.specs.ToldByKey.{audited_to}
 use Rattle.fdb_log_reader.specs.declared.error.Why.{Why}
 use Rattle.fdb_log_reader.specs.declared.read_line.ReadLine.{ReadLine}
 use Rattle.fdb_log_reader.specs.ReadLine.{SaidLine, said_in}

@@ -24,13 +24,13 @@ part_of watch key place is =
 
 pub add_line-requires-clause-within : goal.add_line-requires-clause-within
 add_line-requires-clause-within c =
-    (part_of c.args.self.now c.args.key c.in-Some.place (grind (arith, common_steps, c.get.ensures.value, c.copied.ensures, c.number_of.ensures, c.in-Some.is))).0
+    (part_of c.args.self.now c.args.key c.in-Some-copied.place (grind (arith, common_steps, c.get.ensures.value, c.copied.ensures, c.number_of.ensures, c.in-Some-copied.is))).0
 
 pub invariant_of-self : goal.invariant_of-self
 invariant_of-self c =
     let watch = c.args.self.now in
-    let place = c.in-Some.place in
-    let within = (part_of watch c.args.key place (grind (arith, common_steps, c.get.ensures.value, c.copied.ensures, c.number_of.ensures, c.in-Some.is))).0 in
+    let place = c.in-Some-copied.place in
+    let within = (part_of watch c.args.key place (grind (arith, common_steps, c.get.ensures.value, c.copied.ensures, c.number_of.ensures, c.in-Some-copied.is))).0 in
     let new = c.add_line.new.parts.items in
     let stays = c.add_line.ensures.stays in
     record {
@@ -42,16 +42,16 @@ invariant_of-self c =
 pub returns-in-Err-clause-err : goal.returns-in-Err-clause-err
 returns-in-Err-clause-err c = λ lines keys seen.
     let watch = c.args.self.now in
-    let place = c.in-Some.place in
-    let within = (part_of watch c.args.key place (grind (arith, common_steps, c.get.ensures.value, c.copied.ensures, c.number_of.ensures, c.in-Some.is))).0 in
+    let place = c.in-Some-copied.place in
+    let within = (part_of watch c.args.key place (grind (arith, common_steps, c.get.ensures.value, c.copied.ensures, c.number_of.ensures, c.in-Some-copied.is))).0 in
     let it = seen_still lines keys place watch.parts.items c.add_line.new.parts.items within seen.each c.in-Err.ensures.err in
     record { count = seen.count; as_many = seen.as_many; names = it.0 ∙ seen.names; each = it.1 }
 
-pub invariant_of-self-in-Some : goal.invariant_of-self-in-Some
-invariant_of-self-in-Some c =
+pub invariant_of-self-in-Some-copied : goal.invariant_of-self-in-Some-copied
+invariant_of-self-in-Some-copied c =
     let watch = c.args.self.now in
-    let place = c.in-Some.place in
-    let within = (part_of watch c.args.key place (grind (arith, common_steps, c.get.ensures.value, c.copied.ensures, c.number_of.ensures, c.in-Some.is))).0 in
+    let place = c.in-Some-copied.place in
+    let within = (part_of watch c.args.key place (grind (arith, common_steps, c.get.ensures.value, c.copied.ensures, c.number_of.ensures, c.in-Some-copied.is))).0 in
     let new = c.add_line.new.parts.items in
     let stays = c.add_line.ensures.stays in
     record {
@@ -60,14 +60,14 @@ invariant_of-self-in-Some c =
       opened = c.add_line.ensures.opened;
     }
 
-pub returns-in-Some-clause-ok : goal.returns-in-Some-clause-ok
-returns-in-Some-clause-ok c = λ lines keys seen.
+pub returns-in-Some-copied-clause-ok : goal.returns-in-Some-copied-clause-ok
+returns-in-Some-copied-clause-ok c = λ lines keys seen.
     let watch = c.args.self.now in
     let parts = watch.parts.items in
-    let place = c.in-Some.place in
+    let place = c.in-Some-copied.place in
     let key = c.args.key in
     let line = c.args.line in
-    let its = part_of watch key place (grind (arith, common_steps, c.get.ensures.value, c.copied.ensures, c.number_of.ensures, c.in-Some.is)) in
+    let its = part_of watch key place (grind (arith, common_steps, c.get.ensures.value, c.copied.ensures, c.number_of.ensures, c.in-Some-copied.is)) in
     let new = c.add_line.new.parts.items in
     let more : HasOneMoreAt place line (length lines) parts new = subst (λ n. HasOneMoreAt place line n parts new) seen.count c.in_default-add_line.ensures.ok in
     let it = seen_there lines keys seen.as_many line key parts seen.names seen.each place new its.0 its.1 more in
@@ -80,13 +80,13 @@ returns-in-Some-clause-ok c = λ lines keys seen.
       each = it.1;
     }
 
-pub returns-in-Some-clause-told : goal.returns-in-Some-clause-told
-returns-in-Some-clause-told c = λ lines keys told seen has late.
+pub returns-in-Some-copied-clause-told : goal.returns-in-Some-copied-clause-told
+returns-in-Some-copied-clause-told c = λ lines keys told seen has late.
     let watch = c.args.self.now in
-    let place = c.in-Some.place in
-    let within = (part_of watch c.args.key place (grind (arith, common_steps, c.get.ensures.value, c.copied.ensures, c.number_of.ensures, c.in-Some.is))).0 in
+    let place = c.in-Some-copied.place in
+    let within = (part_of watch c.args.key place (grind (arith, common_steps, c.get.ensures.value, c.copied.ensures, c.number_of.ensures, c.in-Some-copied.is))).0 in
     let stays = stay_at place watch.parts.items c.add_line.new.parts.items within c.add_line.ensures.stays in
-    push_on watch _ lines keys told c.args.line c.args.key seen (returns-in-Some-clause-ok c lines keys seen) stays refl refl has late
+    push_on watch _ lines keys told c.args.line c.args.key seen (returns-in-Some-copied-clause-ok c lines keys seen) stays refl refl has late
 
 pub returns-clause-told : goal.returns-clause-told
 returns-clause-told c =
