@@ -264,25 +264,6 @@ takes old new bytes whole read is one reads shown front =
       numbers = numbers_read (line_names new) read (subst (λ line. IfOk line (IsNumbered (line_names new))) reads.said (subst (λ more. IfOk (line_in said) (IsNumbered more)) reads.after fit.numbers));
     }
 
--- a line whose end comes behind what was kept of it
-pub takes_kept : (old now new : LineReader) (line : List ℕ) (read : Result ReadLine Why) → Keeps old line now → TakesLine now [] read new → TakesLine old line read new
-takes_kept old now new line read keeps takes = record {
-  goes = λ text. keeps.goes (10 ∷ text) ∙ takes.goes text;
-  more = subst (λ names. AreMore names (line_names new)) keeps.names takes.more;
-  texts = takes.texts;
-  timed = takes.timed;
-  numbers = takes.numbers;
-}
-
-pub begins : (reader : LineReader) (bytes : List ℕ) → Follows reader bytes [] reader bytes
-begins reader bytes = record {
-  goes = λ text. refl;
-  more = all_same (line_names reader);
-  texts = λ k d lt. absurd (omega arith);
-  timed = λ k d lt. absurd (omega arith);
-  numbers = λ k d lt. absurd (omega arith);
-}
-
 one_read : (P : Result ReadLine Why → Type 0) (read : Result ReadLine Why) → P read → All P (read ∷ [])
 one_read P read is zero d lt = is
 one_read P read is (suc k) d lt = absurd (omega arith)
@@ -304,15 +285,6 @@ follows_on old now new bytes rest line after lines read so_far is takes =
           (λ k d lt. still_read (line_names now) (line_names new) (slice_index_or lines k d) takes.more (so_far.numbers k d lt))
           (one_read (λ read. IfOk read (λ read. IsNumbered (line_names new) (said_by read))) read takes.numbers);
     }
-
-pub follows_kept : (old now new : LineReader) (bytes rest : List ℕ) (lines : List (Result ReadLine Why)) → Follows old bytes lines now rest → Keeps now rest new → Follows old bytes lines new []
-follows_kept old now new bytes rest lines so_far keeps = record {
-  goes = λ text. so_far.goes text ∙ ap (behind (map said_in lines)) (keeps.goes text);
-  more = subst (AreMore (line_names old)) (sym keeps.names) so_far.more;
-  texts = so_far.texts;
-  timed = so_far.timed;
-  numbers = subst (λ names. All (λ read. IfOk read (λ read. IsNumbered names (said_by read))) lines) (sym keeps.names) so_far.numbers;
-}
 
 -- ---- where the text ends
 
