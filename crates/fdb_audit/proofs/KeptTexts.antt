@@ -1,10 +1,9 @@
 -- What texts say that keep lines.
-use Rattle.std.proofs.Common.{◌≡◌, ◌∙◌, ℕ, zero, suc, ◌+◌, ◌-◌, nat_lt, Bool, false, List, [], ◌∷◌, ◌++◌, Option, None, Some, Result, Ok, Err, ap, cond, append-nil, arith, drop, inl, inr, is_some, length, map, min, option_map, refl, string_bytes, sym, take, unwrap_or}
+use Rattle.std.proofs.Common.{◌≡◌, ◌∙◌, ℕ, zero, suc, ◌+◌, ◌-◌, nat_lt, Bool, List, [], ◌∷◌, ◌++◌, Option, None, Some, Result, Ok, Err, ap, cond, append-nil, arith, drop, inl, inr, is_some, length, map, min, option_map, refl, string_bytes, sym, take, unwrap_or}
 use Rattle.std.specs.Prelude.{OnOk, count_by}
 use Rattle.std.proofs.lemmas.Bool.{cases_lt}
 use Rattle.std.proofs.lemmas.Bool.Decides.{nat_tests}
 use Rattle.std.proofs.lemmas.List.{drop_all, length-append, length-map, length_push, map-append, map_push, take_all}
-use Rattle.std.proofs.lemmas.List.Elements.{All-append, All-cons, All-nil}
 use Rattle.std.proofs.lemmas.List.Sums.{sum_by-append, sum_by-cons}
 use Rattle.fdb_lines.specs.declared.line.Line.{Line}
 use Rattle.fdb_lines.specs.Before.{began}
@@ -12,9 +11,7 @@ use Rattle.fdb_log_reader.specs.declared.error.Why.{Why}
 use Rattle.fdb_log_reader.specs.declared.line_reader.LineReader.{LineReader}
 use Rattle.fdb_log_reader.specs.LineReader.{line_names, lines_on}
 use Rattle.fdb_log_reader.specs.ReadLine.{LineNames, SaidLine, line_read, lines_read, member_in, names_after, names_behind, no_names}
-use Rattle.fdb_log_reader.specs.Reading.{is_line_feed, lines_in}
-use Rattle.fdb_log_reader.specs.private.{IsOneLine}
-use Rattle.fdb_log_reader.proofs.Splitting.{last_line}
+use Rattle.fdb_log_reader.specs.Reading.{lines_in}
 use Rattle.fdb_audit.specs.declared.arguments.AuditArguments.{AuditArguments}
 use Rattle.fdb_audit.specs.declared.follower.Follower.{Follower}
 use Rattle.fdb_audit.specs.Watched.{HasFollowed, names_asked}
@@ -28,16 +25,8 @@ as_many : (shown : List (List ℕ)) (names : LineNames) (lines : List (List ℕ)
 as_many shown names [] = refl
 as_many shown names (line ∷ lines) = let rest = as_many shown (names_after names (line_read shown names line)) lines in omega (arith, rest)
 
--- a byte behind what has come of a line is of that line
-one_more : (front : List ℕ) → IsOneLine front → length (lines_in (front ++ 32 ∷ [])) ≡ 1
-one_more front one =
-    let line = front ++ 32 ∷ [] in
-    let size = length-append front (32 ∷ []) in
-    let is = λ (byte : ℕ). is_line_feed byte ≡ false in
-    ap length (ap lines_in (sym (append-nil line)) ∙ last_line line (All-append is front (32 ∷ []) one (All-cons is 32 [] refl (All-nil is))) (omega (arith, size)))
-
 module _ (shown : List (List ℕ)) (names : LineNames) (reader : LineReader) (bytes : List ℕ) (lines : List (Result SaidLine Why))
-    (goes : (text : List ℕ) → lines_read shown names (lines_in (bytes ++ text)) ≡ lines ++ lines_on reader text) where
+    (goes : (text : List ℕ) → lines_read shown names (lines_in (bytes ++ text)) ≡ lines ++ lines_on reader text) (one : length (lines_on reader (32 ∷ [])) ≡ 1) where
   so_far : length (lines_in bytes) ≡ length lines + length (lines_on reader [])
   so_far =
       sym (as_many shown names (lines_in bytes))
@@ -45,9 +34,8 @@ module _ (shown : List (List ℕ)) (names : LineNames) (reader : LineReader) (by
 
   with_one : length (lines_in (bytes ++ 32 ∷ [])) ≡ length lines + 1
   with_one =
-      let here = as_many (map string_bytes reader.shown.items) (line_names reader) (lines_in (reader.front.items ++ 32 ∷ [])) ∙ one_more reader.front.items reader.one_line in
       sym (as_many shown names (lines_in (bytes ++ 32 ∷ [])))
-      ∙ (ap length (goes (32 ∷ [])) ∙ (length-append lines (lines_on reader (32 ∷ [])) ∙ ap (λ n. length lines + n) here))
+      ∙ (ap length (goes (32 ∷ [])) ∙ (length-append lines (lines_on reader (32 ∷ [])) ∙ ap (λ n. length lines + n) one))
 
   pub ends_so : lines_on reader [] ≡ [] → EndsALine bytes
   ends_so none = let all = so_far in let more = with_one in let left = ap length none in omega (arith, all, more, left)

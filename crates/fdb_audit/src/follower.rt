@@ -22,7 +22,7 @@ use crate::refused::KeptRefused;
 use crate::taking::Taking;
 use crate::teller::Teller;
 use fdb_lines::{KeyWatch, laws};
-use fdb_log_reader::laws::keys_stay_in_one_member;
+use fdb_log_reader::laws::{a_space_more_is_of_one_line, keys_stay_in_one_member};
 use fdb_log_reader::{LineReader, ReadError, Why};
 use std::alloc::{AllocError, Global};
 use std::mem::replace;
@@ -159,6 +159,7 @@ impl Follower {
             (start_from behind asked.opts.margin kept (lines_asked asked bytes.now))
             self.new bytes.now []) }
     {
+        a_space_more_is_of_one_line();
         let lines = self.reader.feed(self.alloc, bytes)?;
         self.taking.take_kept(lines, told, settled)?;
         self.taking.newest = self.taking.newest.max(settled.saturating_add(self.behind));

@@ -13,7 +13,7 @@ use crate::figures::{Figure, push_figures};
 use crate::refused::KeptRefused;
 use crate::taking::Taking;
 use fdb_lines::{KeptLine, Operation};
-use fdb_log_reader::laws::digits_are_read_as_their_number;
+use fdb_log_reader::laws::{a_space_more_is_of_one_line, digits_are_read_as_their_number};
 use fdb_log_reader::{LineReader, Names, ReadLine, Why, printed_name};
 use std::alloc::{AllocError, Global};
 use std::fmt::Write;
@@ -74,6 +74,7 @@ impl KeptText {
             said_of kept ≡ kept_said (lines_kept (option_map (λ key. key.now) key.entry) text.now))) }
         ensures ends { IfOk result (λ it. OnOk it (EndsALine text.now)) }
     {
+        a_space_more_is_of_one_line();
         let members = members_kept(alloc)?;
         let mut reader = LineReader::new(alloc, key, &members)?;
         let lines = reader.feed(alloc, text)?;

@@ -45,7 +45,8 @@ pub(crate) struct Taking {
 }
 
 impl Taking {
-    ghost use Rattle.fdb_audit.specs.Following.{Start, keys_taken, left_out, lines_taken, start_with};
+    ghost use Rattle.fdb_audit.specs.Following.{Start, keys_taken, left_out, lines_taken};
+    ghost use Rattle.fdb_audit.specs.Following.{start_with};
     ghost use Rattle.fdb_audit.specs.Kept.{KeptSaid, early_at, start_from};
     ghost use Rattle.fdb_audit.specs.Taken.{AreCounted, kept_by};
     ghost use Rattle.fdb_audit.specs.private.Followed.{AreTaken, one_more};

@@ -1,8 +1,8 @@
 //! Laws of the definitions. The functions do nothing: each stands for its contract.
 
 ghost use Rattle.std.specs.Prelude.{ℕ, ◌<◌, ◌≤◌, ◌≡◌, ◌≢◌, ◌↔◌, ◌++◌, ◌∷◌, [], List, Option};
-ghost use Rattle.std.specs.Prelude.{length, map, not, slice_index, true, IfSome, IsTrue, None, Some};
-ghost use Rattle.std.specs.Prelude.{IsPermutation};
+ghost use Rattle.std.specs.Prelude.{length, map, not, slice_index, true, IfSome, IsTrue, None};
+ghost use Rattle.std.specs.Prelude.{IsPermutation, Some};
 ghost use Rattle.std.specs.List.{filter, range_with_len};
 ghost use Rattle.fdb_lines.specs.declared.effect.Effect.{Effect};
 ghost use Rattle.fdb_lines.specs.declared.fault.Fault.{Fault};

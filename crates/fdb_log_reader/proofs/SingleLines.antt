@@ -2,7 +2,7 @@
 use Rattle.std.proofs.Common.{◌≡◌, ℕ, ◌+◌, suc, ◌<◌, ◌≤◌, ◌==◌, nat_lt, Bool, true, false, List, [], ◌∷◌, ◌++◌, length, length-append, map, string_bytes, take, Option, None, Some, IfOk, IfSome, IsSomeAnd, MatchResult, not, ◌⊎◌, inl, inr, String, option_map, zero, Result, Ok, Err, refl, ap, ap₂, subst, sym, ◌∙◌, arith, append_assoc, append-nil, if◌then◌else◌}
 use Rattle.std.proofs.lemmas.Bool.Decides.{nat_tests}
 use Rattle.std.proofs.lemmas.List.{take_all, length-take-le, map-append}
-use Rattle.std.proofs.lemmas.List.Elements.{All-append, All-nil, All-take}
+use Rattle.std.proofs.lemmas.List.Elements.{All-append, All-cons, All-nil, All-take}
 use Rattle.std.specs.List.{All, slice_index_or}
 use Rattle.std.specs.declared.alloc.Global.{Global}
 use Rattle.serde_json.specs.Data.{Data}
@@ -311,3 +311,20 @@ member_same (Some keys) more (new, is, same, rest) = ap (option_map (λ (one : M
 
 pub member_behind : (shown : List (List ℕ)) (names : LineNames) (lines : List (List ℕ)) → member_in (names_behind shown names lines) ≡ member_in names
 member_behind shown names lines = member_same names.keys (names_behind shown names lines).keys (more_behind shown names lines).1
+
+-- ---- a byte behind what has come of a line is of that line
+
+as_many : (shown : List (List ℕ)) (names : LineNames) (lines : List (List ℕ)) → length (lines_read shown names lines) ≡ length lines
+as_many shown names [] = refl
+as_many shown names (line ∷ lines) = let rest = as_many shown (names_after names (line_read shown names line)) lines in omega (arith, rest)
+
+one_more : (front : List ℕ) → IsOneLine front → length (lines_in (front ++ 32 ∷ [])) ≡ 1
+one_more front one =
+    let line = front ++ 32 ∷ [] in
+    let size = length-append front (32 ∷ []) in
+    let is = λ (byte : ℕ). is_line_feed byte ≡ false in
+    ap length (ap lines_in (sym (append-nil line)) ∙ last_line line (All-append is front (32 ∷ []) one (All-cons is 32 [] refl (All-nil is))) (omega (arith, size)))
+
+pub space_more : (reader : LineReader) → length (lines_on reader (32 ∷ [])) ≡ 1
+space_more reader =
+    as_many (map string_bytes reader.shown.items) (line_names reader) (lines_in (reader.front.items ++ 32 ∷ [])) ∙ one_more reader.front.items reader.one_line

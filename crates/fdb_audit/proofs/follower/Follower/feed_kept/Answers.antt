@@ -17,7 +17,7 @@ returns c = λ asked behind kept told_is settled_is ends is.
     let lines = map said_in c.in_ok-lines.lines.items in
     let reader = c.feed.new.self in
     let goes = λ (text : List ℕ). is.goes (bytes ++ text) ∙ c.in_ok-lines.ensures.read text in
-    let none : lines_on reader [] ≡ [] = nothing_pending (map string_bytes asked.shown.items) (no_names (option_map string_bytes asked.key)) reader bytes lines goes ends in
+    let none : lines_on reader [] ≡ [] = nothing_pending (map string_bytes asked.shown.items) (no_names (option_map string_bytes asked.key)) reader bytes lines goes (c.a_space_more_is_of_one_line.ensures reader) ends in
     let whole : lines ≡ lines_asked asked bytes =
     sym (ap (lines_asked asked) (sym (append-nil bytes)) ∙ (goes [] ∙ (ap (λ (rest : List (Result SaidLine Why)). lines ++ rest) none ∙ append-nil lines))) in
     let start = start_from behind asked.opts.margin kept (lines_asked asked bytes) in

@@ -37,4 +37,5 @@ returns-clause-ends c =
     let members : map string_bytes c.deref.result.now ≡ kept_members = ap (map string_bytes) c.deref.ensures.value ∙ c.in_ok-members.ensures in
     ends_so kept_members names reader text lines
     (λ (more : List ℕ). sym (c.in_ok-reader.ensures.read (text ++ more) ∙ ap (λ (shown : List (List ℕ)). lines_read shown names (lines_in (text ++ more))) members) ∙ c.in_ok-lines.ensures.read more)
+    (c.a_space_more_is_of_one_line.ensures reader)
     (none_left (lines_on reader []) c.in_ok-finish.field-0 c.in-None.is c.in_ok-finish.ensures.read)
