@@ -37,10 +37,10 @@ returns-in-Ok-clause-left_out c = λ is not.
     let told = c.in-Ok.ensures.told it.asked (fresh it.behind) it.story.bytes it.story.told followed in
     let taken = c.in-Ok.ensures.refused it.asked (fresh it.behind) it.story.bytes it.story.told followed in
     let whole = subst (λ (first : Option LogFault). IsFollowed it.asked (fresh it.behind) true it.story.bytes said first) error.0 told in
-    let some = sym taken ∙ error.2.0 in (
+    let some = sym taken ∙ error.2 in (
       record { arguments = it.asked; are = refl; followed = at_both (λ bytes text. IsFollowed it.asked (fresh it.behind) true bytes text None) now.0 now.1 whole },
       error.1,
       record { arguments = it.asked; are = refl; refused = ap (refused_in it.asked) now.0 ∙ some },
-      error.2.1,
-      error.2.2,
+      error.3,
+      error.4,
     )
