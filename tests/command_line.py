@@ -7,8 +7,7 @@ from typing import Callable, NamedTuple
 import audit_logs
 from answers import MOST_COMMANDS
 from harness import NO_MEMORY, NO_STREAM, OTHER_ARGUMENTS, REFUSED, ROOT, SECONDS, Ran, done
-from harness import fault_of
-from harness import first_script, read, refused, run, script, under, written
+from harness import fault_of, first_script, read, refused, run, script, under, written
 from model import expected
 
 HELP = read(f"{ROOT}/tests/help.txt")
