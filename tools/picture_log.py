@@ -1,5 +1,6 @@
 """Reads a log, and what `fdb_audit --json` said of it, for a picture."""
 import math
+from bisect import bisect_right
 from collections import defaultdict
 
 from drawing import (DRAWING, SHOWING, START, Drawing, Fault, Line, Refused, column, counted,
@@ -43,7 +44,7 @@ class Log:
         self.calls, self.refused = calls_of(texts, self.asked.key, self.said.is_watched)
         self.faults = self.said.faults_of(self.calls, self.count)
         self.has_times = bool(self.calls) and self.calls[0].has_times
-        self.heard = set() if self.has_times else self.heard_of()
+        self.heard, self.learns = (set(), {}) if self.has_times else (self.heard_of(), self.told())
         lines = [self.line(at) for at in range(len(self.calls))]
         knew = " Known{} before it: {}."
         self.lines = [it._replace(words=it.words + knew.format(
@@ -116,7 +117,7 @@ class Log:
                 f"{late_by(it)}: {self.ended(it.first, it.at)}, and "))
 
     def fault(self, it):
-        (plain, means), learns = FAULTS[it.kind], self.told(it)
+        (plain, means), learns = FAULTS[it.kind], self.learns.get((it.by, it.teller), [])
         way = [] if it.by is None else [it.by, *learns, it.knower]
         named = {name: [getattr(it, name)] for name in ROLES} | {"teller": learns}
         roles = {at: ROLES[name].format(known=it.known)
@@ -166,15 +167,23 @@ class Log:
                 knows[it.client] |= told | bits.get(at, 0)
         return found
 
-    def told(self, it):
-        """The learns by which what a line showed came to another, the last of them that one."""
-        found = [] if it.teller is None else [it.teller]
-        came = {} if it.teller is None else {self.calls[it.by].client: None}
-        for at in range(it.by + 1, it.teller) if found else ():
-            if self.calls[at].kind == "learn" and self.calls[at].value in came:
-                came.setdefault(self.calls[at].client, at)
-        while found and (last := came.get(self.calls[found[0]].value)) is not None:
-            found.insert(0, last)
+    def told(self):
+        """Of each teller of what a line showed the learns by which it came there, that one last."""
+        found, learns = {}, [at for at, it in enumerate(self.calls) if it.kind == "learn"]
+        tellers = defaultdict(set)
+        for it in self.faults:
+            if None not in (it.by, it.teller):
+                tellers[it.by].add(it.teller)
+        for by, its in tellers.items():
+            came = {self.calls[by].client: None}
+            for at in learns[bisect_right(learns, by):bisect_right(learns, max(its))]:
+                if self.calls[at].value in came:
+                    came.setdefault(self.calls[at].client, at)
+            for teller in its:
+                way = [teller]
+                while (last := came.get(self.calls[way[-1]].value)) is not None:
+                    way.append(last)
+                found[by, teller] = way[::-1]
         return found
 
     def bands(self):
