@@ -1,5 +1,4 @@
 """Reads a log, and what `fdb_audit --json` said of it, for a picture."""
-import math
 from bisect import bisect_right
 from collections import defaultdict
 
@@ -122,8 +121,9 @@ class Log:
         named = {name: [getattr(it, name)] for name in ROLES} | {"teller": learns}
         roles = {at: ROLES[name].format(known=it.known)
                  for name, its in named.items() for at in its if at is not None}
-        ended = lambda at: math.inf if self.lines[at].ended is None else self.lines[at].ended
-        links = [(*both, ended(both[0]) <= self.lines[both[1]].began) for both in zip(way, way[1:])]
+        links = [(*both, True) for both in zip(way, way[1:])]
+        if any(self.lines[one].ended > self.lines[other].began for one, other, _ in links):
+            raise ValueError
         if it.other is not None and it.by != it.at:
             links += filter(None, [self.link(it.other, it.at)])
         return Fault(
