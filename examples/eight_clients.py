@@ -26,6 +26,8 @@ CLIENTS = "abcdefgh"
 # The one that only reads, and not in the right way unless all do.
 READER = CLIENTS[-1]
 ENDING = [signal.SIGINT, signal.SIGTERM, signal.SIGHUP]
+# So many seconds at most are waited for a program that may hang, since a machine may be busy.
+LONG = 300
 
 
 class Servers:
@@ -33,11 +35,34 @@ class Servers:
 
     def __init__(self, folder):
         self.folder, self.started = folder, {}
+        self.is_ended = self.is_waiting = False
 
     def __enter__(self):
         for it in ENDING:
-            signal.signal(it, lambda *_: sys.exit(1))
+            signal.signal(it, self.end)
         return self
+
+    def end(self, *_):
+        """Notes an ending signal, which ends the script at once where that waits."""
+        self.is_ended = True
+        if self.is_waiting:
+            sys.exit(1)
+
+    @contextlib.contextmanager
+    def waiting(self):
+        """Around all that takes long. A signal ends the script here and nowhere else, so that none
+        comes between the start of a program and the note of it, or while all are stopped."""
+        self.is_waiting = True
+        try:
+            if self.is_ended:
+                sys.exit(1)
+            yield
+        finally:
+            self.is_waiting = False
+
+    def sleep(self, seconds):
+        with self.waiting():
+            time.sleep(seconds)
 
     def write(self, path, text):
         os.makedirs(os.path.dirname(path), exist_ok=True)
@@ -56,30 +81,33 @@ class Servers:
 
     def run(self, name, *words, user=None):
         """Runs a program to its end."""
-        if self.start(name, *words, user=user).wait():
+        server = self.start(name, *words, user=user)
+        with self.waiting():
+            server.wait()
+        if server.returncode:
             self.tell(name)
         del self.started[name]
 
     def pause(self, name, after, seconds):
         """Lets one run for a while, and then stops it for so long."""
         server, _ = self.started[name]
-        time.sleep(after)
+        self.sleep(after)
         server.send_signal(signal.SIGSTOP)
-        time.sleep(seconds)
+        self.sleep(seconds)
         server.send_signal(signal.SIGCONT)
 
     def until(self, holds, what):
         """Waits until this holds, and gives what it gave."""
-        late = time.monotonic() + 60
+        late = time.monotonic() + LONG
         while time.monotonic() < late:
-            with contextlib.suppress(OSError, ValueError, LookupError, TypeError):
+            with self.waiting(), contextlib.suppress(OSError, ValueError, LookupError, TypeError):
                 given = holds()
                 if given:
                     return given
             for name, (server, _) in self.started.items():
                 if server.poll() is not None:
                     self.tell(name)
-            time.sleep(0.05)
+            self.sleep(0.05)
         sys.exit(f"it took too long until {what}")
 
     def tell(self, name):
@@ -88,18 +116,16 @@ class Servers:
             sys.exit(f"{name} failed:\n{''.join(out.readlines()[-5:])}")
 
     def __exit__(self, *_):
-        signal.pthread_sigmask(signal.SIG_BLOCK, ENDING)
         for server, ended_by in self.started.values():
             if server.poll() is None:
                 os.killpg(server.pid, signal.SIGCONT)
                 os.killpg(server.pid, ended_by)
         for server, _ in self.started.values():
             try:
-                server.wait(5)
+                server.wait(LONG)
             except subprocess.TimeoutExpired:
                 os.killpg(server.pid, signal.SIGKILL)
                 server.wait()
-        signal.pthread_sigmask(signal.SIG_UNBLOCK, ENDING)
 
 
 def needed(package, *files):
@@ -124,11 +150,12 @@ def free_ports(count):
 class Watch:
     """An audit that follows the calls while the clients run."""
 
-    def __init__(self, folder):
+    def __init__(self, servers):
         # Where it is not built yet, this builds it.
-        subprocess.run([AUDIT, "--help"], stdout=subprocess.DEVNULL, check=True)
+        with servers.waiting():
+            subprocess.run([AUDIT, "--help"], stdout=subprocess.DEVNULL, check=True)
         reader, self.calls = os.pipe()
-        self.said = f"{folder}/told"
+        self.said = f"{servers.folder}/told"
         with open(self.said, "w") as out:
             words = [AUDIT, "--follow", str(round(SECONDS * 1_000_000 / 8)), "--json"]
             self.started = subprocess.Popen(words, stdin=reader, stdout=out,
@@ -142,7 +169,7 @@ class Watch:
 
     def end(self):
         os.close(self.calls)
-        self.started.wait(20)
+        self.started.wait(LONG)
 
 
 def run_client(client, name, log, calls, end):
@@ -166,12 +193,12 @@ def run_client(client, name, log, calls, end):
             os.write(calls, line.encode())
 
 
-def run_clients(system, folder):
+def run_clients(system, servers):
     """Runs them side by side, each a process of its own, and gives the log of all, how many faults
     the watch had told when they ended, and all that it told."""
-    logs = [f"{folder}/{name}.jsonl" for name in CLIENTS]
+    logs = [f"{servers.folder}/{name}.jsonl" for name in CLIENTS]
     clients = [system.client(name, ALL_RIGHT or name != READER) for name in CLIENTS]
-    watch = Watch(folder)
+    watch = Watch(servers)
     end = time.monotonic() + SECONDS
     run = multiprocessing.get_context("fork").Process
     given = zip(clients, CLIENTS, logs, [watch.calls] * len(CLIENTS))
@@ -180,10 +207,11 @@ def run_clients(system, folder):
         for it in running:
             it.start()
         system.meanwhile(end)
-        time.sleep(max(0, end - time.monotonic()))
+        servers.sleep(max(0, end - time.monotonic()))
         soon = len(watch.told())
-        for it in running:
-            it.join()
+        with servers.waiting():
+            for it in running:
+                it.join()
     finally:
         for it in running:
             if it.pid:
@@ -191,7 +219,7 @@ def run_clients(system, folder):
         watch.end()
     if any(it.exitcode for it in running):
         sys.exit("a client failed")
-    with open(f"{folder}/log.jsonl", "w") as out:
+    with open(f"{servers.folder}/log.jsonl", "w") as out:
         for it in logs:
             with open(it) as log:
                 shutil.copyfileobj(log, out)
@@ -223,14 +251,18 @@ def is_as_said(log, soon, told):
     by, of = stale.pop(READER, 0), reads.pop(READER, 0)
     others = f"{sum(stale.values())} of {sum(reads.values())} by the others"
     print(f"stale reads: {by} of {of} by client {READER}, {others}")
-    compared = 0 < of and 0 < sum(reads.values()) < len(lines) - of
     watched = [it for it in told if "fault" in it and "at" in it]
     print(f"told while they ran: {soon} of {len(watched)}")
     early = sum(it["total"]["early"] for it in told if "total" in it)
     places, all = ({place_of(it) for it in its} for its in (watched, faults))
     # What comes later than the watch was told may not be judged.
-    is_watched = places <= all and (early or places == all) and (soon > 0 or by < 10)
-    return compared and is_watched and len(faults) == by and (by == 0) == ALL_RIGHT
+    is_watched = places <= all and (early or places == all)
+    is_right = is_watched and len(faults) == by and not (by and ALL_RIGHT)
+    compared = 0 < of and 0 < sum(reads.values()) < len(lines) - of
+    is_enough = compared and (by or ALL_RIGHT) and (soon or by < 10)
+    if is_right and not is_enough:
+        print("too little came in time: the machine may be busy, or SECONDS few", file=sys.stderr)
+    return is_right and is_enough
 
 
 def main(start, about):
@@ -249,8 +281,9 @@ def main(start, about):
             system = start(servers)
             way = system.RIGHT if ALL_RIGHT else system.WRONG
             print(f"{folder}: eight clients run for {SECONDS:g} s; {way}", flush=True)
-            run = run_clients(system, folder)
-        sys.exit(0 if is_as_said(*run) else 1)
+            run = run_clients(system, servers)
+        with servers.waiting():
+            sys.exit(0 if is_as_said(*run) else 1)
     finally:
         if not kept:
             shutil.rmtree(folder, ignore_errors=True)

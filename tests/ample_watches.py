@@ -144,7 +144,7 @@ def of_refused_lines(_program):
     """So do watches of logs of which as many lines as one likes are refused."""
     for name, number, words, log, said in rows(WARNED):
         wanted = ends(said, refused_at(range(2, number + 2)))
-        yield name, fault_of(run([PROGRAM, *words], log.encode(), 60), wanted)
+        yield name, fault_of(run([PROGRAM, *words], log.encode()), wanted)
 
 
 # ---- lines that come early, and lines that are kept
@@ -221,8 +221,8 @@ def of_kept_lines(_program):
         with tempfile.TemporaryDirectory() as folder:
             words = [PROGRAM, *words, "--keep", f"{folder}/kept"]
             refused = refused_at(range(2, count + 1)) if "{}" in log else b""
-            fault = fault_of(run(words, log.encode(), 60), ends(first, refused))
+            fault = fault_of(run(words, log.encode()), ends(first, refused))
             found = lines_kept(f"{folder}/kept")
             fault = fault or (None if found == count else f"it stands for {found} lines")
             yield f"{name}, at first", fault
-            yield f"{name}, later", fault_of(run(words, late.encode(), 60), ends(then))
+            yield f"{name}, later", fault_of(run(words, late.encode()), ends(then))

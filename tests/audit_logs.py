@@ -365,6 +365,6 @@ def large(_program):
 
 def timed(words, given, wanted):
     """What is wrong with a run, also where it takes too long."""
-    ran, spent = processor_time(lambda: run(words, given, 10 * LARGE_SECONDS))
+    ran, spent = processor_time(lambda: run(words, given), LARGE_SECONDS)
     fault = f"it took {spent:.1f} s" if spent > LARGE_SECONDS else None
     return fault_of(ran, wanted) or fault

@@ -97,9 +97,10 @@ def log_of(names):
     return "".join(lines).encode()
 
 
-def looked_up(names):
+def looked_up(names, most=0):
     """How an audit of a log with these names ends, and what processor time it takes."""
-    return processor_time(lambda: run([PROGRAM], log_of(names), 300))
+    given = log_of(names)
+    return processor_time(lambda: run([PROGRAM], given), most)
 
 
 def slow(_program):
@@ -107,8 +108,8 @@ def slow(_program):
     dice = random.Random("names")
     wanted, usual = looked_up(["".join(dice.choices(LETTERS, k=32)) for _ in range(NAMES)])
     yield "random names", None if wanted.status == OK else f"it ends with {wanted.status}"
+    most = MOST_TIMES * max(usual, FEW_SECONDS)
     for name, names in attacks():
-        ran, spent = looked_up(names)
-        most = MOST_TIMES * max(usual, FEW_SECONDS)
+        ran, spent = looked_up(names, most)
         fault = f"{spent:.2f} s, beside {usual:.2f} s of random ones" if spent > most else None
         yield f"names {name}", fault_of(ran, wanted) or fault

@@ -107,7 +107,7 @@ def progress(_program):
         if tells:
             err += told_of(len(given), count, "; judging")
         wanted = read_lines(count)._replace(err=err.encode())
-        yield name, fault_of(run([PROGRAM, "--progress"], given, 60), wanted)
+        yield name, fault_of(run([PROGRAM, "--progress"], given), wanted)
     told = told_of(TOLD, 64) + told_of(TOLD, 64, "; judging")
     for name, words, given, err in (
         ("on a terminal", [], MUCH, told),
@@ -121,7 +121,7 @@ def progress(_program):
 def difference_on_terminal(words, given, wanted):
     """Says what the program writes to a standard error that is a terminal, if it is not this."""
     terminal, behind = os.openpty()
-    run([PROGRAM, *words], given, 60, stderr=behind)
+    run([PROGRAM, *words], given, stderr=behind)
     os.close(behind)
     said = b""
     try:

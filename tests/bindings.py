@@ -13,7 +13,7 @@ import types
 
 import header
 import model
-from harness import ROOT, Ran, done, fault_of, files_below, run, text_of
+from harness import MANY_SECONDS, ROOT, Ran, done, fault_of, files_below, run, text_of
 
 OUT = f"{ROOT}/crates/fdb_c/out"
 SHARED, STATIC, OF_C = (
@@ -28,7 +28,6 @@ STRICT = ["-std=c11", "-O1", "-g", "-Wall", "-Wextra", "-Wpedantic", "-Werror"]
 SANITIZED = ["-fsanitize=address,undefined", "-fno-sanitize-recover=all"]
 WRAPPED = ["-Wl,--wrap=malloc,--wrap=realloc"]
 COMPILERS = ["gcc", "clang"]
-SECONDS = 300
 
 FIRST_OF_C = b"version 200 after 100\n7 is early: 2 is next\n"
 AUDIT_OF_C = b"call 1 is stale: 200 was known, as call 0 had ended\n"
@@ -74,7 +73,7 @@ late: Some(Late { line: 0, by: 1 }) }
 def compiled(compiler, source, to, flags=()):
     """How a program of C is built over the library."""
     words = [compiler, *STRICT, *flags, f"-I{ROOT}/include", f"{ROOT}/{source}", STATIC, OF_C]
-    return run([*words, "-o", to], seconds=SECONDS)
+    return run([*words, "-o", to], seconds=MANY_SECONDS)
 
 
 def fault_of_program(compiler, source, flags, wanted):
@@ -82,7 +81,7 @@ def fault_of_program(compiler, source, flags, wanted):
         built = compiled(compiler, source, f"{room}/program", flags)
         if built.status:
             return f"it does not compile: {built.err[-300:].decode(errors='replace')}"
-        return fault_of(run([f"{room}/program"], seconds=SECONDS), done(wanted))
+        return fault_of(run([f"{room}/program"], seconds=MANY_SECONDS), done(wanted))
 
 
 def of_c(_program):
@@ -140,7 +139,7 @@ def package():
 
 def python(words, given=b""):
     env = {**os.environ, "PYTHONPATH": PACKAGE}
-    return run([sys.executable, *words], given, SECONDS, env=env)
+    return run([sys.executable, *words], given, MANY_SECONDS, env=env)
 
 
 def of_python(_program):
@@ -181,7 +180,7 @@ def fault_of_types():
     """What mypy says of the package."""
     with tempfile.TemporaryDirectory() as room:
         words = ["mypy", "--strict", "--cache-dir", room, PACKAGE, f"{PACKAGE}/../build_wheel.py"]
-        ran = run(words, seconds=SECONDS)
+        ran = run(words, seconds=MANY_SECONDS)
     return None if ran.status == 0 else ran.out[-1000:].decode(errors="replace")
 
 
@@ -195,7 +194,7 @@ def fault_of_installed():
             return f"the sdist: {ran}"
         how = ["--quiet", "--no-index", "--no-build-isolation", "--no-compile", "--target"]
         words = ["pip", "install", *how, f"{room}/site", f"{room}/fdb_read_version-0.3.0.tar.gz"]
-        ran = run(words, seconds=SECONDS, env=env)
+        ran = run(words, seconds=MANY_SECONDS, env=env)
         if ran.status:
             return ran.err[-1000:].decode(errors="replace")
         env = {**os.environ, "PYTHONPATH": f"{room}/site", "FDB_READ_VERSION_LIB": ""}
@@ -326,4 +325,4 @@ def of_rust(_program):
 
 def cargo(words, env):
     words = ["cargo", *words, "--offline"]
-    return run(words, seconds=SECONDS, cwd=CRATE, env=env, stdin=subprocess.DEVNULL)
+    return run(words, seconds=MANY_SECONDS, cwd=CRATE, env=env, stdin=subprocess.DEVNULL)

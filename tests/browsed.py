@@ -7,7 +7,7 @@ import resource
 import shutil
 import tempfile
 
-from harness import DONE, ROOT, run
+from harness import DONE, ROOT, TRIES, run
 from picture import (
     HAND, TOOLS, differing, drawn, drawings, lines_text, logged, logs, other_line, page_of, texts,
 )
@@ -16,7 +16,6 @@ NODE = shutil.which("node")
 BROWSERS = ("chromium", "chromium-browser", "google-chrome", "chrome")
 BROWSER = next(filter(None, map(shutil.which, BROWSERS)), None)
 BROWSER_WORDS = ["--headless", "--no-sandbox", "--disable-gpu"]
-TRIES = 3
 # What the largest log may take: of processor time some ten times what it does, since machines
 # differ; what its page may do until it is drawn; and how many shapes a view of it has.
 CALLS, SECONDS, BYTES, OPENS, SHAPES = 100_000, 20, 25_000_000, 6, 5_000
@@ -36,7 +35,7 @@ def scenes_of(drawing, calls):
     """What calls of the page's code answer, and how long they take."""
     given = [json.dumps(columns_of(drawing)), calls]
     words = [NODE, f"{ROOT}/tests/scenes.js", f"{TOOLS}/picture_scene.js"]
-    ran = run(words, json.dumps(given).encode(), 300)
+    ran = run(words, json.dumps(given).encode())
     if ran.status != DONE:
         raise ValueError(f"node ended with {ran.status}: {ran.err[-300:]!r}")
     return json.loads(ran.out)
@@ -385,17 +384,21 @@ answer([[], [...found, lanes() === 200, folded === "1 other client: show"]]);
 def answered(page, behind, words=()):
     """What a script behind a page answers, or what the browser said in place of that."""
     page = page.replace("<body>", AT_ONCE).replace("</body>", f"{behind}</body>")
-    with tempfile.TemporaryDirectory() as folder:
+    folder = tempfile.mkdtemp()
+    try:
         with open(f"{folder}/page.html", "w", encoding="utf-8") as it:
             it.write(page)
-        words = [*words, f"--user-data-dir={folder}/own", "--window-size=500,800", "--dump-dom"]
-        # A browser on a busy machine may give up.
-        for _ in range(TRIES):
-            ran = run([BROWSER, *BROWSER_WORDS, *words, f"file://{folder}/page.html"], b"", 120)
+        words = [*BROWSER_WORDS, *words, "--window-size=500,800", "--dump-dom", it.name]
+        # A browser on a busy machine may give up, and leave its own folder locked.
+        for at in range(TRIES):
+            ran = run([BROWSER, f"--user-data-dir={folder}/{at}", *words])
             answer = re.search(r'<pre id="driven">(.*)</pre>', ran.out.decode())
             if answer:
                 return json.loads(html.unescape(answer[1])), None
-    return ([], []), f"it did not end: {ran.err[-300:]!r}"
+        return ([], []), f"it did not end: {ran.err[-300:]!r}"
+    finally:
+        # (what it started may still write there)
+        shutil.rmtree(folder, ignore_errors=True)
 
 
 def browsed(_program):

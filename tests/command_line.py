@@ -6,8 +6,8 @@ from typing import Callable, NamedTuple
 
 import audit_logs
 from answers import MOST_COMMANDS
-from harness import NO_STREAM, OTHER_ARGUMENTS, REFUSED, ROOT, Ran, done, fault_of, first_script
-from harness import read, refused, run, script, under, written
+from harness import NO_MEMORY, NO_STREAM, OTHER_ARGUMENTS, REFUSED, ROOT, SECONDS, Ran, done
+from harness import fault_of, first_script, read, refused, run, script, under, written
 from model import expected
 
 HELP = read(f"{ROOT}/tests/help.txt")
@@ -47,6 +47,9 @@ class Program(NamedTuple):
 
     def writing_failed(self):
         return self.ended(NO_STREAM, "writing failed")
+
+    def starved(self):
+        return self.ended(NO_MEMORY, "want of memory")
 
     def words_refused(self):
         return self.ended(OTHER_ARGUMENTS, "words refused")
@@ -146,7 +149,8 @@ def nameless(it):
     with tempfile.TemporaryFile() as given:
         given.write(it.given)
         given.seek(0)
-        ran = subprocess.run([], executable=it.path, stdin=given, capture_output=True, timeout=20)
+        ran = subprocess.run([], executable=it.path, stdin=given, capture_output=True,
+                             timeout=SECONDS)
         return Ran(ran.returncode, ran.stdout, ran.stderr)
 
 
@@ -267,5 +271,5 @@ def in_pieces(it, given, size):
                 started.stdin.write(given[at : at + size])
         except BrokenPipeError:
             pass
-        out, err = started.communicate(timeout=20)
+        out, err = started.communicate(timeout=SECONDS)
     return Ran(started.returncode, out, err)

@@ -6,51 +6,96 @@ import signal
 import subprocess
 import sys
 import tempfile
+import time
 
 from audit_logs import PROGRAM
-from harness import EXAMPLES, read, run
+from harness import EXAMPLES, MANY_SECONDS, read, run
 
 DATABASES = ["etcd", "zookeeper", "postgresql"]
-# How an example ends where its README.md is right, and where its servers are not installed.
-AS_SAID, NOT_HERE = 0, 2
-# How long the clients run, and how long a run may take with the start of the servers.
-CLIENTS_RUN, MOST = "1.5", 60
+# How an example ends where its README.md is right, or is not, or its servers are not installed.
+AS_SAID, OTHERWISE, NOT_HERE = 0, 1, 2
+# What it says where nothing is wrong, but too little came of it.
+TOO_LITTLE = b"too little came in time"
+# How long the clients run at each try: a busy machine may need a second or a third one.
+TRIES = ("1.5", "5", "15")
+# So many seconds at most an ended program is there.
+ENDS = 10
+# Two programs, a call behind which a signal comes each time, and how they are started.
+SIGNALLED = """
+import os, subprocess, sys
+examples, folder, number, call, start = sys.argv[1:]
+sys.path.insert(0, examples)
+import eight_clients
+
+def signalled(called):
+    def both(*words, **how):
+        given = called(*words, **how)
+        os.kill(os.getpid(), int(number))
+        return given
+    return both
+
+module = {"Popen": subprocess, "killpg": os}[call]
+setattr(module, call, signalled(getattr(module, call)))
+with eight_clients.Servers(folder) as servers:
+    for it in "ab":
+        getattr(servers, start)(it, "timeout", "60", "tail", "-f", f"{folder}/{it}.out")
+    servers.until(lambda: call == "killpg", "a signal comes")
+servers.sleep(0)
+"""
 
 
 def words_of(database):
     return [sys.executable, "-B", f"{EXAMPLES}/{database}/run"]
 
 
-def settings(right):
-    return {**os.environ, "FDB_AUDIT": PROGRAM, "SECONDS": CLIENTS_RUN, "RIGHT": right}
+def settings(right, seconds):
+    return {**os.environ, "FDB_AUDIT": PROGRAM, "SECONDS": seconds, "RIGHT": right}
 
 
 def ran(database, right):
-    """How an example ended. A busy machine may need a second try, but not for a verdict."""
-    for _ in range(2):
-        it = run(words_of(database), seconds=MOST, env=settings(right))
-        if it.status in (AS_SAID, NOT_HERE) or b"stale reads: " in it.out:
+    """How an example ended. A busy machine may need further tries, but not for a verdict."""
+    for seconds in TRIES:
+        it = run(words_of(database), seconds=MANY_SECONDS, env=settings(right, seconds))
+        is_judged = b"stale reads: " in it.out and TOO_LITTLE not in it.err
+        if it.status in (AS_SAID, NOT_HERE) or is_judged:
             break
     return it
 
 
-def left_by(database):
-    """The commands that still run in an example's folder after a signal ended it midway."""
-    with tempfile.TemporaryDirectory() as top:
-        # (PostgreSQL's user has to come through)
-        os.chmod(top, 0o755)
-        words, folder = words_of(database), f"{top}/folder"
-        how = {"stdout": subprocess.PIPE, "stderr": subprocess.PIPE, "env": settings("")}
-        with subprocess.Popen([*words, folder], **how) as it:
-            it.stdout.readline()
-            it.send_signal(signal.SIGTERM)
-            it.communicate(timeout=MOST)
+def left_in(folder):
+    """The commands that still run in a folder, once none does or they have had time to end."""
+    late, left = time.monotonic() + ENDS, [""]
+    while left and time.monotonic() < late:
+        time.sleep(0.05)
         left = []
         for file in glob.glob("/proc/[0-9]*/cmdline"):
             with contextlib.suppress(OSError):
                 command = read(file)
                 left += [command] * (folder.encode() in command)
     return left
+
+
+def ended_midway(database, seconds):
+    """What an example said that a signal ended midway, and the commands that it left."""
+    with tempfile.TemporaryDirectory() as top:
+        # (PostgreSQL's user has to come through)
+        os.chmod(top, 0o755)
+        words, folder = words_of(database), f"{top}/folder"
+        how = {"stdout": subprocess.PIPE, "stderr": subprocess.PIPE, "env": settings("", seconds)}
+        with subprocess.Popen([*words, folder], **how) as it:
+            begun = it.stdout.readline()
+            it.send_signal(signal.SIGTERM)
+            _, err = it.communicate(timeout=MANY_SECONDS)
+        return begun, err, left_in(folder)
+
+
+def fault_midway(database):
+    """What is wrong with an example that a signal ended midway, or None."""
+    for seconds in TRIES:
+        begun, err, left = ended_midway(database, seconds)
+        if left or begun:
+            return f"it left {left}" if left else None
+    return f"it did not begin: {err[-300:]!r}"
 
 
 def audited(_program):
@@ -65,5 +110,22 @@ def audited(_program):
             fault = f"status {it.status}; it said {it.out[-300:]!r} {it.err[-300:]!r}"
             yield f"{database} with RIGHT={right}", None if it.status == AS_SAID else fault
         else:
-            left = left_by(database)
-            yield f"{database}, ended midway", f"it left {left}" if left else None
+            yield f"{database}, ended midway", fault_midway(database)
+
+
+def signalled(_program):
+    """A signal between a program's start and the note of it, or while all stop, leaves none.
+
+    What ends the programs of a script that was killed does nothing here, so that one would stay.
+    """
+    for number in (signal.SIGINT, signal.SIGTERM, signal.SIGHUP):
+        for call, start in (("Popen", "start"), ("Popen", "run"), ("killpg", "start")):
+            with tempfile.TemporaryDirectory() as folder:
+                with open(f"{folder}/setpriv", "w", encoding="ascii") as file:
+                    file.write('#!/bin/sh\nshift 2\nexec "$@"\n')
+                os.chmod(file.name, 0o755)
+                words = [sys.executable, "-B", "-c", SIGNALLED, EXAMPLES, folder, str(int(number))]
+                env = {**os.environ, "PATH": f"{folder}:{os.environ['PATH']}"}
+                it, left = run([*words, call, start], env=env), left_in(folder)
+            is_so = it.status == OTHERWISE and not left
+            yield f"{number.name} behind {call}, {start}", None if is_so else f"{it}; left: {left}"

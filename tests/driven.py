@@ -5,6 +5,7 @@ arguments, or end early at a bound of what is read at once. Each test names what
 and how far they go.
 """
 import contextlib
+import errno
 import fcntl
 import os
 import resource
@@ -64,7 +65,7 @@ def long(it):
 def with_short(it, preloaded, words, given, **how):
     """Runs a program whose reads and writes are short."""
     env = {"LD_PRELOAD": preloaded, **{f"SHORT{name}": str(it) for name, it in how.items()}}
-    return run([it.path, *words], given, 60, env=env)
+    return run([it.path, *words], given, env=env)
 
 
 def short(it):
@@ -92,6 +93,25 @@ def short(it):
                 wanted = it.writing_failed()._replace(out=ends.out[:64 * (number - 1)])
                 fails = ("fails", "takes nothing")[takes]
                 yield f"write {number} {fails}", fault_of(ran, wanted)
+
+
+def failing(it):
+    """A read or a write is not tried again after any error of the system, but an interruption.
+
+    The second of several reads or writes fails, and those behind it would not.
+    """
+    given = it.given + b" " * 640 if it.name == "fdb_replay" else it.given
+    ends = it.ends(it.given, [])
+    with tempfile.TemporaryDirectory() as folder:
+        preloaded = built(folder, SOURCE)
+        for why in sorted(set(errno.errorcode) - {errno.EINTR}):
+            how, named = {"": 64, "_WHY": why}, errno.errorcode[why]
+            wanted = it.starved() if why == errno.ENOMEM else it.reading_failed()
+            ran = with_short(it, preloaded, [], given, **how, _READ=2)
+            yield f"a read fails by {named}", fault_of(ran, wanted)
+            wanted = it.writing_failed()._replace(out=ends.out[:64])
+            ran = with_short(it, preloaded, [], given, **how, _WRITE=2)
+            yield f"a write fails by {named}", fault_of(ran, wanted)
 
 
 # ---- pipes and files
@@ -133,7 +153,7 @@ def slow_reader(it):
             found.extend(byte)
 
     with pipe_to(take, PAGE) as writer:
-        ran = run([it.path, *words], given, 60, stdout=writer)
+        ran = run([it.path, *words], given, stdout=writer)
     yield f"{len(ends.out)} bytes", fault_of(ran._replace(out=bytes(found)), ends)
 
 
@@ -145,7 +165,7 @@ def limited(it):
         for most in (0, 1, PAGE, PIECE - 1, PIECE, PIECE + 1, size // 2, size - 1, size, size + 1):
             limit = lambda: resource.setrlimit(resource.RLIMIT_FSIZE, (most, most))
             with open(f"{folder}/out", "wb+") as out:
-                ran = run([it.path, *words], given, 60, stdout=out, preexec_fn=limit,
+                ran = run([it.path, *words], given, stdout=out, preexec_fn=limit,
                           restore_signals=False)
                 out.seek(0)
                 ran = ran._replace(out=out.read())

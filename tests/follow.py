@@ -16,7 +16,7 @@ from audit_search import random_lines, text_of
 from audit_streams import MUCH, told_of
 from command_line import LINE, TEXTS, WHOLE, audit
 from follow_model import WATCHED, Followed, judged_as, why_wrong
-from harness import NO_STREAM, ROOT, Ran, fault_of, run, spent
+from harness import NO_STREAM, ROOT, SECONDS, Ran, fault_of, run, spent
 from reader import HIGHEST
 from shapes import repeated, text_of_lines, timed
 
@@ -25,8 +25,10 @@ WORKED = f"{ROOT}/tests/follow_worked.txt"
 RANDOM, SEEDS = 600, 2
 # How many are stopped and started again, and how many are killed.
 STOPPED, KILLED = 400, 40
-# Seconds between two pieces, and how soon a fault is told.
-PAUSE, SOON = 0.0015, 1
+# Seconds between two pieces, how soon a fault is told, and after how many none is told any more.
+PAUSE, SOON, NEVER = 0.0015, 1, 100
+# How many faults are timed.
+TIMED = 9
 # The lines of a large log, and the most memory that it may take, in KiB.
 LARGE, MOST_MEMORY = 1_000_000, 30_000_000 // 1024
 # What is asked for besides, in turn.
@@ -196,6 +198,7 @@ class Growing:
     def listen(self):
         for line in self.started.stdout or ():
             self.said.put(line)
+        self.said.put(b"")
 
     def write(self, *lines):
         text = text_of_lines(lines).encode()
@@ -203,9 +206,9 @@ class Growing:
         self.started.stdin.write(text)
 
     def told(self):
-        """The next line that it tells, or nothing where none comes in time."""
+        """The next line that it tells, or nothing where none comes in time, or any more."""
         try:
-            line = self.said.get(timeout=20)
+            line = self.said.get(timeout=NEVER)
         except queue.Empty:
             line = b""
         self.out += line
@@ -214,10 +217,10 @@ class Growing:
     def end(self):
         """How it ends once the log ends, or where it ends by itself, and all that it told."""
         try:
-            self.started.wait(20)
+            self.started.wait(SECONDS)
         except subprocess.TimeoutExpired:
             self.started.kill()
-        self.listener.join(20)
+        self.listener.join()
         self.out += b"".join(self.said.get() for _ in range(self.said.qsize()))
         return Ran(self.started.wait(), self.out, self.started.stderr.read())
 
@@ -234,7 +237,7 @@ def told_soon(_program):
     words, waits = ["--follow", "5", "--json"], []
     with Growing(*words) as growing:
         growing.write(timed("commit", 9, 0, 1, "a"))
-        for at in range(5):
+        for at in range(TIMED):
             # It ends more than 5 after it began, so nothing that comes began before.
             growing.write(timed("read", at, 10 * at + 10, 10 * at + 16, "b"))
             begun = time.monotonic()
@@ -243,8 +246,9 @@ def told_soon(_program):
             waits.append(time.monotonic() - begun)
         growing.started.stdin.close()
         yield "what is told", why_wrong(growing.given, words, growing.end())
-    # (a busy machine may hold up one of them)
-    yield "each within a second", None if sorted(waits)[2] < SOON else f"they took {waits}"
+    # A busy machine holds up some. What tells by a clock, or by what comes next, holds up each; the
+    # first may meet the clock.
+    yield "one within a second", None if min(waits[1:]) < SOON else f"they took {waits}"
 
 
 def too_early(_program):

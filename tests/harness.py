@@ -1,6 +1,7 @@
 """Runs the program, says what was wrong with a run, and writes scripts."""
 import contextlib
 import json
+import math
 import os
 import resource
 import subprocess
@@ -10,7 +11,10 @@ from typing import NamedTuple
 
 ROOT = os.path.dirname(os.path.dirname(os.path.realpath(__file__)))
 EXAMPLES = f"{ROOT}/examples"
-SECONDS = 20
+# The seconds after which a run hangs, and one of many parts, on a machine that is busy besides.
+SECONDS, MANY_SECONDS = 300, 3_000
+# How often is tried at most what a busy machine may hold up.
+TRIES = 3
 # What a pipe takes in one piece.
 PIPE_PAGE = 4_096
 NOT_ENDED = -1000
@@ -72,11 +76,19 @@ def run(words, given=b"", seconds=SECONDS, **how):
     return Ran(ran.returncode, ran.stdout or b"", ran.stderr or b"")
 
 
-def processor_time(call):
-    """What a call gives, and the seconds of processor time that commands take in it."""
-    before = resource.getrusage(resource.RUSAGE_CHILDREN)
-    given, after = call(), resource.getrusage(resource.RUSAGE_CHILDREN)
-    return given, after.ru_utime + after.ru_stime - before.ru_utime - before.ru_stime
+def processor_time(call, most=0):
+    """What a call gives, and the seconds of processor time that commands take in it.
+
+    They are the least of a few calls, or of those up to one that takes at most so many, since on a
+    busy machine the same takes more. What the first gives counts.
+    """
+    given, seconds = [], []
+    while len(given) < TRIES and min(seconds, default=math.inf) > most:
+        before = resource.getrusage(resource.RUSAGE_CHILDREN)
+        given.append(call())
+        after = resource.getrusage(resource.RUSAGE_CHILDREN)
+        seconds.append(after.ru_utime + after.ru_stime - before.ru_utime - before.ru_stime)
+    return given[0], min(seconds)
 
 
 # Runs a program within limits, and tells what it took: a small process of its own, since a
@@ -128,7 +140,7 @@ def apart(words, pieces, **how):
     giver = threading.Thread(target=give)
     giver.start()
     try:
-        return run(words, seconds=60, stdin=reader, **how)
+        return run(words, stdin=reader, **how)
     finally:
         os.close(reader)
         giver.join()

@@ -1,4 +1,5 @@
 """The launchers, in a folder of its own with a stand-in for rt and for the programs."""
+import contextlib
 import os
 import pty
 import re
@@ -6,7 +7,7 @@ import shutil
 import subprocess
 import tempfile
 
-from harness import ROOT, Ran, fault_of, processor_time, read, run
+from harness import ROOT, SECONDS, Ran, fault_of, processor_time, read, run
 
 TOOLS = "bash sh cat cp mv mkdir mktemp rm sleep timeout find date readlink flock touch sed".split()
 NOT_BUILT = 70
@@ -26,6 +27,14 @@ bench: low
 # Locks the crate's folder, as rt does, and makes the program in its crate. It fails in the crate
 # that the file `fails` names.
 RT = """#!/bin/sh
+# Waits until a command succeeds, for a hundred seconds or so.
+wait_until() {
+    tries=0
+    until "$@" || [ "$tries" -ge 1000 ]; do sleep 0.1; tries=$((tries + 1)); done
+}
+# On a terminal it goes on as that is shown what it said.
+is_shown() { [ -z "$ON_TERMINAL" ] || [ -e "$ROOM/shown$1" ]; }
+are_aside() { [ "$(cat "$ROOM/aside")" = "$(printf 'low lib\nkept lib\nother lib')" ]; }
 exec 9< .
 flock 9
 name=${PWD##*/}
@@ -39,19 +48,13 @@ if [ -e "$ROOM/fails" ] && [ "$(cat "$ROOM/fails")" = "$name" ]; then exit 1; fi
 case "$name $1" in
 "low lib")
     echo "so far: 0 of 75 functions checked; the verdict comes last" >&2
-    sleep ${SLOW-0}
+    wait_until is_shown 0
     printf "so far: 54 of 75 func"
-    sleep ${SLOW-0}
+    wait_until is_shown 1
     echo "tions checked"
-    sleep ${SLOW-0}
+    wait_until is_shown 2
     ;;
-"fdb_audit lib")
-    # (for ten seconds at most)
-    for _ in 0 1 2 3 4 5 6 7 8 9; do
-        if [ "$(cat "$ROOM/aside")" = "$(printf 'low lib\nkept lib\nother lib')" ]; then break; fi
-        sleep 1
-    done
-    ;;
+"fdb_audit lib") wait_until are_aside ;;
 *"_cli run")
     echo "rt: running out/$name" >&2
     sleep 0.2
@@ -86,6 +89,8 @@ SHOWN = [
     rb"54 of 75 functions, \d+ s so far",
     rb"75 functions, \d+ s\r\n",
 ]
+# What is to be seen there, and how often, before rt goes on each time.
+SEEN = ((b"0 of 75", 1), (b"0 of 75", 3), (b"54 of 75", 1))
 RENEWED = (
     b"(?s)"
     + b".*".join(rb"\r\x1b\[Kfdb_replay: \[1/4\] low: " + it for it in SHOWN)
@@ -133,14 +138,28 @@ class Room:
         words = [by or f"{self.top}/{self.name}", *arguments]
         return run(words, given, cwd=self.away, env={**self.env, **env})
 
-    def launch_on_terminal(self, slow):
-        """Launches with a terminal as standard error: how that ended, and what it was written."""
+    def launch_on_terminal(self):
+        """Launches with a terminal as standard error: how that ended, and what it was shown."""
         ours, theirs = pty.openpty()
-        env = {**self.env, "TERM": "xterm", "SLOW": slow}
-        ran = run([f"{self.top}/fdb_replay"], b"", cwd=self.away, env=env, stderr=theirs)
-        os.close(theirs)
-        with os.fdopen(ours, "rb", buffering=0) as it:
-            return ran, read_terminal(it)
+        how = {"cwd": self.away, "env": {**self.env, "TERM": "xterm", "ON_TERMINAL": "1"}}
+        pipes = {"stdin": subprocess.DEVNULL, "stdout": subprocess.PIPE, "stderr": theirs}
+        with subprocess.Popen([f"{self.top}/fdb_replay"], **how, **pipes) as started:
+            os.close(theirs)
+            shown = self.seen_on_terminal(ours)
+            out, _ = started.communicate(timeout=SECONDS)
+        return Ran(started.returncode, out, b""), shown
+
+    def seen_on_terminal(self, ours):
+        """What a terminal is shown; where that is to be, rt is let go on."""
+        text = b""
+        # (it ends with an error in place of no bytes)
+        with os.fdopen(ours, "rb", buffering=0) as it, contextlib.suppress(OSError):
+            while True:
+                text += it.read(65_536)
+                seen = [at for at, (part, times) in enumerate(SEEN) if text.count(part) >= times]
+                for at in seen:
+                    self.write(f"shown{at}", "")
+        return text
 
     def text(self, file):
         """What a file of the room has, or nothing where it is not there."""
@@ -158,16 +177,6 @@ class Room:
     def wanted(self, *arguments, given=b"bytes\n", status=0, err=SAID):
         lines = [self.away, *(f"argument {it}" for it in arguments)]
         return Ran(status, "".join(f"{it}\n" for it in lines).encode() + given, err)
-
-
-def read_terminal(file):
-    """Reads what a terminal was written, which ends with an error in place of no bytes."""
-    text = b""
-    while True:
-        try:
-            text += file.read(65_536)
-        except OSError:
-            return text
 
 
 def differing(found, wanted):
@@ -202,7 +211,7 @@ def in_turn(room):
         ran, given = room.launch(*arguments, **how), how.get("given", b"bytes\n")
         wanted = room.wanted(*arguments, given=given, status=int(how.get("STATUS", 0)))
         yield f"no other build, with {arguments} and {how}", room.fault(ran, wanted, 1)
-    spent = min(processor_time(room.launch)[1] for _ in range(5))
+    _, spent = processor_time(room.launch, QUICK)
     yield "a launch without a build is quick", f"{spent:.3f} s" if spent > QUICK else None
     yield from after_edits(room)
     yield "four at once, nothing built", at_once(room)
@@ -250,7 +259,7 @@ def at_once(room):
     words = [f"{room.top}/fdb_replay"]
     all_of_them = [subprocess.Popen(words, env=room.env, cwd=room.away, **pipes) for _ in range(4)]
     for started in all_of_them:
-        out, _ = started.communicate(timeout=20)
+        out, _ = started.communicate(timeout=SECONDS)
         fault = fault_of(Ran(started.returncode, out, b""), room.wanted(given=b"", err=b""))
         if fault:
             return fault
@@ -279,7 +288,7 @@ def of_the_audit(room):
 
 def told(room):
     """A terminal has a line for each crate, renewed in place; a failure names the log."""
-    ran, shown = room.launch_on_terminal(slow="1.6")
+    ran, shown = room.launch_on_terminal()
     yield "a launch on a terminal", room.fault(ran, room.wanted(given=b"", err=b""), 1)
     yield "what a terminal shows", None if re.search(RENEWED, shown) else repr(shown)
     yield "the crates are proved in turn", differing(

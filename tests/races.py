@@ -1,6 +1,7 @@
 """Scripts whose clients race, with 1 to 16 proxies: each text that is printed is lawful."""
 import json
 import random
+import resource
 
 import drawn
 from answers import MOST_COMMANDS, do
@@ -8,14 +9,14 @@ from harness import run, written
 from judge import Lawful
 
 RANDOM, AGAIN = 400, 25
-# The seconds that a script at its limits may take, on a machine that is busy besides.
+# The seconds of processor time that a script at its limits may take; it is killed behind them.
 LIMIT_SECONDS = 20
 
 
-def judged(program, given, proxies):
+def judged(program, given, proxies, **how):
     """Runs a script with its history, and returns how that is not lawful."""
     return Lawful(given, proxies).fault_of(
-        run([program, "--history", "--proxies", str(proxies)], given, LIMIT_SECONDS)
+        run([program, "--history", "--proxies", str(proxies)], given, **how)
     )
 
 
@@ -154,5 +155,6 @@ def limits():
 
 def at_limits(program):
     """Scripts at their limits end in time, and with a lawful text."""
+    limit = lambda: resource.setrlimit(resource.RLIMIT_CPU, (LIMIT_SECONDS, LIMIT_SECONDS))
     for name, proxies, rounds, top in limits():
-        yield name, judged(program, written(rounds, **top), proxies)
+        yield name, judged(program, written(rounds, **top), proxies, preexec_fn=limit)

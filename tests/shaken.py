@@ -9,7 +9,7 @@ from answers import do
 from harness import ROOT, run, written
 from judge import Lawful
 from memory import built
-from races import LIMIT_SECONDS, WORKED, commit
+from races import WORKED, commit
 
 SOURCE = f"{ROOT}/tests/shake.c"
 RANDOM, AGAIN = 150, 8
@@ -25,7 +25,7 @@ def ran_shaken(program, preloaded, given, proxies, seed, cores=None):
     how = {"env": {"LD_PRELOAD": preloaded, "SHAKE": str(seed)}}
     if cores:
         how["preexec_fn"] = lambda: os.sched_setaffinity(0, cores)
-    return run(words, given, LIMIT_SECONDS, **how)
+    return run(words, given, **how)
 
 
 def one_core():

@@ -130,7 +130,7 @@ def largest():
 def work(program):
     """The largest scripts take a bounded time of the processor, with the starts of threads."""
     for name, given, arguments, ends in largest():
-        ran, spent = processor_time(lambda: run([program, *arguments], given))
+        ran, spent = processor_time(lambda: run([program, *arguments], given), WORK_SECONDS)
         fault = f"it took {spent:.1f} s" if spent > WORK_SECONDS else None
         # (of some the judge says how they end)
         yield name, (fault_of(ran, ends) if ends else Lawful(given, 16).fault_of(ran)) or fault

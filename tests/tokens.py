@@ -9,10 +9,9 @@ import re
 import shutil
 import tempfile
 
-from harness import ROOT, run
+from harness import MANY_SECONDS, ROOT, run
 
 BELOW = ["fdb_history", "fdb_chain", "fdb_live"]
-SECONDS = 300
 
 HEAD = """//! A live record, and tokens that are given to it.
 #![tactic(auto)]
@@ -75,7 +74,7 @@ def types_checked(text):
         os.makedirs(f"{top}/crates/names/src")
         with open(f"{top}/crates/names/src/main.rt", "w", encoding="utf-8") as it:
             it.write(text)
-        ran = run(["rt", "try"], seconds=SECONDS, cwd=f"{top}/crates/names")
+        ran = run(["rt", "try"], seconds=MANY_SECONDS, cwd=f"{top}/crates/names")
     return (ran.out + ran.err).decode(errors="replace")
 
 

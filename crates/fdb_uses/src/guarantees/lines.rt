@@ -6,7 +6,7 @@ ghost use Rattle.fdb_lines.specs.Listing.{faults_of};
 ghost use Rattle.fdb_lines.specs.Log.{lines_of};
 ghost use Rattle.fdb_uses.specs.Stale.{is_stale};
 
-use fdb_lines::{AuditOpts, Fault, Found, Log, faults, first_fault};
+use fdb_lines::{AuditOpts, Fault, Found, Log, findings, first_finding};
 use std::alloc::{AllocError, Global};
 
 /// Whether some history explains a log, which is so exactly where it has no fault.
@@ -14,7 +14,7 @@ pub fn is_explained(alloc: Global, log: &Log, opts: &AuditOpts) -> Result<bool, 
     ensures { IfOk result
         (λ answer. IsTrue answer ↔ AreExplained (case_of (lines_of log.now) opts.now)) }
 {
-    Ok(first_fault(alloc, log, opts)?.is_none())
+    Ok(first_finding(alloc, log, None, opts)?.is_none())
 }
 
 /// How many of its faults are stale reads.
@@ -23,9 +23,9 @@ pub fn stale_reads(alloc: Global, log: &Log, opts: &AuditOpts) -> Result<usize, 
         (λ n. n ≡ count_by is_stale (faults_of (case_of (lines_of log.now) opts.now))) }
 {
     Ok(
-        faults(alloc, log, opts)?
+        findings(alloc, log, None, opts)?
             .iter()
-            .filter(|found| is_stale(found))
+            .filter(|finding| is_stale(&finding.found))
             .count(),
     )
 }
