@@ -157,7 +157,7 @@ def queue_of(normal, batch, room):
 
 
 def filled(queue, count, priority, pushes=False):
-    """Offers so many requests of one transaction, each with its number. Each may push one out."""
+    """Offers so many requests of one transaction, each with its number; it may push one out."""
     it, outcome = raw(), raw().RawOutcome()
     for at in range(count):
         request = it.RawRequest(1, at, priority)
@@ -206,7 +206,7 @@ def windowed(queue, elapsed, priority, payloads, waits):
 
 
 def started(room):
-    """A window starts as many requests of a priority as wait, or 10,000: the rates let them."""
+    """A window starts all requests of a priority that wait, or 10,000: the rates let all start."""
     wrong = None
     for priority in (SYSTEM, DEFAULT, BATCH):
         queue, status = queue_of(MOST_RATE, MOST_RATE, room)

@@ -197,7 +197,8 @@ def faults_of_files(cell):
             rest = word
             if word.startswith("fdb_"):
                 crate, _, rest = word.partition("/")
-            file = f"{FOLDERS[ending].format(crate)}/{rest}" if ending in FOLDERS else word
+            is_placed = ending in FOLDERS and not word.startswith("tools/")
+            file = f"{FOLDERS[ending].format(crate)}/{rest}" if is_placed else word
             faults += [f"there is no {file}"] * (not exists(file))
         elif not exists(file) or not re.search(rf"\b{word}\b", text_of(file)):
             faults.append(f"{file} has no {word}")

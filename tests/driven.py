@@ -100,17 +100,16 @@ def failing(it):
 
     The second of several reads or writes fails, and those behind it would not.
     """
-    given = it.given + b" " * 640 if it.name == "fdb_replay" else it.given
     ends = it.ends(it.given, [])
     with tempfile.TemporaryDirectory() as folder:
         preloaded = built(folder, SOURCE)
         for why in sorted(set(errno.errorcode) - {errno.EINTR}):
             how, named = {"": 64, "_WHY": why}, errno.errorcode[why]
             wanted = it.starved() if why == errno.ENOMEM else it.reading_failed()
-            ran = with_short(it, preloaded, [], given, **how, _READ=2)
+            ran = with_short(it, preloaded, [], it.given, **how, _READ=2)
             yield f"a read fails by {named}", fault_of(ran, wanted)
             wanted = it.writing_failed()._replace(out=ends.out[:64])
-            ran = with_short(it, preloaded, [], given, **how, _WRITE=2)
+            ran = with_short(it, preloaded, [], it.given, **how, _WRITE=2)
             yield f"a write fails by {named}", fault_of(ran, wanted)
 
 

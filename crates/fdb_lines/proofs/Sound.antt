@@ -1,8 +1,8 @@
 -- No fault is invented: where some history explains the lines, none stands.
-use Rattle.std.proofs.Common.{◌≡◌, ◌≢◌, ◌⊎◌, ℕ, zero, suc, ◌<◌, true, false, ◌&&◌, List, length, Option, refl, ap, inl, inr, arith}
+use Rattle.std.proofs.Common.{◌≡◌, ◌≢◌, ◌⊎◌, ℕ, zero, suc, ◌<◌, true, false, ◌&&◌, List, length, refl, ap, inl, inr, arith}
 use Rattle.std.proofs.lemmas.Bool.{and_parts, false_from_ne_true}
 use Rattle.std.proofs.lemmas.Bool.Decides.{nat_tests}
-use Rattle.fdb_lines.specs.Lines.{Read, Report, Case, kind_at, version_at, client_at, draws, shows, may_be_same_client}
+use Rattle.fdb_lines.specs.Lines.{Read, Report, Case, kind_at, version_at, draws, shows}
 use Rattle.fdb_lines.specs.declared.effect.Effect.{Effect}
 use Rattle.fdb_lines.specs.declared.effect.Effect.TheVariants.{Asks, Reports, Reads}
 use Rattle.fdb_lines.specs.Explained.{Happens, ReportedBefore, IsMoment, Explains}

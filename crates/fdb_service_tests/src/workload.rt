@@ -244,7 +244,9 @@ fn ran<R: Threads + Wait + Sync>(
     let Some(config) = config_of(size, &throttles) else {
         return Ok(false);
     };
-    let reads = visits.reads.saturating_mul(size.grv_proxies + 1);
+    let reads = visits
+        .reads
+        .saturating_mul(size.grv_proxies.saturating_add(1));
     let (asks, closes) = (visits.asks, visits.closed.is_some());
     let ran = run_workload(rt, alloc, config, visits)?;
     if !came_to(ran.output, &ran.ends)? {

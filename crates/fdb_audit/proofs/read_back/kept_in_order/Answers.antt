@@ -1,5 +1,4 @@
-use Rattle.std.proofs.Common.{◌<◌, IsPermutation, ℕ, length, map, subst}
-use Rattle.std.specs.List.{All}
+use Rattle.std.proofs.Common.{◌<◌, IsPermutation, length, map, subst}
 use Rattle.std.proofs.lemmas.List.Elements.{All-map, All-weaker}
 use Rattle.std.proofs.lemmas.List.Sorted.{IsPermutation-map}
 use Rattle.std.proofs.lemmas.Map.Views.{All-map-IsPermutation}

@@ -1,4 +1,4 @@
-use Rattle.std.proofs.Common.{◌∙◌, ◌<◌, ap, get_or, length, rules}
+use Rattle.std.proofs.Common.{◌<◌, length, rules}
 use Rattle.std.proofs.lemmas.List.{get_or_default}
 use Rattle.fdb_audit.specs.Taken.{kept_by}
 use Rattle.fdb_audit.proofs.Following.{numbers_more}

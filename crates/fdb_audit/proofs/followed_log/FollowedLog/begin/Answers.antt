@@ -1,4 +1,4 @@
-use Rattle.std.proofs.Common.{◌≡◌, ◌∙◌, [], None, ap, false, if◌then◌else◌, is_some, refl, subst, sym, true}
+use Rattle.std.proofs.Common.{◌≡◌, ◌∙◌, [], ap, false, if◌then◌else◌, is_some, refl, subst, sym, true}
 use Rattle.std.proofs.lemmas.Bool.{false≢true}
 use Rattle.fdb_audit.specs.Following.{fresh}
 use Rattle.fdb_audit.specs.Kept.{start_of}

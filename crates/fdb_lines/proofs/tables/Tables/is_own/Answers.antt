@@ -1,11 +1,9 @@
-use Rattle.std.proofs.Common.{◌≡◌, ◌||◌, [], Some, None, get_or, is_some, ap, sym, ◌∙◌, arith}
+use Rattle.std.proofs.Common.{◌≡◌, [], get_or, is_some, ap, sym, ◌∙◌, arith}
 use Rattle.std.proofs.lemmas.Bool.Decides.{nat_tests}
 use Rattle.std.proofs.lemmas.List.{get_or_default}
 use Rattle.fdb_lines.specs.declared.line.Line.{Line}
 use Rattle.fdb_lines.specs.declared.line_kind.LineKind.TheVariants.{Owned, Nameless}
-use Rattle.fdb_lines.specs.Audit.{case_of}
-use Rattle.fdb_lines.specs.Faults.{is_own}
-use Rattle.fdb_lines.specs.Lines.{client_at, line_at, nobody}
+use Rattle.fdb_lines.specs.Lines.{line_at, nobody}
 use Rattle.fdb_lines.specs.Log.{lines_of}
 use Rattle.fdb_lines.proofs.Reasoning.{anybody_is, are_asked, owned_is}
 use Rattle.fdb_lines.proofs.tables.Tables.is_own.Goals as goal
