@@ -686,9 +686,10 @@ uint8_t fdb_watch_push(fdb_watch *watch, const uint8_t *bytes, size_t bytes_leng
  * looks at once, and else, where more is there to be read, once 8,192 lines came since it last did,
  * and were not refused: at each call that began more than `behind` before the newest end. A line
  * that comes later and began as early is no refused one; its version counts, but it is judged only
- * if it began at most `behind` before that. What is said, be it nothing, is then the text, and the
- * warnings have a line for each line that was refused since; what they were before is gone.
- * `*watch` must be a watch.
+ * if it began at most `behind` before that or, with a `key`, before where its own key settled last:
+ * a key of which no line came may stay further behind. What is said, be it nothing, is then the
+ * text, and the warnings have a line for each line that was refused since; what they were before is
+ * gone. `*watch` must be a watch.
  *
  * FDB_OK, else FDB_OVER or FDB_MEMORY, as fdb_watch_push; text and warnings are then as they were.
  * `n log n` in the lines that are kept.

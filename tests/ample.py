@@ -9,6 +9,7 @@ import re
 
 import ample_audits
 import ample_bindings
+import ample_scripts
 import ample_watches
 from edits import crates
 from harness import ROOT
@@ -97,7 +98,8 @@ def tabled():
     by_line = {call for code in plain for it in LINE.findall(code) for call in it.split(", ")}
     by_table = {call for code in tables for it in NAMED.findall(code)
                 for call in re.findall(r"`([\w:]+)`", it)}
-    of_python = (*ample_audits.TABLES, *ample_watches.TABLES, *ample_bindings.TABLES)
+    of_python = (*ample_audits.TABLES, *ample_watches.TABLES, *ample_scripts.TABLES,
+                 *ample_bindings.TABLES)
     by_row = {call for table in of_python for it in table for call in it.calls.split(", ")}
     return by_line | by_table | by_row
 

@@ -389,7 +389,7 @@ def in_ways(made, asked):
 READ = "LogReader::with_columns, LogReader::feed, LogReader::finish, Names::printed"
 FIRST = f"{READ}, first_finding_by, summary_by"
 ALL = f"{READ}, findings, summary"
-BY_KEY = f"{READ}, Shown::printed, printed_name, findings_by_key, summary_by_key"
+BY_KEY = f"{ALL}, Shown::printed, printed_name"
 # What is said of whole logs.
 AUDITS = (
     Row(FIRST, rising, CHEAP),
@@ -397,7 +397,7 @@ AUDITS = (
     Row(ALL, all_stale, LINES),
     Row(ALL, all_stale_in_json, DEAR),
     Row(f"{READ}, order_or_findings, summary", explained, LINES),
-    Row(f"{BY_KEY}, orders_by_key", explained_by_key, DEAR),
+    Row(f"{BY_KEY}, order_or_findings", explained_by_key, DEAR),
     Row(BY_KEY, stale_by_key, DEAR),
     Row(f"{ALL}, Shown::printed, shown_text", stale_and_shown, DEAR),
     Row(f"{BY_KEY}, shown_text", long_names, CHEAP),

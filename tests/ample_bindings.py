@@ -24,6 +24,7 @@ CHEAP = (*LINES, 200_000)
 DEAR = (1, audits.FEW, 65_537, 100_000)
 FEWER = (1, audits.FEW, 65_537)
 ROOMS = (1, audits.FEW, MOST_STARTED, MOST_STARTED + 1, *audits.AROUND, MOST_ROOM)
+RATES = (1, audits.FEW, *audits.AROUND, MOST_RATE)
 MOMENTS = (0, 1, *audits.AROUND, 2**32, 2**63, HIGHEST)
 # How the structs lie: an ask, an answer, a request, one that was turned away, an operation, what
 # came of it, a call, and a fault.
@@ -155,14 +156,15 @@ def queue_of(normal, batch, room):
     return opened(it.library.fdb_queue_new, byref(config))
 
 
-def filled(queue, count, priority):
-    """Offers so many requests of one transaction, each with its number."""
+def filled(queue, count, priority, pushes=False):
+    """Offers so many requests of one transaction, each with its number; it may push one out."""
     it, outcome = raw(), raw().RawOutcome()
     for at in range(count):
         request = it.RawRequest(1, at, priority)
         status = it.library.fdb_queue_offer(byref(queue), byref(request), byref(outcome))
-        if status:
-            return f"offer {at}: status {status}"
+        out = (outcome.has_out, outcome.out.payload)
+        if status or out != (pushes, at * pushes):
+            return f"offer {at}: status {status}, out {out}"
     return None
 
 
@@ -181,21 +183,84 @@ def popped(room):
     return wrong
 
 
-def started(room):
-    """A window starts as many system requests as wait, or 10,000: no rate holds them."""
-    it = raw()
-    queue, status = queue_of(1, 0, room)
-    if status:
-        return status_of(status)
-    wrong = filled(queue, room, SYSTEM)
-    most, outcome = min(room, MOST_STARTED), it.RawOutcome()
+def pushed_out(room):
+    """Of a full queue each request is pushed out by one of a higher priority, the oldest first."""
+    wrong = None
+    for low, high in ((DEFAULT, SYSTEM), (BATCH, SYSTEM), (BATCH, DEFAULT)):
+        queue, status = queue_of(1, 1, room)
+        wrong = wrong or status_of(status) or filled(queue, room, low)
+        wrong = wrong or filled(queue, room, high, pushes=True)
+        raw().library.fdb_queue_free(byref(queue))
+    return wrong
+
+
+def windowed(queue, elapsed, priority, payloads, waits):
+    """A window starts the requests of these numbers, and leaves so many of each priority."""
+    it, outcome = raw(), raw().RawOutcome()
+    most = min(sum(waits) + len(payloads), MOST_STARTED)
     found = (it.RawRequest * most)()
-    status = it.library.fdb_queue_window(byref(queue), 1, byref(outcome), found, most)
-    it.library.fdb_queue_free(byref(queue))
-    wanted = [(1, at, SYSTEM) for at in range(most)]
-    return wrong or status_of(status) or unlike(
-        [(outcome.started, outcome.system_waits)], [(most, room - most)]) or unlike(
-        members(REQUEST, found), wanted)
+    status = it.library.fdb_queue_window(byref(queue), elapsed, byref(outcome), found, most)
+    left = (outcome.system_waits, outcome.default_waits, outcome.batch_waits)
+    return status_of(status) or unlike([outcome.started, *left], [len(payloads), *waits]) or unlike(
+        members(REQUEST, found)[:len(payloads)], [(1, at, priority) for at in payloads])
+
+
+def started(room):
+    """A window starts all requests of a priority that wait, or 10,000: the rates let all start."""
+    wrong = None
+    for priority in (SYSTEM, DEFAULT, BATCH):
+        queue, status = queue_of(MOST_RATE, MOST_RATE, room)
+        most, waits = min(room, MOST_STARTED), [0, 0, 0]
+        waits[priority] = room - most
+        wrong = wrong or status_of(status) or filled(queue, room, priority)
+        wrong = wrong or windowed(queue, 1, priority, range(most), waits)
+        raw().library.fdb_queue_free(byref(queue))
+    return wrong
+
+
+def started_of_each(count):
+    """Of as many requests of each priority a window starts the system requests first."""
+    queue, status = queue_of(MOST_RATE, MOST_RATE, MOST_ROOM)
+    wrong = status_of(status)
+    for priority in (BATCH, DEFAULT, SYSTEM):
+        wrong = wrong or filled(queue, count, priority)
+    most = range(MOST_STARTED)
+    wrong = wrong or windowed(queue, 1, SYSTEM, most, (count - MOST_STARTED, count, count))
+    raw().library.fdb_queue_free(byref(queue))
+    return wrong
+
+
+def started_in_windows(count):
+    """Window after window starts the one request that waits."""
+    queue, status = queue_of(1, 1, 1)
+    wrong = status_of(status)
+    for _ in range(count):
+        wrong = wrong or filled(queue, 1, SYSTEM) or windowed(queue, 1, SYSTEM, [0], (0, 0, 0))
+    raw().library.fdb_queue_free(byref(queue))
+    return wrong
+
+
+def started_after(elapsed):
+    """So does a window so many microseconds after the last one."""
+    queue, status = queue_of(1, 1, 1)
+    wrong = status_of(status) or filled(queue, 1, DEFAULT)
+    wrong = wrong or windowed(queue, elapsed, DEFAULT, [0], (0, 0, 0))
+    raw().library.fdb_queue_free(byref(queue))
+    return wrong
+
+
+def counted(count):
+    """A request of so many transactions is let in and starts, at each priority."""
+    it, outcome, wrong = raw(), raw().RawOutcome(), None
+    for priority in (SYSTEM, DEFAULT, BATCH):
+        queue, status = queue_of(MOST_RATE, MOST_RATE, 1)
+        request, found = it.RawRequest(count, 7, priority), (it.RawRequest * 1)()
+        offered = it.library.fdb_queue_offer(byref(queue), byref(request), byref(outcome))
+        held = it.library.fdb_queue_window(byref(queue), 1, byref(outcome), found, 1)
+        it.library.fdb_queue_free(byref(queue))
+        wrong = wrong or unlike([status, offered, held], [OK] * 3) or unlike(
+            members(REQUEST, found), [(count, 7, priority)])
+    return wrong
 
 
 def outcomes(count):
@@ -218,13 +283,22 @@ def outcomes(count):
 
 def turned_away(room):
     """Of batch requests each is turned away where the batch rate is 0."""
+    return rated_anew(room, 1)
+
+
+def turned_away_by(normal):
+    """So is one, whatever the normal rate is."""
+    return rated_anew(1, normal)
+
+
+def rated_anew(room, normal):
     it = raw()
-    queue, status = queue_of(1, 1, room)
+    queue, status = queue_of(MOST_RATE, 1, room)
     if status:
         return status_of(status)
     wrong, size = filled(queue, room, BATCH), c_uint64()
     found = (it.RawTurnedAway * room)()
-    status = it.library.fdb_queue_set_rates(byref(queue), 1, 0, found, room, byref(size))
+    status = it.library.fdb_queue_set_rates(byref(queue), normal, 0, found, room, byref(size))
     it.library.fdb_queue_free(byref(queue))
     wanted = [(1, at, BATCH, THROTTLED) for at in range(room)]
     return wrong or status_of(status) or unlike([size.value], [room]) or unlike(
@@ -250,6 +324,11 @@ def throttled(tags, rate, expires, priorities=(SYSTEM, DEFAULT, BATCH)):
             wrong = wrong or unlike([told], [(OK, rate, expires, True)])
     it.library.fdb_queue_free(byref(queue))
     return wrong
+
+
+def set_again(count):
+    """The throttle of one tag is set again and again."""
+    return throttled([b"t"] * count, 7, 9)
 
 
 def tags(count):
@@ -501,6 +580,9 @@ def warned(count):
     return watched(in_pieces(log.encode(), 65_536), said, lines)
 
 
+CHAIN = "fdb_chain_new, fdb_chain_ask, RecentChain::new, RecentChain::ask"
+OFFERS = "fdb_queue_new, fdb_queue_offer, GrvQueue::offer"
+HELD = "fdb_queue_window, GrvQueue::window"
 AUDIT = "fdb_audit_new, fdb_audit_push, fdb_audit_end, fdb_audit_text, fdb_audit_faults"
 AUDIT = f"{AUDIT}, judge_named"
 WATCH = "fdb_watch_new, fdb_watch_push, fdb_watch_tell, fdb_watch_end, fdb_watch_text"
@@ -508,12 +590,19 @@ TABLE = (
     Row("fdb_chain_answers", answers_kept, CHEAP),
     Row("fdb_chain_answers", answers_let_go, CHEAP),
     Row("fdb_chain_answers", asked_at, MOMENTS),
-    Row("fdb_chain_new, fdb_chain_ask", asked, DEAR),
-    Row("fdb_chain_new, fdb_chain_ask", recovered, audits.COUNTS),
-    Row("fdb_queue_new, fdb_queue_offer", popped, ROOMS),
-    Row("fdb_queue_new, fdb_queue_offer, fdb_queue_window", started, ROOMS),
+    Row(CHAIN, asked, DEAR),
+    Row(CHAIN, recovered, audits.COUNTS),
+    Row(OFFERS, popped, ROOMS),
+    Row(OFFERS, pushed_out, ROOMS),
+    Row(f"{OFFERS}, {HELD}", counted, (*RATES, MOST_RATE - 1)),
+    Row(f"{OFFERS}, {HELD}", started, ROOMS),
+    Row(f"{OFFERS}, {HELD}", started_of_each, (MOST_STARTED, MOST_STARTED + 1, 33_333)),
+    Row(f"{OFFERS}, {HELD}", started_in_windows, (65_538,)),
+    Row(HELD, started_after, (1, audits.FEW, *audits.AROUND, 9_999_999, 10_000_000)),
     Row("fdb_queue_outcomes", outcomes, LINES),
-    Row("fdb_queue_set_rates", turned_away, ROOMS),
+    Row("fdb_queue_set_rates, GrvQueue::set_rates", turned_away, ROOMS),
+    Row("fdb_queue_set_rates, GrvQueue::set_rates", turned_away_by, RATES),
+    Row("fdb_queue_set_throttle, fdb_queue_throttle", set_again, (65_538,)),
     Row("fdb_queue_set_throttle, fdb_queue_throttle", tags, DEAR),
     Row("fdb_queue_set_throttle, fdb_queue_throttle", tag_of_bytes, (0, 1, 2, 15, 16)),
     Row("fdb_queue_set_throttle, fdb_queue_throttle", rated, MOMENTS),

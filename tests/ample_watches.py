@@ -96,7 +96,7 @@ def settled_at(moment):
 
 FOLLOWED = ("Follower::new, Follower::feed, Follower::tell, Follower::finish, LineReader::new, "
             "LineReader::feed, LineReader::finish, KeyWatch::push, KeyWatch::settle, "
-            "KeyWatch::finish")
+            "KeyWatch::finish, Watch::push, Watch::finish, standing")
 WATCHES = (
     Row(FOLLOWED, all_open, CHEAP),
     Row(FOLLOWED, all_settled, CHEAP),

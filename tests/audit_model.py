@@ -147,7 +147,7 @@ class Case:
             return line.kind in DRAWING and bool(self.others_that_drew(k))
         drawers = self.drawers(value) if line.kind == "report" else []
         if drawers:
-            return all(self.lines[it].client != line.client for it in drawers)
+            return not any(may_be_one(self.lines[it].client, line.client) for it in drawers)
         return line.kind == "report" and (self.is_complete or value <= self.start)
 
     def faults(self):
@@ -441,6 +441,11 @@ def tally(faults):
 def worded(counts):
     """Counts as words; those that are not known are left out."""
     return " ".join(f"{name} {count}" for name, count in counts.items() if count is not None)
+
+
+def may_be_one(client, other):
+    """Whether two callers may be one client: who is not known may be anybody."""
+    return client is None or other is None or client == other
 
 
 def name_of(line):

@@ -58,11 +58,16 @@ def needs_of(lines, margin, acts):
 
 
 def is_owned(lines):
-    """Whether each report is of a version that its client drew, where any line did."""
+    """Whether each report is of a version that its client drew, where any line did.
+
+    Of a line without a client that may be so, whoever is meant; and so if the line that drew it
+    is without.
+    """
+    drew = [(it.value, it.client) for it in lines if it.kind in DRAWING]
     return all(
-        any(it.client == line.client for it in drew)
-        for line in lines if line.kind == "report"
-        for drew in [[it for it in lines if it.kind in DRAWING and it.value == line.value]] if drew
+        {(line.value, line.client), (line.value, None)} & set(drew)
+        for line in lines if line.kind == "report" and line.client is not None
+        and line.value in {version for version, _ in drew}
     )
 
 

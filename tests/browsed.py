@@ -19,6 +19,9 @@ BROWSER_WORDS = ["--headless", "--no-sandbox", "--disable-gpu"]
 # What the largest log may take: of processor time some ten times what it does, since machines
 # differ; what its page may do until it is drawn; and how many shapes a view of it has.
 CALLS, SECONDS, BYTES, OPENS, SHAPES = 100_000, 20, 25_000_000, 6, 5_000
+# How many faults a log has whose clients learn, and what is asked of logs that are made here.
+LEARNS = 8_000
+ASKED_FOR = {"complete": None, "margin": 0, "by_key": False, "members": []}
 
 
 # ---- with node
@@ -260,18 +263,47 @@ def largest():
     at, by = ({"line": it + 1, **lines[it]} for it in (CALLS - 1, CALLS - 2))
     fault = {"fault": "Order", "at": at, "reason": "known", "known": by["read"], "by": by,
              "means": "ended"}
-    asked = {"complete": None, "margin": 0, "by_key": False, "members": []}
-    total = {"total": {"lines": CALLS}, "arguments": asked}
+    total = {"total": {"lines": CALLS}, "arguments": ASKED_FOR}
     return map(lines_text, (lines, (fault, total, {"faults": 1})))
+
+
+def learning():
+    """A log without times of which a third is at fault, for each of two reasons: what a client
+    learnt, and another call of which it may have. Each time what is said of it."""
+    of = lambda what: [what(at) for at in range(LEARNS)]
+    heard = of(lambda at: {"client": f"a{at % 9}", "ask": at + 1})
+    heard += of(lambda at: {"client": f"b{at}", "learn": f"a{at % 9}"})
+    heard += of(lambda at: {"client": f"b{at}", "ask": at + 1})
+    told = [{"client": "a", "commit": 2}, *of(lambda at: {"client": f"b{at}", "learn": "a"})]
+    told += of(lambda at: {"client": f"b{at}", "read": 1})
+    for lines, fault, members in (
+        (heard, {"fault": "Twice", "reason": "drawn"}, lambda at: {"drawn": at - 2 * LEARNS}),
+        (told, {"fault": "Order", "reason": "known", "known": 2, "means": "learnt"},
+         lambda at: {"by": 0, "teller": at - LEARNS}),
+    ):
+        numbered = [{"line": at, **it} for at, it in enumerate(lines, 1)]
+        said = [{**fault, **{name: numbered[it] for name, it in (*members(at).items(), ("at", at))}}
+                for at in range(len(lines) - LEARNS, len(lines))]
+        said += [{"total": {"lines": len(lines)}, "arguments": ASKED_FOR}, {"faults": LEARNS}]
+        yield lines_text(lines), lines_text(said)
+
+
+def processor_time():
+    return resource.getrusage(resource.RUSAGE_SELF).ru_utime
 
 
 def large(_program):
     """A log of 100,000 calls is drawn at once, and so is its page; its views have few shapes."""
+    for text, said in learning():
+        before = processor_time()
+        count, took = len(logged(text, said=said).faults), processor_time() - before
+        is_right = count == LEARNS and took < SECONDS / 2
+        yield "learns", None if is_right else f"{count} faults in {took:.1f} seconds"
     text, said = largest()
-    before = resource.getrusage(resource.RUSAGE_SELF).ru_utime
+    before = processor_time()
     drawing = logged(text, said=said)
     written = page_of.page(drawing)
-    took = resource.getrusage(resource.RUSAGE_SELF).ru_utime - before
+    took = processor_time() - before
     is_right = len(drawing.lines) == CALLS and took < SECONDS and len(written) < BYTES
     yield "its page", None if is_right else f"{took:.1f} seconds, {len(written)} bytes"
     whole = {"from": 0, "to": 10 * CALLS, "lanes": [*range(200)], "fault": None}

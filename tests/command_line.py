@@ -6,8 +6,8 @@ from typing import Callable, NamedTuple
 
 import audit_logs
 from answers import MOST_COMMANDS
-from harness import NO_STREAM, OTHER_ARGUMENTS, REFUSED, ROOT, SECONDS, Ran, done, fault_of
-from harness import first_script, read, refused, run, script, under, written
+from harness import NO_MEMORY, NO_STREAM, OTHER_ARGUMENTS, REFUSED, ROOT, SECONDS, Ran, done
+from harness import fault_of, first_script, read, refused, run, script, under, written
 from model import expected
 
 HELP = read(f"{ROOT}/tests/help.txt")
@@ -47,6 +47,9 @@ class Program(NamedTuple):
 
     def writing_failed(self):
         return self.ended(NO_STREAM, "writing failed")
+
+    def starved(self):
+        return self.ended(NO_MEMORY, "want of memory")
 
     def words_refused(self):
         return self.ended(OTHER_ARGUMENTS, "words refused")

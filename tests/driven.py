@@ -5,6 +5,7 @@ arguments, or end early at a bound of what is read at once. Each test names what
 and how far they go.
 """
 import contextlib
+import errno
 import fcntl
 import os
 import resource
@@ -92,6 +93,24 @@ def short(it):
                 wanted = it.writing_failed()._replace(out=ends.out[:64 * (number - 1)])
                 fails = ("fails", "takes nothing")[takes]
                 yield f"write {number} {fails}", fault_of(ran, wanted)
+
+
+def failing(it):
+    """A read or a write is not tried again after any error of the system, but an interruption.
+
+    The second of several reads or writes fails, and those behind it would not.
+    """
+    ends = it.ends(it.given, [])
+    with tempfile.TemporaryDirectory() as folder:
+        preloaded = built(folder, SOURCE)
+        for why in sorted(set(errno.errorcode) - {errno.EINTR}):
+            how, named = {"": 64, "_WHY": why}, errno.errorcode[why]
+            wanted = it.starved() if why == errno.ENOMEM else it.reading_failed()
+            ran = with_short(it, preloaded, [], it.given, **how, _READ=2)
+            yield f"a read fails by {named}", fault_of(ran, wanted)
+            wanted = it.writing_failed()._replace(out=ends.out[:64])
+            ran = with_short(it, preloaded, [], it.given, **how, _WRITE=2)
+            yield f"a write fails by {named}", fault_of(ran, wanted)
 
 
 # ---- pipes and files

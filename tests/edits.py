@@ -2,14 +2,26 @@
 
 An edit has a line 'file: PATH', with a path in the crate, and then pairs of lines 'old: TEXT' and
 'new: TEXT'. Each old text stands exactly once in what the pairs before it left of the file.
+The gate tries those of must-fail/. Of those of wrong-bodies/ a record tells what they were refused
+on, by a sum.
 """
+import hashlib
 import os
 
-from harness import ROOT
+from harness import ROOT, files_below, text_of
 
 TRIED, BESIDE = "must-fail", "wrong-bodies"
 # The most lines of an edit: one that takes more turns more than one thing.
 MOST_LINES = 12
+# The record of a crate's edits in wrong-bodies/.
+RECORD = """\
+# Wrong bodies that were refused
+
+`tests/wrong_bodies {crate}` wrote this, once the prover had refused each of the {count} edits here.
+The sum is of the crate's sources, definitions, proofs and edits, without comments and blank lines:
+
+    {sum}
+"""
 
 
 def crates():
@@ -25,6 +37,38 @@ def edits_in(crate, folder):
     files = sorted(os.listdir(at)) if os.path.isdir(at) else []
     edits = {name[: -len(".edit")]: f"{at}/{name}" for name in files if name.endswith(".edit")}
     return edits, [name for name in files if not name.endswith((".edit", ".md"))]
+
+
+def counted_lines(path):
+    """The lines of a file that count: those that are neither empty nor a comment."""
+    lines = map(str.strip, text_of(path).splitlines())
+    return [line for line in lines if line and not line.startswith(("//", "--"))]
+
+
+def sum_of(crate):
+    """The sum of what a crate's own edits of wrong-bodies/ are refused on, and of these."""
+    found = hashlib.sha256()
+    for part in ("src", "specs", "proofs", BESIDE):
+        for path in files_below(f"crates/{crate}/{part}", ".rt", ".antt", ".edit"):
+            found.update("\n".join([path, *counted_lines(path), ""]).encode())
+    return found.hexdigest()
+
+
+def record_file(crate):
+    return f"{ROOT}/crates/{crate}/{BESIDE}/tried.md"
+
+
+def record(crate):
+    """The record of a crate whose edits of wrong-bodies/ were refused as the crate stands."""
+    return RECORD.format(crate=crate, count=len(edits_in(crate, BESIDE)[0]), sum=sum_of(crate))
+
+
+def is_recorded(crate):
+    """Whether a crate has no edits in wrong-bodies/, or the record of them as they stand."""
+    file = record_file(crate)
+    if not edits_in(crate, BESIDE)[0]:
+        return not os.path.exists(file)
+    return os.path.exists(file) and text_of(os.path.relpath(file, ROOT)) == record(crate)
 
 
 def pairs_of(text):

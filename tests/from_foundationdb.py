@@ -1,10 +1,21 @@
 """Trace files of FoundationDB's clients: the lines that tools/from_foundationdb makes of them."""
+import contextlib
 import json
+import os
+import queue
+import signal
+import subprocess
 import tempfile
+import threading
 
-from harness import EXAMPLES, ROOT, read, run
+from harness import EXAMPLES, OTHER_ARGUMENTS, ROOT, read, run
 
 TOOL = f"{ROOT}/tools/from_foundationdb"
+# The seconds after which what does not come is taken as lost; and the lines of a large file, and in
+# how few pieces at most they come.
+BOUND, LARGE, PIECES = 60, 20_000, 1_000
+# Python may be told to hold nothing back, which would hide what the tool does.
+BUFFERED = {name: it for name, it in os.environ.items() if name != "PYTHONUNBUFFERED"}
 
 
 def read_version(**members):
@@ -129,3 +140,169 @@ def traces_of_foundationdb(_program):
         ran = run([TOOL, missing], b"")
         fine = ran.status == 1 and missing.encode() in ran.err and not ran.out
         yield "a file that is not there", None if fine else f"{ran}"
+
+
+# ---- while the files grow
+
+
+class Growing:
+    """The tool while what it reads grows: its lines, of which each is waited for up to a bound."""
+
+    def __init__(self, *words):
+        self.said = queue.Queue()
+        streams = dict.fromkeys(("stdin", "stdout", "stderr"), subprocess.PIPE)
+        self.started = subprocess.Popen([TOOL, *words], bufsize=0, env=BUFFERED, **streams)
+        self.listener = threading.Thread(target=self.listen, daemon=True)
+        self.listener.start()
+
+    def __enter__(self):
+        return self
+
+    def __exit__(self, *_):
+        self.started.kill()
+        self.started.wait()
+
+    def give(self, text):
+        self.started.stdin.write(text.encode())
+
+    def listen(self):
+        for line in self.started.stdout:
+            self.said.put(line.decode().rstrip("\n"))
+
+    def fault(self, *wanted):
+        """What comes next in place of these lines, or None."""
+        found = []
+        with contextlib.suppress(queue.Empty):
+            while len(found) < len(wanted):
+                found.append(self.said.get(timeout=BOUND))
+        return None if found == [*wanted] else f"{found} in place of {wanted}"
+
+    def end_fault(self, *wanted):
+        """How it ends in place of this status and what it is to say, with no line more, or None."""
+        try:
+            ended = self.started.wait(BOUND)
+        except subprocess.TimeoutExpired:
+            return f"it had not ended in {BOUND} seconds"
+        self.listener.join(BOUND)
+        found = (ended, self.started.stderr.read().decode())
+        more = [*self.said.queue]
+        return None if (found, more) == (wanted, []) else f"{found}, {more} in place of {wanted}"
+
+
+def event_at(second, **members):
+    """An event of that second, as its trace has it, and the line that it becomes."""
+    line = {"client": "10.0.0.1:4500", "read": 100, "began": second * 1_000_000 - 1_230,
+            "ended": second * 1_000_000}
+    event = read_version(Time=f"{second}.000000", **members)
+    return json.dumps(event) + "\n", json.dumps(line, separators=(",", ":"))
+
+
+def slow_traces(_program):
+    """A line comes out once its event is whole, while more may come; many at once come at once."""
+    (events, lines) = zip(*map(event_at, range(1, 6)))
+    with Growing() as growing:
+        for event, line in zip(events[:2], lines):
+            growing.give(event)
+            yield f"an event in a pipe: {line}", growing.fault(line)
+        growing.give(events[2][:50])
+        growing.give(events[2][50:] + events[3] + events[4][:20])
+        yield "two events, of which the first came in parts", growing.fault(*lines[2:4])
+        growing.give(events[4][20:].rstrip("\n"))
+        growing.started.stdin.close()
+        yield "the last one, without an end", growing.fault(lines[4])
+        yield "the end", growing.end_fault(0, said((5, 0, 0, 0, 0, 0)))
+    with Growing() as growing:
+        growing.give(events[0])
+        yield "an event before a signal", growing.fault(lines[0])
+        growing.started.send_signal(signal.SIGINT)
+        yield "a signal", growing.end_fault(-signal.SIGINT, "")
+    with tempfile.NamedTemporaryFile() as file:
+        file.write(events[0].encode() * LARGE)
+        file.flush()
+        pieces = pieces_of([TOOL, file.name])
+    count = sum(it.count(b"\n") for it in pieces)
+    is_right = count == LARGE and len(pieces) <= PIECES
+    yield "a large file", None if is_right else f"{count} lines in {len(pieces)} pieces"
+
+
+def pieces_of(words):
+    """What a command writes, in the pieces in which it does, or in pages of these."""
+    reader, writer = os.pipe2(os.O_DIRECT)
+    with subprocess.Popen(words, stdout=writer, stderr=subprocess.DEVNULL, env=BUFFERED):
+        os.close(writer)
+        found = []
+        while piece := os.read(reader, 1 << 16):
+            found.append(piece)
+    os.close(reader)
+    return found
+
+
+def helped(_program):
+    """The help tells of all arguments, and others are refused."""
+    ran = run([TOOL, "--help"], b"")
+    is_right = ran.status == 0 and not ran.err and all(it in ran.out for it in (
+        b"--follow FOLDER", b"TRACE", b"trace.ADDRESS.PORT.TIME.RANDOM.0.1.json"))
+    yield "the help", None if is_right else f"{ran}"
+    for words in (["--nothing"], ["--follow"], ["--follow", "/", "trace.json"]):
+        ran = run([TOOL, *words], b"")
+        is_right = ran.status == OTHER_ARGUMENTS and not ran.out and ran.err
+        yield f"{words}", None if is_right else f"{ran}"
+
+
+def followed_traces(_program):
+    """Trace files of a folder are read as they grow, and those that come behind them."""
+    first, second, third = "4500.1579217063.aBcD", "4501.1579217064.Ef.G", "4502.1579217065.H"
+    (events, lines) = zip(*map(event_at, range(15)))
+    with tempfile.TemporaryDirectory() as folder:
+        path_of = f"{folder}/trace.10.0.0.1.{{}}.json".format
+
+        def add(name, text):
+            with open(path_of(name), "a", encoding="utf-8") as file:
+                file.write(text)
+
+        # (what is not the newest file of its process is not read, nor what has another name)
+        add(f"{first}.0.8", events[0])
+        add(f"{first}.0.9", events[1] + events[4] + events[6][:30])
+        add(f"{second}.0.9", events[0])
+        add(f"{second}.1.10", events[2] + events[5])
+        add("summary", events[0])
+        with Growing("--follow", folder) as growing:
+            yield "what is there", growing.fault(*(lines[it] for it in (1, 2, 4, 5)))
+            add(f"{first}.0.9", events[6][30:])
+            yield "the rest of an event", growing.fault(lines[6])
+            add(f"{second}.1.10", events[7])
+            yield "another process", growing.fault(lines[7])
+            add(f"{first}.0.9", events[8] + events[9].rstrip("\n"))
+            yield "an event, and one without an end", growing.fault(lines[8])
+            add(f"{first}.1.10", events[10])
+            yield "the next file", growing.fault(*lines[9:11])
+            add(f"{first}.1.11", events[11][:9])
+            add(f"{first}.1.12", events[12])
+            yield "two files, of which one ends with half an event", growing.fault(lines[12])
+            add(f"{third}.0.1", events[13])
+            yield "a process that came later", growing.fault(lines[13])
+            os.remove(path_of(f"{first}.1.12"))
+            add(f"{first}.1.13", events[14])
+            yield "a file behind one that is gone", growing.fault(lines[14])
+            growing.started.send_signal(signal.SIGTERM)
+            yield "a signal", growing.end_fault(0, said((12, 0, 0, 0, 0, 1)))
+        ran = run([TOOL, "--follow", f"{folder}/none"], b"")
+    is_right = ran.status == 1 and b"none: No such file" in ran.err and not ran.out
+    yield "a folder that is not there", None if is_right else f"{ran}"
+
+
+def followed_from_nothing(_program):
+    """Files come to a folder that had none but in another format, which is told."""
+    event, line = event_at(1)
+    with tempfile.TemporaryDirectory() as folder:
+        name = f"{folder}/trace.10.0.0.1.4500.1579217063.aBcD.0.1"
+        with open(f"{name}.xml", "w", encoding="utf-8"):
+            pass
+        with Growing("--follow", folder) as growing:
+            told = growing.started.stderr.readline().decode()
+            yield "another format", None if "set trace_format to json" in told else told
+            with open(f"{name}.json", "w", encoding="utf-8") as file:
+                file.write(event)
+            yield "the first file", growing.fault(line)
+            growing.started.send_signal(signal.SIGINT)
+            yield "a signal", growing.end_fault(0, said((1, 0, 0, 0, 0, 0)))

@@ -3,7 +3,9 @@
 Values that were worked out by hand stand in pictures.txt. What the page's code makes of a drawing
 is looked at by browsed.py.
 """
+import itertools
 import json
+import math
 import os
 import re
 import sys
@@ -12,6 +14,7 @@ import types
 from collections import defaultdict
 from html.parser import HTMLParser
 
+import follow_model
 import judging
 from audit_logs import example_cases, random_cases
 from audit_model import DRAWING, Log, judged, options_of, printed
@@ -44,7 +47,9 @@ def drawn(text, name=None):
 
 
 def audited(text, *words):
-    """What fdb_audit --json says of a log, by its model."""
+    """What fdb_audit --json says of a log, by its model, or of one that grows."""
+    if "--follow" in words:
+        return follow_model.judged_as(text.encode(), ["--json", *words]).out.decode()
     return judged(text.encode(), options_of(["--json", *words]))[1].decode()
 
 
@@ -243,40 +248,54 @@ def log_fault(text, words, data, drawing):
     """What of a log's bars is not as its line is, and what of its faults is not as the audit says.
     """
     options = options_of(words)
-    log, bars = Log(lines_of(text.encode(), options.key), options), dict(bars_in(data))
-    first = int(data["origin"].replace(",", "") or 0)
-    for number, (line, bar) in enumerate(zip(log.lines, bars.values(), strict=True), 1):
+    log = Log(lines_of(text.encode(), options.key), options)
+    sentences = [case.sentence(fault, k, case.reasons(fault, k)[0])
+                 for case, fault, k in log.faults()]
+    return bars_fault(log, range(len(log.lines)), data) or reasons_fault(drawing, sentences)
+
+
+def bars_fault(log, places, data):
+    """What of the bars is not as the lines are, which stand at these places of a log."""
+    bars, first = dict(bars_in(data)), int(data["origin"].replace(",", "") or 0)
+    for place, line, (name, bar) in zip(places, log.lines, bars.items(), strict=True):
+        number = place + 1
         times = [it if it is None else it - first for it in (line.began, line.ended)]
         times = [10 * number - 9, 10 * number - 1] if line.began is None else times
         label = f"from {printed(line.value)[1:-1]}" if line.kind == "learn" else str(line.value)
         nameless = line.client is None
         lane = "callers without a name" if nameless else f"client {printed(line.client)[1:-1]}"
-        found = (plain(bar.lane), bar.kind, bar.left, bar.right, plain(bar.label))
-        wanted = (plain(lane), line.kind, *times, plain(label))
+        found = (name, plain(bar.lane), bar.kind, bar.left, bar.right, plain(bar.label))
+        wanted = (f"line {number}", plain(lane), line.kind, *times, plain(label))
         said = f"Line {number}: {'a caller' if nameless else f'client {printed(line.client)}'} "
         if found != wanted or not plain(bar.words).startswith(plain(said)):
             return f"line {number} is drawn as {found}: {bar.words}"
         end = "; its end is not known." if line.ended is None else f" to {line.ended}."
         if line.began is not None and f", from {line.began}{end}" not in bar.words:
             return f"line {number} is told as {bar.words}"
-    return log_known_fault(log, data) or differing(
-        "reasons", [re.sub(r"(?<=\d),(?=\d{3})", "", plain(it.reason)) for it in drawing.faults],
-        [case.sentence(fault, k, case.reasons(fault, k)[0]) for case, fault, k in log.faults()])
+    return log_known_fault(log, places, data)
 
 
-def log_known_fault(log, data):
+def reasons_fault(drawing, sentences):
+    """What differs between the reasons of faults and these sentences, in which no number is parted.
+    """
+    reasons = [re.sub(r"(?<=\d),(?=\d{3})", "", plain(it.reason)) for it in drawing.faults]
+    return differing("reasons", reasons, sentences)
+
+
+def log_known_fault(log, places, data):
     """What is said of what a call knew, or of what is known to all, that the model does not say."""
     by_key = dict(zip(dict.fromkeys(it.key for it in log.lines), data["bands"], strict=True))
+    bar_of = {place: bar for place, (_name, bar) in zip(places, bars_in(data))}
     for case in log.cases:
-        begins = [bar.left for _name, bar in bars_in(data)]
         for k, line in enumerate(case.lines):
+            bar = bar_of[case.at[k]]
             known = max(case.knows[k], case.last[k] * (line.kind in DRAWING))
-            said = re.search(r"before it: (\d+)\.$", data["words"][case.at[k]])
+            said = re.search(r"before it: (\d+)\.$", bar.words)
             if line.kind != "learn" and int(said[1] if said else 0) != known:
                 return f"line {case.at[k] + 1}: it says {said}, and {known} was known"
             bands = by_key[line.key]
             before = [int(label.split()[0]) for left, label in zip(bands["left"], bands["label"])
-                      if left < begins[case.at[k]]]
+                      if left < bar.left]
             past = [case.lines[j].value for j in case.before[k]
                     if case.is_past(j, k) and case.lines[j].kind != "ask"] if line.began else []
             if before and case.has_times and before[-1] != max([*past, case.start]):
@@ -389,34 +408,56 @@ def random_logs(_program):
         met += len(drawing.faults)
         data = json.loads(json.dumps(drawings.columns_of(drawing)))
         objects = [it for it in map(json.loads, said.splitlines()) if "fault" in it]
-        wrong = (path_fault(drawing, *both) for both in zip(drawing.faults, objects, strict=True))
+        options = options_of(words)
+        cases = [case for case, *_ in Log(lines_of(given, options.key), options).faults()]
+        found = zip(drawing.faults, objects, cases, strict=True)
+        wrong = (path_fault(drawing, *its) for its in found)
         yield name, log_fault(text, words, data, drawing) or next(filter(None, wrong), None)
     yield "enough faults", None if met > LOGS else f"{met}"
 
 
-def path_fault(drawing, fault, said):
+def path_fault(drawing, fault, said, case):
     """Says what of a fault's object its links, its view and its lateness have not."""
     names = ["at", "reported", "drawn", "by", "teller", *["first"] * bool(said.get("late"))]
     at = {name: said[name]["line"] - 1 for name in names if said.get(name)}
     knower, other = at.get("reported", at["at"]), at.get("drawn", at.get("reported"))
-    beside = [(other, at["at"])] * (other is not None and at.get("by") != at["at"])
+    is_beside = other is not None and at.get("by") != at["at"]
+    beside = links_between(case, other, at["at"]) if is_beside else []
     chain = [it[:2] for it in fault.links]
     way = [at["by"], knower] if "by" in at else []
     if "teller" in at:
-        learns = [end for _start, end in chain[:-1 - len(beside)]]
+        learns = [end for _start, end in chain[:len(chain) - len(beside) - 1]]
         way = [at["by"], *learns, knower] if learns[-1:] == [at["teller"]] else []
-    wanted = [*zip(way, way[1:]), *beside]
-    lines, late = drawing.lines, [it for it in (said.get("late"),) if it]
-    for start, end, has_tip in fault.links:
-        one, two = lines[start], lines[end]
-        if has_tip and (one.ended is None or one.ended > two.began):
-            return f"an arrow from {one} to {two}"
+    wanted = [*((*both, True) for both in zip(way, way[1:])), *beside]
+    late = [it for it in (said.get("late"),) if it]
+    unknown = [both for both in zip(way, way[1:]) if not is_known(case, *both)]
     is_right = (
-        chain == wanted and set(at.values()) <= set(fault.roles) and fault.at == at["at"]
+        fault.links == wanted and not unknown and set(at.values()) <= set(fault.roles)
+        and fault.at == at["at"]
         and (fault.known, fault.knower) == (str(said["known"]) if "known" in said else None, knower)
         and (fault.late, fault.first) == (f"{late[0]:,} too late" if late else "", at.get("first"))
     )
-    return None if is_right else f"{fault}, of {said}"
+    return None if is_right else f"{fault}, of {said}, with {wanted}"
+
+
+def links_between(case, one, other):
+    """What may join two calls that a reason names: an arrow where one came before, and a dashed
+    line where none did, whatever the ends are that are not known."""
+    for both in ((one, other), (other, one)):
+        if is_known(case, *both):
+            return [(*both, True)]
+    lines = [case.lines[case.at.index(it)] for it in (one, other)]
+    ends = [[it.began, math.inf] if it.ended is None else [it.ended] for it in lines]
+    are_sure = not case.has_times or all(
+        max(it.began for it in lines) <= min(its) for its in itertools.product(*ends))
+    return [(one, other, False)] * are_sure
+
+
+def is_known(case, one, other):
+    """Whether a call knew of another by the model, or was a learn by which its client did."""
+    one, other = map(case.at.index, (one, other))
+    learns = dict(case.learns[case.lines[other].client])
+    return one in case.before[other] or one in learns.get(other, ())
 
 
 # ---- bugs that were planted, and what they would change
@@ -524,6 +565,10 @@ CHANGED_VERDICTS = (
     ('"known":200,', '', "BadVerdict 1"),
     ('"at":', '"on":', "BadVerdict 1"),
     ('"means":"ended"', '"means":"learnt"', "BadVerdict 1"),
+    ('"by":{"line":1,"client":"a","commit":200,"began":10,"ended":14}',
+     '"by":{"line":7,"client":"c","read":300,"began":41,"ended":61}', "BadVerdict 1"),
+    ('"by":{"line":1,"client":"a","commit":200,"began":10,"ended":14}',
+     '"by":{"line":5,"client":"a","report":300,"began":20,"ended":null}', "BadVerdict 1"),
     ('"late":35', '"late":"35"', "BadVerdict 1"),
     ('"members":[]', '"members":[{}]', "BadVerdict 2"),
     ('"lines":7', '"lines":8', "BadVerdict 2"),

@@ -63,10 +63,11 @@ class Fault(NamedTuple):
     reason: str
     at: int  # the call at fault
     roles: dict  # all calls that are named, with what each is to it
-    links: list  # two of these that are joined, and whether the first had ended before the second
+    links: list  # two of these that are joined, and whether the first came before the second
     known: Optional[str]  # the version that was known, to which call
     knower: int
-    late: str  # how late the call at fault was, since which one's end
+    late: str  # how late the call at fault was, or at least was, since which one's end
+    is_least: bool
     first: Optional[int]
 
 

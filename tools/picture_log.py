@@ -1,10 +1,11 @@
 """Reads a log, and what `fdb_audit --json` said of it, for a picture."""
-import json
-import math
-from types import SimpleNamespace
+from bisect import bisect_right
+from collections import defaultdict
 
 from drawing import (DRAWING, SHOWING, START, Drawing, Fault, Line, Refused, column, counted,
-                     heading, known_by_telling, known_by_time, quoted, rising, shown)
+                     end_of, heading, known_by_telling, known_by_time, quoted, rising, shown)
+from picture_lines import NO_SUCH, calls_of
+from picture_said import FAULTS, REASONS, ROLES, Said
 
 # Each kind of call: at its bar, in the key, and in words.
 KINDS = {
@@ -14,26 +15,6 @@ KINDS = {
     "report": ("report", "report of a version as committed", "reported {}"),
     "learn": ("learn", "a client learns what another one knew", "learnt what client {} knew"),
 }
-# The faults: in plain words, and what each means.
-FAULTS = {
-    "Order": ("Stale read", "it got a version below what was known"),
-    "Wrong": ("Wrong version read", "it was not there yet, or never"),
-    "NotAbove": ("Commit version too low", "it is not above all that was known"),
-    "Twice": ("Commit version drawn twice", "two calls got the same one"),
-    "Stray": ("Stray report", "its client had not got the version that it reported"),
-}
-# How the reason of a fault is told, and of two of a kind of their own; and what it needs.
-REASONS = {
-    "known": "{late}{known} was known: {way}", "drawn": "which {other} drew",
-    "reported": "which {other} reported when {known} was known: {way}",
-    "unreported": "which nobody reported", "undrawn": "which nobody drew",
-    "before": "which was reported only after this: {way}", "twice": "and so did {other}",
-}
-NEEDED = {"known": ("known",), "reported": ("known", "reported"), "drawn": ("drawn",)}
-# What the lines of a fault are to it, by their members: in the order in which they are told.
-ROLES = {"first": "First to end of those that make it late", "by": "Shows {known}",
-         "teller": "Learnt of {known}", "reported": "First to report it", "drawn": "Got it too",
-         "at": "At fault"}
 NOTES_OF_TIME = """Time goes from left to right: a bar from where a call began to where it ended, or
 fading, as it may end at any time or never. Right of a dashed line, which stands {} the end of a
 call that showed its version, that is known to all. A client knows its own earlier calls, too."""
@@ -44,130 +25,38 @@ all up to the one that it got. A read must get none older than was known, a comm
 one. An ask only draws a version, which counts for later asks and commits alone. 'Line' and a number
 mean that line of the log, counted from 1."""
 NOTES_BY_KEY = "The dashed lines are those of the key at fault, and calls of other keys are pale."
-# What reading an object may raise that lacks a member, or has another kind of value there.
-NO_SUCH = (LookupError, TypeError, ValueError, AttributeError, RecursionError)
-
-
-def number_in(value):
-    """The number that a value is: a whole one, or one that a text of digits writes."""
-    if isinstance(value, str) and value.isascii() and value.isdigit():
-        value = int(value)
-    if type(value) is not int or not 0 <= value < 2**64:
-        raise ValueError(f"{value!r} is no whole number")
-    return value
-
-
-def name_in(value):
-    """The name that a value is: a text, or a whole number, which is its digits."""
-    return value if isinstance(value, str) else str(number_in(value))
-
-
-def call_of(text):
-    """Reads a line as fdb_audit does."""
-    said = json.loads(text)
-    kinds, has_times = [it for it in KINDS if it in said], "began" in said or "ended" in said
-    if len(kinds) != 1:
-        raise ValueError("a line has one of read, commit, ask, report and learn")
-    client = name_in(said["client"]) if "client" in said else None
-    value = (name_in if kinds[0] == "learn" else number_in)(said[kinds[0]])
-    began, ended = number_in(said["began"]) if has_times else None, None
-    if has_times and said["ended"] is not None:
-        ended = number_in(said["ended"])
-    if has_times and (kinds[0] == "learn" or ended is not None and ended < began):
-        raise ValueError("no call ends before it began, and no learn has times")
-    if not has_times and client is None:
-        raise ValueError("without times each line names its client")
-    return SimpleNamespace(kind=kinds[0], client=client, value=value, began=began, ended=ended,
-                           has_times=has_times, said=said)
-
-
-def calls_of(texts):
-    """Reads the lines of a log."""
-    calls, last = [], {}
-    for number, text in enumerate(texts, 1):
-        try:
-            it = call_of(text)
-            if it.has_times != (calls or [it])[0].has_times:
-                raise ValueError("all lines have times, or none has")
-            it.source = last[it.value] if it.kind == "learn" else None
-        except NO_SUCH as why:
-            raise Refused(f"BadLog {number}: {why}: {text[:80]!r}") from None
-        last[it.client] = len(calls)
-        calls.append(it)
-    return calls
-
-
-def said_of(texts, calls):
-    """What fdb_audit --json said of a log: its arguments, and the faults.
-
-    Turns of a history are passed over, and what it writes to standard error.
-    """
-    said, faults, count, number = None, [], None, 0
-    for number, text in enumerate(texts, 1):
-        if text.startswith("fdb_audit: "):
-            continue
-        try:
-            it = json.loads(text)
-            if "fault" in it.keys():
-                faults.append((number, fault_of(it, calls)))
-            if "total" in it:
-                said = SimpleNamespace(**it["arguments"], faults=faults)
-                said.start, said.margin = number_in(said.complete or 0), number_in(said.margin)
-                said.members = [*map(name_in, said.members)]
-                said.key = said.members[0] if said.by_key else None
-                if it["total"]["lines"] != len(calls):
-                    raise ValueError
-            if not it.keys() & {"client", "members"}:
-                count = it.get("faults", count)
-        except NO_SUCH:
-            why = "not what fdb_audit --json says of this log"
-            raise Refused(f"BadVerdict {number}: {why}: {text[:80]!r}") from None
-    if said is None or count != len(faults):
-        raise Refused(f"Cut {number}: no totals, or not each of the faults that they count")
-    return said
-
-
-def fault_of(said, calls):
-    """A fault, with the places of its lines."""
-    it = SimpleNamespace(kind=said["fault"], **{
-        name: said.get(name) for name in ("reason", "known", "late", "means")})
-    for name in ROLES:
-        setattr(it, name, place_of(said.get(name), calls))
-    needed = [getattr(it, name) for name in ("at", *NEEDED.get(it.reason, ()))]
-    if None in needed or it.kind not in FAULTS or it.reason not in REASONS:
-        raise ValueError
-    it.first = it.first if it.late else None
-    it.knower = it.at if it.reported is None else it.reported
-    it.other = it.drawn if it.reported is None else it.reported
-    return it
-
-
-def place_of(said, calls):
-    """The place of a line that an object has as the log has it; of none, None."""
-    if said is None:
-        return None
-    place = range(1, len(calls) + 1).index(said["line"])
-    it = calls[place]
-    wanted = {"client": it.client, it.kind: it.value, "began": it.began, "ended": it.ended}
-    if any(said.get(name) != value for name, value in wanted.items()):
-        raise ValueError
-    return place
+NOTES_OF_WATCH = """A watch tells stale reads and commit versions that are too low, and no other
+fault. 'At least' so late: what it no longer keeps may have ended before."""
+NOTES_WHILE_WATCHED = """What is known to all is not drawn, as the watch has not said yet by which
+margin it judges."""
+# Of lines that a watch refused so many are named; and of so many pairs of calls it is found at once
+# whether the one was known to the other's client.
+MOST_NAMED, AT_ONCE = 10, 4_096
 
 
 class Log:
     """The calls of a log, with what was said of them; its sentences are the audit's own."""
 
     def __init__(self, texts, said):
-        self.calls = calls_of(texts)
-        self.said = said_of(said, self.calls)
+        self.said, self.count = Said(said), len(texts)
+        self.asked = self.said.asked
+        self.calls, self.refused = calls_of(texts, self.asked.key, self.said.is_watched)
+        self.faults = self.said.faults_of(self.calls, self.count)
         self.has_times = bool(self.calls) and self.calls[0].has_times
+        self.heard, self.learns = (set(), {}) if self.has_times else (self.heard_of(), self.told())
         lines = [self.line(at) for at in range(len(self.calls))]
-        known = (known_by_time(lines, self.said.margin, self.said.start) if self.has_times
-                 else known_by_telling(lines, self.said.start))
         knew = " Known{} before it: {}."
         self.lines = [it._replace(words=it.words + knew.format(
             " or drawn" * (it.kind in DRAWING), version) * (version > 0 and it.kind != "learn"))
-            for it, version in zip(lines, known)]
+            for it, version in zip(lines, self.known(lines))]
+
+    def known(self, lines):
+        """What each call knew, as far as that can be said."""
+        if self.asked.margin is None:
+            return [0] * len(lines)
+        if self.has_times:
+            return known_by_time(lines, self.asked.margin, self.asked.start)
+        return known_by_telling(lines, self.asked.start)
 
     def line(self, at):
         it, is_learn = self.calls[at], self.calls[at].kind == "learn"
@@ -179,14 +68,17 @@ class Log:
         did = KINDS[it.kind][2].format(value) + self.beside(at)
         return Line(
             it.client, it.kind, f"from {shown(it.value)}" if is_learn else str(it.value), began,
-            ended, f"line {at + 1}", f"Line {at + 1}: {caller} {did}{when}.",
-            "" if is_learn else it.kind, 0 if is_learn else it.value, it.source,
-            str(it.said[self.said.key]) if self.said.key in it.said else None)
+            ended, self.name(at), f"{self.name(at).capitalize()}: {caller} {did}{when}.",
+            "" if is_learn else it.kind, 0 if is_learn else it.value, it.source, it.key)
+
+    def name(self, at):
+        return f"line {self.calls[at].number}"
 
     def beside(self, at):
-        said = self.calls[at].said
-        of = lambda name: str(said[name]) if name == self.said.key else said[name]
-        return "".join(f" {quoted(it)}:{quoted(of(it))}" for it in self.said.members if it in said)
+        it = self.calls[at]
+        of = lambda name: it.key if name == self.asked.key else it.said[name]
+        return "".join(f" {quoted(name)}:{quoted(of(name))}" for name in self.asked.members
+                       if name in it.said)
 
     def caller(self, at):
         client = self.calls[at].client
@@ -195,11 +87,11 @@ class Log:
     def mention(self, at):
         it = self.calls[at]
         client = "" if it.client is None else f"{self.caller(at)}, "
-        return f"line {at + 1} ({client}{it.kind} {it.value}{self.beside(at)})"
+        return f"{self.name(at)} ({client}{it.kind} {it.value}{self.beside(at)})"
 
     def ended(self, at, other):
         ago = self.calls[other].began - self.calls[at].ended
-        return f"{self.mention(at)} had ended {ago:,} before line {other + 1} began"
+        return f"{self.mention(at)} had ended {ago:,} before {self.name(other)} began"
 
     def way(self, it):
         """How a version was known."""
@@ -208,7 +100,7 @@ class Log:
         if it.means == "own":
             return f"{self.mention(it.by)} is an earlier call of its client"
         if it.means == "learnt":
-            return f"line {it.teller + 1} had learnt of {self.mention(it.by)}"
+            return f"{self.name(it.teller)} had learnt of {self.mention(it.by)}"
         return self.ended(it.by, it.knower)
 
     def reason(self, it):
@@ -221,60 +113,136 @@ class Log:
         return f"{self.caller(it.at)} {verb} {call.value}{self.beside(it.at)}, " + said.format(
             known=it.known, way=self.way(it), other=it.other is not None and self.mention(it.other),
             late="but " if is_told else (
-                f"{it.late:,} too late: {self.ended(it.first, it.at)}, and "))
+                f"{late_by(it)}: {self.ended(it.first, it.at)}, and "))
 
     def fault(self, it):
-        (plain, means), learns = FAULTS[it.kind], self.told(it)
+        (plain, means), learns = FAULTS[it.kind], self.learns.get((it.by, it.teller), [])
         way = [] if it.by is None else [it.by, *learns, it.knower]
         named = {name: [getattr(it, name)] for name in ROLES} | {"teller": learns}
         roles = {at: ROLES[name].format(known=it.known)
                  for name, its in named.items() for at in its if at is not None}
-        ended = lambda at: math.inf if self.lines[at].ended is None else self.lines[at].ended
-        links = [(*both, ended(both[0]) <= self.lines[both[1]].began) for both in zip(way, way[1:])]
-        links += [(it.other, it.at, False)] * (it.other is not None and it.by != it.at)
+        links = [(*both, True) for both in zip(way, way[1:])]
+        if any(self.lines[one].ended > self.lines[other].began for one, other, _ in links):
+            raise ValueError
+        if it.other is not None and it.by != it.at:
+            links += filter(None, [self.link(it.other, it.at)])
         return Fault(
-            f"{plain} at line {it.at + 1}", f"{means} ({it.kind})", self.reason(it), it.at, roles,
-            links, None if it.known is None else str(it.known), it.knower,
-            f"{it.late:,} too late" if it.late else "", it.first)
+            f"{plain} at {self.name(it.at)}", f"{means} ({it.kind})", self.reason(it), it.at, roles,
+            links, None if it.known is None else str(it.known), it.knower, late_by(it), it.is_least,
+            it.first)
 
-    def told(self, it):
-        """The learns by which what a line showed came to another, the last of them that one."""
-        found = [] if it.teller is None else [it.teller]
-        came = {} if it.teller is None else {self.calls[it.by].client: None}
-        for at in range(it.by + 1, it.teller) if found else ():
-            if self.calls[at].kind == "learn" and self.calls[at].value in came:
-                came.setdefault(self.calls[at].client, at)
-        while found and (last := came.get(self.calls[found[0]].value)) is not None:
-            found.insert(0, last)
+    def link(self, one, other):
+        """What joins two calls: from the one that came before, if one did; None if that is not
+        known."""
+        for both in ((one, other), (other, one)):
+            if self.had_ended(*both) if self.has_times else both in self.heard:
+                return (*both, True)
+        its = [self.lines[it] for it in (one, other)]
+        # One whose end is not known may have ended as it began, and within the margin one may have
+        # come before.
+        is_sure = not self.has_times or max(it.began for it in its) <= min(map(end_of, its))
+        return (one, other, False) if is_sure else None
+
+    def had_ended(self, one, other):
+        """Whether a call came before another, by their times."""
+        ended, is_own = self.lines[one].ended, self.calls[one].client == self.calls[other].client
+        is_own = is_own and self.calls[one].client is not None
+        return ended is not None and (
+            ended + (self.asked.margin or 0) < self.lines[other].began
+            or is_own and (ended, one) < (self.lines[other].began, other))
+
+    def heard_of(self):
+        """Of the faults' calls and the others that they name those pairs of which the client of the
+        second knew of the first: it was its own, or it had learnt of it."""
+        pairs = [sorted((it.at, it.other)) for it in self.faults if it.other is not None]
+        found = set()
+        for first in range(0, len(pairs), AT_ONCE):
+            asked, bits, knows = defaultdict(list), {}, defaultdict(int)
+            for one, other in pairs[first:first + AT_ONCE]:
+                asked[other].append(one)
+                bits.setdefault(one, 1 << len(bits))
+            for at, it in enumerate(self.calls):
+                found.update((one, at) for one in asked.get(at, ()) if knows[it.client] & bits[one])
+                told = knows[it.value] if it.kind == "learn" else 0
+                knows[it.client] |= told | bits.get(at, 0)
+        return found
+
+    def told(self):
+        """Of each teller of what a line showed the learns by which it came there, that one last."""
+        found, learns = {}, [at for at, it in enumerate(self.calls) if it.kind == "learn"]
+        tellers = defaultdict(set)
+        for it in self.faults:
+            if None not in (it.by, it.teller):
+                tellers[it.by].add(it.teller)
+        for by, its in tellers.items():
+            came = {self.calls[by].client: None}
+            for at in learns[bisect_right(learns, by):bisect_right(learns, max(its))]:
+                if self.calls[at].value in came:
+                    came.setdefault(self.calls[at].client, at)
+            for teller in its:
+                way = [teller]
+                while (last := came.get(self.calls[way[-1]].value)) is not None:
+                    way.append(last)
+                found[by, teller] = way[::-1]
         return found
 
     def bands(self):
         """Where what is known to all rises, by key; without times nothing is known to all."""
-        margin, of = self.said.margin, {it.key: [] for it in self.lines} or {None: []}
+        margin, of = self.asked.margin, {it.key: [] for it in self.lines} or {None: []}
         first = min((it.began for it in self.lines), default=0)
-        for it in self.lines if self.has_times else ():
+        for it in self.lines if self.has_times and margin is not None else ():
             if it.counts in SHOWING and it.ended is not None:
                 why = f"{it.name} had ended{f' {margin:,} before' if margin else ''}"
                 of[it.key].append((it.ended + margin, it.version, why))
-        start = (first, self.said.start, START)
-        is_told = self.has_times and self.said.complete is not None
+        start = (first, self.asked.start, START)
+        is_told = self.has_times and self.asked.complete is not None
         return {key: rising([start] * is_told + moments) for key, moments in of.items()}
 
-    def drawing(self, name):
-        margin, kinds = self.said.margin, [it.kind for it in self.calls]
+    def notes(self):
+        margin, is_watched = self.asked.margin, self.said.is_watched
         by_time = NOTES_OF_TIME.format(f"{margin:,} (the margin) behind" if margin else "at")
         notes = [by_time if self.has_times else NOTES_OF_TELLING, NOTES]
-        by_key = f"; each {shown(self.said.key)} is judged by itself" * self.said.by_key
-        notes += [NOTES_BY_KEY] * self.said.by_key
-        count, faults = len(self.said.faults), []
-        for number, it in self.said.faults:
+        notes[:1] = [NOTES_WHILE_WATCHED] if margin is None else notes[:1]
+        return notes + [NOTES_BY_KEY] * self.asked.by_key + [NOTES_OF_WATCH] * is_watched
+
+    def account(self):
+        """What was found, and of a watch how far it came."""
+        kinds, count, asked = [it.kind for it in self.calls], len(self.faults), self.asked
+        told = [counted(kinds.count(it), it) for it in KINDS if it in kinds] or ["no lines"]
+        by_key = f"; each {shown(asked.key)} is judged by itself" * asked.by_key
+        found = counted(count, "fault") if count else "No fault"
+        by_watch = " told by a watch" * self.said.is_watched
+        said = [f"{found}{by_watch} in {', '.join(told)}{by_key}."]
+        return "\n".join(said + [*self.watch()] * self.said.is_watched)
+
+    def watch(self):
+        """How far a watch came: what it left out, what it did not read, and what it counted."""
+        early, read = self.said.total("early"), self.said.lines_read()
+        if self.refused:
+            numbers = ", ".join(map(str, self.refused[:MOST_NAMED]))
+            more = ", .." * (len(self.refused) > MOST_NAMED)
+            yield f"{counted(len(self.refused), 'refused line')} left out: {numbers}{more}."
+        if early:
+            yield f"{counted(early, 'line')} came early, and may not have been judged."
+        if not self.said.is_ended:
+            yield "The watch had not ended: some of the lines were not judged yet."
+        elif read < self.count:
+            yield f"It read {read:,} of the log's {counted(self.count, 'line')}."
+        if self.said.watched:
+            yield f"While it ran it counted, at last: {', '.join(self.said.watched)}."
+
+    def drawing(self, name):
+        faults = []
+        for it in self.faults:
             try:
                 faults.append(self.fault(it))
             except NO_SUCH:
-                raise Refused(f"BadVerdict {number}: a fault without what it needs") from None
-        told = [counted(kinds.count(it), it) for it in KINDS if it in kinds] or ["no lines"]
-        return Drawing(
-            heading("log", self.lines, name),
-            f"{counted(count, 'fault') if count else 'No fault'} in {', '.join(told)}{by_key}.",
-            notes, "time" if self.has_times else "order", self.lines, [], self.bands(), faults,
-            KINDS)
+                raise Refused(f"BadVerdict {it.number}: a fault without what it needs") from None
+        return Drawing(heading("log", self.lines, name), self.account(), self.notes(),
+                       "time" if self.has_times else "order", self.lines, [], self.bands(), faults,
+                       KINDS)
+
+
+def late_by(it):
+    """How late a call was, by an end that may not be the first to make it so."""
+    return f"{'at least ' * it.is_least}{it.late:,} too late" if it.late else ""

@@ -166,9 +166,9 @@ function facing(drawing, one, two) {
 
 // How late a call was, as a length below the axis: from the end that made it late to its begin.
 function lateShapes(drawing, view, x, middle, top) {
-  const { at, first, late } = faultOf(drawing, view);
+  const { at, first, late, is_least: isLeast } = faultOf(drawing, view);
   const moment = (drawing.origin ? "+" : "") + grouped(drawing.right[first]);
-  const outdated = `outdated at ${moment}: ${late}`, long = `${drawing.label[at]} was ${outdated}`;
+  const outdated = `outdated ${isLeast ? "by" : "at"} ${moment}: ${late}`, long = `${drawing.label[at]} was ${outdated}`;
   const text = long.length * BOLD <= view.width ? long : outdated, half = (text.length * BOLD) / 2;
   const [from, to] = [x(drawing.right[first]), x(drawing.left[at])].map(round);
   const about = Math.max(half, Math.min(view.width - half, (from + to) / 2));

@@ -1,20 +1,31 @@
 -- The lines that are taken, of those that were read, and the numbers under which they are printed.
-use Rattle.std.proofs.Common.{◌≡◌, ◌∙◌, ℕ, zero, suc, ◌+◌, ◌-◌, ◌<◌, ◌≤◌, Bool, true, false, cond, List, [], ◌∷◌, ◌++◌, Option, Result, Ok, Err, ap, arith, count_by, get_or, length, map, nat_le, refl, slice_get, slice_index, subst, sym, take}
+use Rattle.std.proofs.Common.{◌≡◌, ◌∙◌, ℕ, zero, suc, ◌+◌, ◌-◌, ◌^◌, ◌<◌, ◌≤◌, Bool, true, false, cond, List, [], ◌∷◌, ◌++◌, Option, None, Some, Result, Ok, Err, ap, arith, count_by, drop, get_or, inl, inr, length, length-drop, map, max, min, nat_le, nat_lt, refl, slice_get, subst, sym, take}
+use Rattle.std.specs.Option.{option_or}
 use Rattle.std.specs.Prelude.{unwrap_or}
 use Rattle.std.specs.List.{All}
-use Rattle.std.specs.List.Sorted.{IsNonDecreasingBy, IsPartitionPoint}
+use Rattle.std.specs.List.Sorted.{IsPartitionPoint}
 use Rattle.std.proofs.lemmas.List.{get_or_append_left, get_or_push, length-map, length_push, map_push, take_more}
-use Rattle.std.proofs.lemmas.List.Elements.{All-append, All-cons, All-nil, All-tail, All-weaker}
-use Rattle.std.proofs.lemmas.List.Sorted.{IsNonDecreasingBy-push}
-use Rattle.std.proofs.lemmas.List.Sums.{sum_by-cons}
-use Rattle.fdb_lines.specs.Keys.{key_at, places_below, places_of, same_key}
+use Rattle.std.proofs.lemmas.Bool.{cases_lt}
+use Rattle.std.proofs.lemmas.Bool.Decides.{nat_tests}
+use Rattle.std.proofs.lemmas.List.Sums.{count_by-le-length, sum_by-append, sum_by-cons}
+use Rattle.fdb_lines.specs.declared.fault.Found.{Found}
+use Rattle.fdb_lines.specs.declared.key_watch.KeyWatch.{KeyWatch}
+use Rattle.fdb_lines.specs.declared.line.Line.{Line}
+use Rattle.fdb_lines.specs.Before.{began, ended}
 use Rattle.fdb_lines.specs.KeyWatch.{HasSeenByKey}
+use Rattle.fdb_lines.specs.Lines.{Kind, is_ask, is_commit, is_read, is_report, kind_of}
+use Rattle.fdb_lines.specs.Summary.{how_many}
+use Rattle.fdb_lines.specs.ToldByKey.{HasTold}
+use Rattle.fdb_log_reader.specs.declared.error.ReadError.{ReadError}
 use Rattle.fdb_log_reader.specs.declared.error.Why.{Why}
+use Rattle.fdb_log_reader.specs.declared.error.Why.TheVariants.{Empty}
 use Rattle.fdb_log_reader.specs.ReadLine.{SaidLine}
+use Rattle.fdb_audit.specs.declared.counts.Counts.{Counts}
 use Rattle.fdb_audit.specs.declared.numbering.Numbering.{Numbering}
 use Rattle.fdb_audit.specs.declared.taking.Taking.{Taking}
-use Rattle.fdb_audit.specs.Following.{KeptNumbers, keys_taken, lines_taken, number_in, taken, taken_above}
-use Rattle.fdb_audit.specs.Taken.{AreTaken, kept_by}
+use Rattle.fdb_audit.specs.Following.{KeptNumbers, Start, keys_taken, last_refused, left_out, lines_since, lines_taken, newest_end, no_line, number_in, out_of_reach, taken, taken_above}
+use Rattle.fdb_audit.specs.Taken.{AreCounted, AreTaken, IsInReach, kept_by}
+use Rattle.fdb_audit.specs.private.Followed.{one_more}
 use Rattle.fdb_audit.specs.private.Numbering.{AreNumbersOf}
 
 -- ---- with one more line
@@ -60,27 +71,188 @@ counted above [] = refl
 counted above (Ok said ∷ read) = let rest = counted (above + 1) read in omega arith
 counted above (Err why ∷ read) = let rest = counted above read in omega arith
 
--- no more are taken above a line than all
-pub above_within : (above : ℕ) (read : List (Result SaidLine Why)) → All (λ one. one ≤ above + length (taken read)) (taken_above above read)
-above_within above [] = All-nil (λ one. one ≤ above + 0)
-above_within above (Ok said ∷ read) =
-    All-weaker (λ one. one ≤ (above + 1) + length (taken read)) (λ one. one ≤ above + length (said ∷ taken read)) (λ one le. omega (arith, le))
-    (taken_above (above + 1) read) (above_within (above + 1) read)
-above_within above (Err why ∷ read) =
-    All-cons (λ one. one ≤ above + length (taken read)) above (taken_above above read) (omega arith) (above_within above read)
+-- ---- of those that came since, with one more line
+
+drop_on : {X : Type 0} (n : ℕ) (xs ys : List X) → n ≤ length xs → drop n (xs ++ ys) ≡ drop n xs ++ ys
+drop_on zero xs ys le = refl
+drop_on (suc n) [] ys le = absurd (omega (arith, le))
+drop_on (suc n) (x ∷ xs) ys le = drop_on n xs ys (omega (arith, le))
+
+since_more : (start : Start) (read : List (Result SaidLine Why)) (said : SaidLine) → start.lines ≤ length read → lines_since start (read ++ Ok said ∷ []) ≡ lines_since start read ++ said.line ∷ []
+since_more start read said le = ap lines_taken (drop_on start.lines read (Ok said ∷ []) le) ∙ lines_more (drop start.lines read) said
+
+since_same : (start : Start) (read : List (Result SaidLine Why)) (why : Why) → start.lines ≤ length read → lines_since start (read ++ Err why ∷ []) ≡ lines_since start read
+since_same start read why le = ap lines_taken (drop_on start.lines read (Err why ∷ []) le) ∙ lines_same (drop start.lines read) why
+
+since_few : (start : Start) (read : List (Result SaidLine Why)) → length (lines_since start read) ≤ length read
+since_few start read =
+    let part = drop start.lines read in
+    let one = length-map (taken part) (λ (said : SaidLine). said.line) in
+    let two = counted 0 part in
+    let three = length-drop start.lines read in
+    omega (arith, one, two, three)
+
+-- ---- the last that is refused
+
+abbrev error_at : ℕ → Why → ReadError
+error_at number why = record { line = number; why = why }
+
+last_more : (number : ℕ) (last : Option ReadError) (read : List (Result SaidLine Why)) (why : Why)
+    → last_refused number last (read ++ Err why ∷ []) ≡ Some (error_at (number + length read) why)
+last_more number last [] why = let same : number ≡ number + 0 = omega arith in ap (λ n. Some (error_at n why)) same
+last_more number last (Ok said ∷ read) why =
+    let same : (number + 1) + length read ≡ number + length (Ok said ∷ read) = omega arith in
+    last_more (number + 1) last read why ∙ ap (λ n. Some (error_at n why)) same
+last_more number last (Err other ∷ read) why =
+    let same : (number + 1) + length read ≡ number + length (Err other ∷ read) = omega arith in
+    last_more (number + 1) (Some (error_at number other)) read why ∙ ap (λ n. Some (error_at n why)) same
+
+last_same : (number : ℕ) (last : Option ReadError) (read : List (Result SaidLine Why)) (said : SaidLine) → last_refused number last (read ++ Ok said ∷ []) ≡ last_refused number last read
+last_same number last [] said = refl
+last_same number last (Ok other ∷ read) said = last_same (number + 1) last read said
+last_same number last (Err why ∷ read) said = last_same (number + 1) (Some (error_at number why)) read said
+
+last_of_none : (above number : ℕ) (last : Option ReadError) (read : List (Result SaidLine Why)) → length (taken_above above read) ≡ 0 → last_refused number last read ≡ last
+last_of_none above number last [] none = refl
+last_of_none above number last (Ok said ∷ read) none = last_of_none (above + 1) (number + 1) last read none
+last_of_none above number last (Err why ∷ read) none = absurd (omega (arith, none))
+
+last_of_some : (number : ℕ) (one : ReadError) (read : List (Result SaidLine Why)) → (it : ReadError) × (last_refused number (Some one) read ≡ Some it)
+last_of_some number one [] = (one, refl)
+last_of_some number one (Ok said ∷ read) = last_of_some (number + 1) one read
+last_of_some number one (Err why ∷ read) = last_of_some (number + 1) (error_at number why) read
+
+last_there : (above number : ℕ) (last : Option ReadError) (read : List (Result SaidLine Why)) → 0 < length (taken_above above read)
+    → (it : ReadError) × (last_refused number last read ≡ Some it)
+last_there above number last [] some = absurd (omega (arith, some))
+last_there above number last (Ok said ∷ read) some = last_there (above + 1) (number + 1) last read some
+last_there above number last (Err why ∷ read) some = last_of_some (number + 1) (error_at number why) read
+
+some_taken : (list : List SaidLine) → 0 < length list → no_line list ≡ None
+some_taken [] some = absurd (omega (arith, some))
+some_taken (said ∷ list) some = refl
+
+none_taken : (list : List SaidLine) → length list ≡ 0 → no_line list ≡ Some (error_at 0 Empty)
+none_taken [] none = refl
+none_taken (said ∷ list) none = absurd (omega (arith, none))
+
+-- nothing is left out
+pub nothing_left : (kept : KeptNumbers) (read : List (Result SaidLine Why)) → 0 < length (taken read) → length (taken_above 0 read) ≡ 0 → left_out kept read ≡ None
+nothing_left kept read some none =
+    ap (λ (last : Option ReadError). option_or last (no_line (taken read))) (last_of_none 0 (kept.more + 1) None read none) ∙ some_taken (taken read) some
+
+-- or the last that is refused is told, or that there is none
+pub left_is : (kept : KeptNumbers) (read : List (Result SaidLine Why)) (refused : Option ReadError) (none : ReadError) → none ≡ error_at 0 Empty
+    → refused ≡ last_refused (kept.more + 1) None read → (length (taken_above 0 read) ≡ 0 → length (taken read) ≡ 0)
+    → Some (unwrap_or refused none) ≡ left_out kept read
+left_is kept read refused none is last only = elim (cases_lt 0 (length (taken_above 0 read))) [
+  | inl some ↦
+      let it = last_there 0 (kept.more + 1) None read some in
+      ap (λ (o : Option ReadError). Some (unwrap_or o none)) (last ∙ it.1) ∙ sym (ap (λ (o : Option ReadError). option_or o (no_line (taken read))) it.1)
+  | inr ge ↦
+      let zero_of : length (taken_above 0 read) ≡ 0 = omega (arith, ge) in
+      let gone = last_of_none 0 (kept.more + 1) None read zero_of in
+      ap (λ (o : Option ReadError). Some (unwrap_or o none)) (last ∙ gone)
+      ∙ (ap (λ (it : ReadError). Some it) is
+      ∙ (sym (none_taken (taken read) (only zero_of)) ∙ sym (ap (λ (o : Option ReadError). option_or o (no_line (taken read))) gone)))
+]
+
+-- ---- the counts, with one more line
+
+one_kind : (is : Kind → Bool) (lines : List Line) (line : Line) (count : ℕ) (b : Bool) → is (kind_of line.call) ≡ b → length lines + 1 < 2 ^ 64 → count ≡ how_many is lines
+    → one_more b count ≡ how_many is (lines ++ line ∷ [])
+one_kind is lines line count b same few all =
+    let test = λ (one : Line). is (kind_of one.call) in
+    let f = λ (one : Line). cond {A = ℕ} (test one) 1 0 in
+    let sum = sum_by-append f lines (line ∷ []) in
+    let last = sum_by-cons f line [] in
+    let here : f line ≡ cond b 1 0 = ap (λ it. cond {A = ℕ} it 1 0) same in
+    let most = count_by-le-length test lines in
+    by b few all here sum last most
+  where
+    by : (b : Bool) → length lines + 1 < 2 ^ 64 → count ≡ how_many is lines → cond {A = ℕ} (is (kind_of line.call)) 1 0 ≡ cond b 1 0
+        → how_many is (lines ++ line ∷ []) ≡ how_many is lines + how_many is (line ∷ []) → how_many is (line ∷ []) ≡ cond {A = ℕ} (is (kind_of line.call)) 1 0 + how_many is []
+        → how_many is lines ≤ length lines → one_more b count ≡ how_many is (lines ++ line ∷ [])
+    by true few all here sum last most = omega (arith, few, all, here, sum, last, most)
+    by false few all here sum last most = omega (arith, few, all, here, sum, last, most)
+
+pub counts_more : (old new : Counts) (lines : List Line) (line : Line) → length lines + 1 < 2 ^ 64 → AreCounted old lines → new.lines ≡ min (old.lines + 1) (2 ^ 64 - 1)
+    → new.reads ≡ one_more (is_read (kind_of line.call)) old.reads → new.commits ≡ one_more (is_commit (kind_of line.call)) old.commits
+    → new.asks ≡ one_more (is_ask (kind_of line.call)) old.asks → new.reports ≡ one_more (is_report (kind_of line.call)) old.reports → AreCounted new (lines ++ line ∷ [])
+counts_more old new lines line few are all reads commits asks reports = record {
+  lines = (let size = length_push lines line in let was = are.lines in omega (arith, all, size, was, few));
+  reads = reads ∙ one_kind is_read lines line old.reads (is_read (kind_of line.call)) refl few are.reads;
+  commits = commits ∙ one_kind is_commit lines line old.commits (is_commit (kind_of line.call)) refl few are.commits;
+  asks = asks ∙ one_kind is_ask lines line old.asks (is_ask (kind_of line.call)) refl few are.asks;
+  reports = reports ∙ one_kind is_report lines line old.reports (is_report (kind_of line.call)) refl few are.reports;
+}
 
 -- ---- what is held of them, with one more line
 
-pub takes : (kept : KeptNumbers) (old new : Taking) (read : List (Result SaidLine Why)) (said : SaidLine) → AreTaken kept old read
+none_early : (b : Bool) (count : ℕ) → one_more b count ≡ 0 → (b ≡ false) × (count ≡ 0)
+none_early true count none = absurd (omega (arith, none))
+none_early false count none = (refl, none)
+
+in_time : (began from : ℕ) → nat_lt began from ≡ false → from ≤ began
+in_time began from late = grind (arith, nat_tests)
+
+newest_more : (newest : ℕ) (lines : List Line) (line : Line) → newest_end newest (lines ++ line ∷ []) ≡ max (newest_end newest lines) (unwrap_or (ended line) 0)
+newest_more newest [] line = refl
+newest_more newest (one ∷ lines) line = newest_more (max newest (unwrap_or (ended one) 0)) lines line
+
+reach_more : (behind newest : ℕ) (lines : List Line) (line : Line)
+    → out_of_reach behind newest (lines ++ line ∷ []) ≡ out_of_reach behind newest lines + cond (nat_lt (began line + behind) (newest_end newest lines)) 1 0
+reach_more behind newest [] line = let n = cond {A = ℕ} (nat_lt (began line + behind) newest) 1 0 in omega arith
+reach_more behind newest (one ∷ lines) line =
+    let rest = reach_more behind (max newest (unwrap_or (ended one) 0)) lines line in
+    let first = cond {A = ℕ} (nat_lt (began one + behind) newest) 1 0 in
+    omega (arith, rest)
+
+-- one more that came early began out of reach
+early_more : (behind newest from began count many : ℕ) → from ≤ newest - behind → count ≤ many
+    → one_more (nat_lt began from) count ≤ many + cond (nat_lt (began + behind) newest) 1 0
+early_more behind newest from began count many low le = by (nat_lt began from) refl
+  where
+    by : (b : Bool) → nat_lt began from ≡ b → one_more b count ≤ many + cond {A = ℕ} (nat_lt (began + behind) newest) 1 0
+    by false is = omega (arith, le)
+    by true is =
+        let before : began < from = grind (arith, nat_tests) in
+        let out : nat_lt (began + behind) newest ≡ true = (let far : began + behind < newest = omega (arith, before, low) in grind (arith, nat_tests)) in
+        let one : cond {A = ℕ} (nat_lt (began + behind) newest) 1 0 ≡ 1 = ap (λ b. cond {A = ℕ} b 1 0) out in
+        omega (arith, one, le)
+
+in_reach_more : (behind : ℕ) (old new : Taking) (lines : List Line) (line : Line) → IsInReach behind old lines → new.newest ≡ max old.newest (unwrap_or (ended line) 0)
+    → new.watch.from ≡ old.watch.from → new.counts.early ≡ one_more (nat_lt (began line) old.watch.from) old.counts.early → IsInReach behind new (lines ++ line ∷ [])
+in_reach_more behind old new lines line is newest from early =
+    let was = is.newest in
+    let low = is.from in
+    let le = is.early in
+    let more = early_more behind old.newest old.watch.from (began line) old.counts.early (out_of_reach behind 0 lines) low le in
+    let out = reach_more behind 0 lines line in
+    let same : cond {A = ℕ} (nat_lt (began line + behind) old.newest) 1 0 ≡ cond {A = ℕ} (nat_lt (began line + behind) (newest_end 0 lines)) 1 0 =
+    ap (λ n. cond {A = ℕ} (nat_lt (began line + behind) n) 1 0) was in
+    record {
+      newest = newest ∙ (ap (λ n. max n (unwrap_or (ended line) 0)) was ∙ sym (newest_more 0 lines line));
+      from = omega (arith, newest, from, low);
+      early = omega (arith, early, more, out, same);
+    }
+
+pub takes : (start : Start) (old new : Taking) (read : List (Result SaidLine Why)) (said : SaidLine) (told : List Found) → AreTaken start old read told
     → old.taken + old.numbering.more + length old.numbering.above.items < 18446744073709551614
     → HasSeenByKey new.watch (lines_taken read ++ said.line ∷ []) (keys_taken read ++ said.key ∷ [])
-    → new.numbering ≡ old.numbering → new.taken ≡ old.taken + 1
-    → AreTaken kept new (read ++ Ok said ∷ [])
-takes kept old new read said are room seen numbering count =
+    → new.numbering ≡ old.numbering → new.taken ≡ old.taken + 1 → new.refused ≡ old.refused
+    → ((lines : List Line) → length lines + 1 < 2 ^ 64 → AreCounted old.counts lines → AreCounted new.counts (lines ++ said.line ∷ []))
+    → new.counts.early ≡ one_more (nat_lt (began said.line) old.watch.from) old.counts.early
+    → new.newest ≡ max old.newest (unwrap_or (ended said.line) 0) → new.watch.from ≡ old.watch.from
+    → (HasTold old.watch (lines_taken read) (keys_taken read) told → old.watch.from ≤ began said.line
+    → HasTold new.watch (lines_taken read ++ said.line ∷ []) (keys_taken read ++ said.key ∷ []) told)
+    → AreTaken start new (read ++ Ok said ∷ []) told
+takes start old new read said told are room seen numbering count refused counts early newest from tells =
     let more = read ++ Ok said ∷ [] in
     let all = counted 0 read in
-    let refused = ap length are.numbered.above in
+    let above = ap length are.numbered.above in
     let size = length_push read (Ok said) in
+    let few = are.numbered.few in
     record {
       seen = subst (λ lines. HasSeenByKey new.watch lines (keys_taken more)) (sym (lines_more read said))
           (subst (HasSeenByKey new.watch (lines_taken read ++ said.line ∷ [])) (sym (keys_more read said)) seen);
@@ -90,18 +262,34 @@ takes kept old new read said are room seen numbering count =
         few = (let was = are.count in let more = ap (λ (kept : KeptNumbers). kept.more) are.numbered.front in omega arith);
       };
       count = count ∙ (ap (λ n. n + 1) are.count ∙ (sym (length_push (taken read) said) ∙ ap length (sym (taken_more read said))));
+      refused = refused ∙ (are.refused ∙ sym (last_same (start.numbers.more + 1) None read said));
+      counted = subst (AreCounted new.counts) (sym (since_more start read said are.few))
+          (counts (lines_since start read) (let least = since_few start read in omega (arith, least, few)) are.counted);
+      few = (let was = are.few in omega (arith, was, size));
+      before = are.before;
+      reach = λ anew. subst (IsInReach start.behind new) (sym (lines_more read said)) (in_reach_more start.behind old new (lines_taken read) said.line (are.reach anew) newest from early);
+      once = λ none_before none.
+          let is = none_early (nat_lt (began said.line) old.watch.from) old.counts.early (sym early ∙ none) in
+          subst (λ lines. HasTold new.watch lines (keys_taken more) told) (sym (lines_more read said))
+          (subst (λ keys. HasTold new.watch (lines_taken read ++ said.line ∷ []) keys told) (sym (keys_more read said))
+          (tells (are.once none_before is.1) (in_time (began said.line) old.watch.from is.0)));
     }
 
-pub leaves_out : (kept : KeptNumbers) (old new : Taking) (read : List (Result SaidLine Why)) (why : Why) → AreTaken kept old read
+pub leaves_out : (start : Start) (old new : Taking) (read : List (Result SaidLine Why)) (why : Why) (told : List Found) (number : ℕ) → AreTaken start old read told
     → old.taken + old.numbering.more + length old.numbering.above.items < 18446744073709551614
     → new.watch ≡ old.watch → new.numbering.above.items ≡ old.numbering.above.items ++ old.taken ∷ [] → kept_by new.numbering ≡ kept_by old.numbering
-    → new.taken ≡ old.taken → AreTaken kept new (read ++ Err why ∷ [])
-leaves_out kept old new read why are room watch above same count =
+    → new.taken ≡ old.taken → new.counts ≡ old.counts → new.refused ≡ Some (record { line = number; why = why })
+    → number ≡ min (new.taken + new.numbering.more + length new.numbering.above.items) (2 ^ 64 - 1) → new.newest ≡ old.newest
+    → AreTaken start new (read ++ Err why ∷ []) told
+leaves_out start old new read why told number are room watch above same count counts refused is newest =
     let more = read ++ Err why ∷ [] in
     let all = counted 0 read in
-    let refused = ap length are.numbered.above in
+    let was_above = ap length are.numbered.above in
     let size = length_push read (Err why) in
     let from_none : length (taken read) ≡ 0 + length (taken read) = omega arith in
+    let longer = ap length above ∙ length_push old.numbering.above.items old.taken in
+    let more_is = ap (λ (kept : KeptNumbers). kept.more) are.numbered.front in
+    let more_same = ap (λ (kept : KeptNumbers). kept.more) same in
     record {
       seen = subst (λ lines. HasSeenByKey new.watch lines (keys_taken more)) (sym (lines_same read why))
           (subst (HasSeenByKey new.watch (lines_taken read)) (sym (keys_same read why))
@@ -110,17 +298,30 @@ leaves_out kept old new read why are room watch above same count =
         above = above ∙ (ap (λ part. part ++ old.taken ∷ []) are.numbered.above
             ∙ (ap (λ n. taken_above 0 read ++ n ∷ []) (are.count ∙ from_none) ∙ sym (above_more 0 read why)));
         front = same ∙ are.numbered.front;
-        few = (let was = are.count in let more = ap (λ (kept : KeptNumbers). kept.more) are.numbered.front in omega arith);
+        few = (let was = are.count in omega (arith, was, more_is, all, was_above, size, room));
       };
       count = count ∙ (are.count ∙ ap length (sym (taken_same read why)));
+      refused = refused ∙ (ap (λ n. Some (error_at n why))
+          (let was = are.count in let at : number ≡ start.numbers.more + 1 + length read = omega (arith, is, was, count, more_is, more_same, all, was_above, longer, room) in at)
+          ∙ sym (last_more (start.numbers.more + 1) None read why));
+      counted = subst (AreCounted new.counts) (sym (since_same start read why are.few)) (subst (λ counts. AreCounted counts (lines_since start read)) (sym counts) are.counted);
+      few = (let was = are.few in omega (arith, was, size));
+      before = are.before;
+      reach = λ anew.
+          let was = are.reach anew in
+          subst (IsInReach start.behind new) (sym (lines_same read why)) (record {
+            newest = newest ∙ was.newest;
+            from = (let low = was.from in let from = ap (λ (watch : KeyWatch). watch.from) watch in omega (arith, low, from, newest));
+            early = (let le = was.early in let early = ap (λ (counts : Counts). counts.early) counts in omega (arith, le, early));
+          });
+      once = λ none_before none.
+          subst (λ lines. HasTold new.watch lines (keys_taken more) told) (sym (lines_same read why))
+          (subst (λ keys. HasTold new.watch (lines_taken read) keys told) (sym (keys_same read why))
+          (subst (λ watch. HasTold watch (lines_taken read) (keys_taken read) told) (sym watch)
+          (are.once none_before (sym (ap (λ (counts : Counts). counts.early) counts) ∙ none))));
     }
 
 -- ---- the numbers of lines
-
--- what is above each never falls
-pub rises_on : (above : List ℕ) (taken : ℕ) → IsNonDecreasingBy (λ (one : ℕ). one) above → All (λ one. one ≤ taken) above
-    → IsNonDecreasingBy (λ (one : ℕ). one) (above ++ taken ∷ [])
-rises_on above taken up low = IsNonDecreasingBy-push (λ (one : ℕ). one) above taken up (λ d some. low (length above - 1) d (omega arith))
 
 -- those that pass come first, so many
 front_counted : {X : Type 0} (test : X → Bool) (xs : List X) (front : ℕ) → front ≤ length xs
@@ -157,35 +358,3 @@ numbers_more kept above places numbers more i place number lt at is pushed so_fa
     pushed ∙ (ap (λ part. part ++ number ∷ []) (so_far read same few front)
     ∙ (ap (λ n. map (number_in kept read) (take i places) ++ n ∷ []) one
     ∙ (sym (map_push (number_in kept read) (take i places) place) ∙ ap (map (number_in kept read)) (sym split))))
-
--- ---- the places of a key
-
-below_within : (keys : List (Option ℕ)) (key : Option ℕ) (n : ℕ) → All (λ place. place ≤ n) (places_below keys key n)
-below_within keys key zero = All-nil (λ place. place ≤ zero)
-below_within keys key (suc n) =
-    All-append (λ place. place ≤ suc n) (places_below keys key n) _
-    (All-weaker (λ place. place ≤ n) (λ place. place ≤ suc n) (λ place le. omega (arith, le)) (places_below keys key n) (below_within keys key n))
-    (last (same_key (key_at keys n) key))
-  where
-    last : (b : Bool) → All (λ place. place ≤ suc n) (cond b (n ∷ []) [])
-    last true = All-cons (λ place. place ≤ suc n) n [] (omega arith) (All-nil (λ place. place ≤ suc n))
-    last false = All-nil (λ place. place ≤ suc n)
-
-at_within : (bound : ℕ) (places : List ℕ) (k : ℕ) → All (λ place. place ≤ bound) places → slice_index places k ≤ bound
-at_within bound [] k all = omega arith
-at_within bound (place ∷ places) zero all = all 0 0 (omega arith)
-at_within bound (place ∷ places) (suc k) all = at_within bound places k (All-tail (λ place. place ≤ bound) place places all)
-
-maps_within : (bound : ℕ) (places kept : List ℕ) → All (λ place. place ≤ bound) places → All (λ place. place ≤ bound) (map (slice_index places) kept)
-maps_within bound places [] all = All-nil (λ place. place ≤ bound)
-maps_within bound places (k ∷ kept) all =
-    All-cons (λ place. place ≤ bound) (slice_index places k) (map (slice_index places) kept) (at_within bound places k all) (maps_within bound places kept all)
-
--- lines that a watch of a key has kept stand among those that were taken
-pub kept_within : (read : List (Result SaidLine Why)) (key : Option ℕ) (kept : List ℕ)
-    → All (λ place. place ≤ length (taken read)) (map (slice_index (places_of (keys_taken read) key)) kept)
-kept_within read key kept =
-    let keys = keys_taken read in
-    let size = length-map (taken read) (λ (said : SaidLine). said.key) in
-    maps_within (length (taken read)) (places_of keys key) kept
-    (All-weaker (λ place. place ≤ length keys) (λ place. place ≤ length (taken read)) (λ place le. omega (arith, le)) (places_of keys key) (below_within keys key (length keys)))

@@ -1,5 +1,5 @@
 -- The members that a text names, and those that are printed beside the calls.
-use Rattle.std.proofs.Common.{◌≡◌, ◌≢◌, ◌∙◌, ℕ, ◌<◌, ◌+◌, false, List, [], ◌∷◌, ◌++◌, ap, arith, get_or, length, refl, slice_index_or, suc, take, zero}
+use Rattle.std.proofs.Common.{◌≡◌, ◌≢◌, ℕ, ◌<◌, ◌+◌, false, List, [], ◌∷◌, ◌++◌, ap, arith, get_or, length, map, refl, string_bytes}
 use Rattle.std.proofs.lemmas.Bool.Decides.{nat_tests}
 use Rattle.std.proofs.lemmas.Grind.{common_steps}
 use Rattle.std.specs.List.{slice_split}
@@ -7,6 +7,8 @@ use Rattle.fdb_log_reader.specs.Columns.{ShownColumn}
 use Rattle.fdb_audit.specs.Judged.{AreBeside, IsBeside}
 use Rattle.fdb_audit.specs.Program.{is_comma}
 use Rattle.fdb_audit.specs.Text.{Beside}
+use Rattle.fdb_audit.specs.declared.beside.Column.{Column}
+use Rattle.fdb_audit.specs.private.{beside_of, members_of}
 
 -- ---- what stands between commas
 
@@ -29,13 +31,10 @@ first_part (byte ∷ text) more lacks = rw (head_is byte text lacks, first_part 
 
 -- ---- members beside the calls
 
-take_suc : {X : Type 0} (xs : List X) (i : ℕ) (d : X) → i < length xs → take (suc i) xs ≡ take i xs ++ slice_index_or xs i d ∷ []
-take_suc [] i d within = absurd (omega arith)
-take_suc (x ∷ xs) zero d within = refl
-take_suc (x ∷ xs) (suc i) d within = ap (λ rest. x ∷ rest) (take_suc xs i d (omega arith))
-
-pub take_more : {X : Type 0} (xs : List X) (i : ℕ) (d : X) → i < length xs → take (i + 1) xs ≡ take i xs ++ slice_index_or xs i d ∷ []
-take_more xs i d within = let one : i + 1 ≡ suc i = omega arith in ap (λ n. take n xs) one ∙ take_suc xs i d within
+-- their names
+pub named_beside : (columns : List Column) → map (λ (it : Beside). it.member) (map beside_of columns) ≡ members_of columns
+named_beside [] = refl
+named_beside (column ∷ columns) = ap (λ (names : List (List ℕ)). string_bytes column.member ∷ names) (named_beside columns)
 
 -- one more
 pub one_beside : (columns : List ShownColumn) (shown : List Beside) (column : ShownColumn) (it : Beside) → AreBeside columns shown → IsBeside column it

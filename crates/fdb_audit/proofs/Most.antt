@@ -16,7 +16,7 @@ use Rattle.fdb_audit.specs.contracts.groups.GroupPartialEq.TheImpl.{eq-value}
 use Rattle.fdb_audit.specs.contracts.groups.GroupEq.TheImpl.Laws.{laws-law}
 use Rattle.fdb_audit.specs.contracts.groups.GroupOrd.TheImpl.{cmp-value}
 use Rattle.fdb_audit.specs.contracts.groups.GroupOrd.TheImpl.Laws.{total-law, matches_eq-law}
-use Rattle.fdb_lines.specs.declared.reason.Finding.{Finding}
+use Rattle.fdb_lines.specs.declared.fault.Found.{Found}
 use Rattle.fdb_audit.specs.declared.groups.Group.{Group}
 use Rattle.fdb_audit.specs.Groups.{number_of, AreRanked, ComesBefore}
 use Rattle.fdb_audit.specs.private.{count_in, owners_in, IsGroupIn}
@@ -116,14 +116,14 @@ module _ (owners : List (Option ℕ)) (groups sorted : List Group) (are : owners
 
 -- ---- the owners of faults
 
-mapped : (of : Finding → Option ℕ) (found : List Finding) (group : Option ℕ)
-    → count_in (map of found) group ≡ count_by (λ finding. number_of (of finding) == number_of group) found
+mapped : (of : Found → Option ℕ) (found : List Found) (group : Option ℕ)
+    → count_in (map of found) group ≡ count_by (λ it. number_of (of it) == number_of group) found
 mapped of [] group = refl
 mapped of (x ∷ xs) group =
     counted_more (of x) (map of xs) group
     ∙ (ap (λ n. cond (number_of (of x) == number_of group) 1 0 + n) (mapped of xs group)
-    ∙ sym (sum_by-cons (λ finding. cond (number_of (of finding) == number_of group) 1 0) x xs))
+    ∙ sym (sum_by-cons (λ it. cond (number_of (of it) == number_of group) 1 0) x xs))
 
-pub counted_faults : (of : Finding → Option ℕ) (found : List Finding) (group : Option ℕ)
-    → count_in (map of found) group ≡ length (filter (λ finding. number_of (of finding) == number_of group) found)
-counted_faults of found group = mapped of found group ∙ sym (length-filter (λ finding. number_of (of finding) == number_of group) found)
+pub counted_faults : (of : Found → Option ℕ) (found : List Found) (group : Option ℕ)
+    → count_in (map of found) group ≡ length (filter (λ it. number_of (of it) == number_of group) found)
+counted_faults of found group = mapped of found group ∙ sym (length-filter (λ it. number_of (of it) == number_of group) found)

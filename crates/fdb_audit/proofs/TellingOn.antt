@@ -1,120 +1,253 @@
 -- What a follower has told stays told while it reads on, and what it tells next comes behind it.
-use Rattle.std.proofs.Common.{◌≡◌, ◌∙◌, ℕ, List, [], ◌++◌, ap, append-nil, append_assoc, string_bytes, subst, sym, Option, Result}
+use Rattle.std.proofs.Common.{◌≡◌, ◌∙◌, ◌≤◌, ℕ, List, [], ◌++◌, Bool, false, ap, append-nil, append_assoc, arith, is_some, true, length, not, refl, string_bytes, subst, sym, ◌&&◌, Option, Result, map}
 use Rattle.std.specs.Option.{option_or}
+use Rattle.fdb_lines.specs.declared.fault.Found.{Found}
 use Rattle.fdb_log_reader.specs.declared.error.Why.{Why}
 use Rattle.fdb_log_reader.specs.LineReader.{AreMore, line_names, lines_on, names_on}
-use Rattle.fdb_log_reader.specs.ReadLine.{LineNames, SaidLine}
+use Rattle.fdb_log_reader.specs.Printed.{printed}
+use Rattle.fdb_log_reader.specs.ReadLine.{SaidLine}
+use Rattle.fdb_audit.specs.declared.counts.Counts.{Counts}
+use Rattle.fdb_audit.specs.declared.numbering.Numbering.{Numbering}
 use Rattle.fdb_audit.specs.declared.arguments.AuditArguments.{AuditArguments}
 use Rattle.fdb_audit.specs.declared.fault.LogFault.{LogFault}
 use Rattle.fdb_audit.specs.declared.follower.Follower.{Follower}
 use Rattle.fdb_audit.specs.declared.teller.Teller.{Teller}
-use Rattle.fdb_audit.specs.Following.{AreWindows, KeptNumbers, Window, first_told}
-use Rattle.fdb_audit.specs.Watched.{HasFollowed, HasToldAll, IsFollowed, IsTelling, lines_asked, names_asked}
-use Rattle.fdb_audit.specs.private.Followed.{AreTaken, TellsOn}
-use Rattle.fdb_audit.proofs.Windows.{first_on, first_stays, windows_on, windows_stay, windows_within}
+use Rattle.fdb_audit.specs.Following.{AreWindows, FollowArguments, IsCounted, IsEnd, Start, Window, first_told, kinds_told, lines_taken, lines_told, out_of_reach, told_in_all}
+use Rattle.fdb_audit.specs.Watched.{HasFollowed, HasToldAll, IsComplete, IsFollowed, IsTelling, IsTold, followed_by, lines_asked, members_asked, names_asked}
+use Rattle.fdb_audit.specs.private.Followed.{AreTaken, HasTotals, IsUnread, TellsOn, counted_of, told_with}
+use Rattle.fdb_audit.proofs.Windows.{first_on, first_stays, kinds_on, lines_on as all_lines_on, lines_stay, told_on, told_stays, windows_on, windows_stay, windows_within}
+
+-- nothing has been read
+pub unread : (asked : AuditArguments) (start : Start) (follower : Follower) → IsUnread asked start follower → HasFollowed asked start follower [] []
+unread asked start follower is = record {
+  read = [];
+  goes = is.goes;
+  behind = is.names;
+  telling = record {
+    behind = is.at;
+    windows = [];
+    taken = subst (AreTaken start follower.taking []) (sym (append-nil start.told)) is.taken;
+    margin = is.margin;
+    tells = is.text;
+    are = is.are;
+  };
+}
 
 -- with some lines more
-pub takes_on : (kept : KeptNumbers) (asked : AuditArguments) (old new : Follower) (read further : List (Result SaidLine Why)) (told : List ℕ) → IsTelling asked kept old read told
-    → AreMore (line_names old.reader) (line_names new.reader) → AreTaken kept new.taking (read ++ further)
-    → new.taking.watch.margin ≡ old.taking.watch.margin → new.teller ≡ old.teller → IsTelling asked kept new (read ++ further) told
-takes_on kept asked old new read further told has more takes margin teller =
+pub takes_on : (start : Start) (asked : AuditArguments) (old new : Follower) (read further : List (Result SaidLine Why)) (told : List ℕ) → IsTelling asked start old read told
+    → AreMore (line_names old.reader) (line_names new.reader)
+    → ((told : List Found) → AreTaken start old.taking read told → AreTaken start new.taking (read ++ further) told)
+    → new.taking.watch.margin ≡ old.taking.watch.margin → new.teller ≡ old.teller → new.behind ≡ old.behind → IsTelling asked start new (read ++ further) told
+takes_on start asked old new read further told has more takes margin teller behind =
     let margin_asked = asked.opts.margin in
     let names = (line_names old.reader).clients in
     let text = told ++ string_bytes old.teller.text in
+    let windows = has.windows in
+    let within = windows_within start.numbers margin_asked asked.wanted read names windows text has.tells in
     record {
-      taken = takes;
+      behind = behind ∙ has.behind;
+      windows = windows;
+      taken = subst (λ list. AreTaken start new.taking (read ++ further) (start.told ++ list)) (sym (told_stays read further windows within)) (takes (start.told ++ told_in_all read windows) has.taken);
       margin = margin ∙ has.margin;
-      wanted = ap (λ teller. teller.wanted) teller ∙ has.wanted;
-      windows = has.windows;
-      tells = subst (λ teller. AreWindows kept margin_asked asked.wanted (read ++ further) (line_names new.reader).clients has.windows (told ++ string_bytes teller.text)) (sym teller)
-          (windows_stay kept margin_asked asked.wanted read further names (line_names new.reader).clients has.windows text has.tells more.0);
-      first = ap (λ teller. teller.first) teller
-          ∙ (has.first ∙ sym (first_stays kept read further has.windows (windows_within kept margin_asked asked.wanted read names has.windows text has.tells)));
+      tells = subst (λ teller. AreWindows start.numbers margin_asked asked.wanted (read ++ further) (line_names new.reader).clients windows (told ++ string_bytes teller.text)) (sym teller)
+          (windows_stay start.numbers margin_asked asked.wanted read further names (line_names new.reader).clients windows text has.tells more.0);
+      are = subst (λ teller. IsTold asked start teller (read ++ further) windows) (sym teller) (record {
+        wanted = has.are.wanted;
+        margin = has.are.margin;
+        by_key = has.are.by_key;
+        first = has.are.first ∙ sym (first_stays start.numbers read further windows within);
+        totals = subst (λ lines. HasTotals (members_asked asked) old.teller lines (kinds_told windows)) (sym (lines_stay read further windows within)) has.are.totals;
+      });
     }
 
 -- with those of the next bytes
-pub fed : (kept : KeptNumbers) (asked : AuditArguments) (old new : Follower) (before bytes told : List ℕ) (further : List (Result SaidLine Why)) → HasFollowed asked kept old before told
+pub fed : (start : Start) (asked : AuditArguments) (old new : Follower) (before bytes told : List ℕ) (further : List (Result SaidLine Why)) → HasFollowed asked start old before told
     → ((text : List ℕ) → lines_on old.reader (bytes ++ text) ≡ further ++ lines_on new.reader text)
     → ((text : List ℕ) → names_on old.reader (bytes ++ text) ≡ names_on new.reader text)
     → AreMore (line_names old.reader) (line_names new.reader)
-    → ((read : List (Result SaidLine Why)) → AreTaken kept old.taking read → AreTaken kept new.taking (read ++ further))
-    → new.taking.watch.margin ≡ old.taking.watch.margin → new.teller ≡ old.teller → HasFollowed asked kept new (before ++ bytes) told
-fed kept asked old new before bytes told further has goes behind more takes margin teller =
+    → ((read : List (Result SaidLine Why)) (told : List Found) → AreTaken start old.taking read told → AreTaken start new.taking (read ++ further) told)
+    → new.taking.watch.margin ≡ old.taking.watch.margin → new.teller ≡ old.teller → new.behind ≡ old.behind → HasFollowed asked start new (before ++ bytes) told
+fed start asked old new before bytes told further has goes behind more takes margin teller far =
     let read = has.read in
     record {
       read = read ++ further;
       goes = λ text. ap (lines_asked asked) (append_assoc before bytes text)
           ∙ (has.goes (bytes ++ text) ∙ (ap (λ l. read ++ l) (goes text) ∙ sym (append_assoc read further (lines_on new.reader text))));
       behind = λ text. ap (names_asked asked) (append_assoc before bytes text) ∙ (has.behind (bytes ++ text) ∙ behind text);
-      telling = takes_on kept asked old new read further told has.telling more (takes read has.telling.taken) margin teller;
+      telling = takes_on start asked old new read further told has.telling more (takes read) margin teller far;
     }
 
+-- with lines that were kept, the first of all
+pub fed_first : (before start : Start) (asked : AuditArguments) (old new : Follower) (bytes : List ℕ) (lines : List (Result SaidLine Why)) → IsUnread asked before old
+    → start.behind ≡ before.behind → start.numbers ≡ before.numbers
+    → ((text : List ℕ) → lines_on old.reader (bytes ++ text) ≡ lines ++ lines_on new.reader text)
+    → ((text : List ℕ) → names_on old.reader (bytes ++ text) ≡ names_on new.reader text)
+    → AreTaken start new.taking lines start.told → new.taking.watch.margin ≡ old.taking.watch.margin → new.teller ≡ old.teller → new.behind ≡ old.behind
+    → HasFollowed asked start new bytes []
+fed_first before start asked old new bytes lines is far numbers goes behind takes margin teller still = record {
+  read = lines;
+  goes = λ text. is.goes (bytes ++ text) ∙ goes text;
+  behind = λ text. is.names (bytes ++ text) ∙ behind text;
+  telling = record {
+    behind = still ∙ (is.at ∙ sym far);
+    windows = [];
+    taken = subst (AreTaken start new.taking lines) (sym (append-nil start.told)) takes;
+    margin = margin ∙ is.margin;
+    tells = ap (λ (teller : Teller). string_bytes teller.text) teller ∙ is.text;
+    are = subst (λ teller. IsTold asked start teller lines []) (sym teller)
+        (record { wanted = is.are.wanted; margin = is.are.margin; by_key = is.are.by_key; first = is.are.first; totals = is.are.totals });
+  };
+}
+
 -- with the line that had not ended, or none
-pub ended : (kept : KeptNumbers) (asked : AuditArguments) (old new : Follower) (bytes told : List ℕ) (further : List (Result SaidLine Why)) → HasFollowed asked kept old bytes told
+pub ended : (start : Start) (asked : AuditArguments) (old new : Follower) (bytes told : List ℕ) (further : List (Result SaidLine Why)) → HasFollowed asked start old bytes told
     → lines_on old.reader [] ≡ further → AreMore (line_names old.reader) (line_names new.reader)
-    → ((read : List (Result SaidLine Why)) → AreTaken kept old.taking read → AreTaken kept new.taking (read ++ further))
-    → new.taking.watch.margin ≡ old.taking.watch.margin → new.teller ≡ old.teller → IsTelling asked kept new (lines_asked asked bytes) told
-ended kept asked old new bytes told further has last more takes margin teller =
+    → ((read : List (Result SaidLine Why)) (told : List Found) → AreTaken start old.taking read told → AreTaken start new.taking (read ++ further) told)
+    → new.taking.watch.margin ≡ old.taking.watch.margin → new.teller ≡ old.teller → new.behind ≡ old.behind → IsTelling asked start new (lines_asked asked bytes) told
+ended start asked old new bytes told further has last more takes margin teller far =
     let read = has.read in
     let all : read ++ further ≡ lines_asked asked bytes = sym (ap (lines_asked asked) (sym (append-nil bytes)) ∙ (has.goes [] ∙ ap (λ l. read ++ l) last)) in
-    subst (λ read. IsTelling asked kept new read told) all (takes_on kept asked old new read further told has.telling more (takes read has.telling.taken) margin teller)
-
-pub names_ended : (kept : KeptNumbers) (asked : AuditArguments) (old : Follower) (new : LineNames) (bytes told : List ℕ) → HasFollowed asked kept old bytes told
-    → names_on old.reader [] ≡ new → names_asked asked bytes ≡ new
-names_ended kept asked old new bytes told has is = ap (names_asked asked) (sym (append-nil bytes)) ∙ (has.behind [] ∙ is)
+    subst (λ read. IsTelling asked start new read told) all (takes_on start asked old new read further told has.telling more (takes read) margin teller far)
 
 -- with what is told more
-pub tells_on : (kept : KeptNumbers) (asked : AuditArguments) (old : Follower) (new : Teller) (read : List (Result SaidLine Why)) (told : List ℕ) (windows : List Window)
-    → AreWindows kept asked.opts.margin asked.wanted read (line_names old.reader).clients windows (told ++ string_bytes old.teller.text)
-    → (more : TellsOn kept old.teller new asked.opts.margin read (line_names old.reader).clients) → old.teller.wanted ≡ asked.wanted
-    → AreWindows kept asked.opts.margin asked.wanted read (line_names old.reader).clients (windows ++ more.windows) (told ++ string_bytes new.text)
-tells_on kept asked old new read told windows tells more is =
+tells_on : (start : Start) (asked : AuditArguments) (old : Follower) (new : Teller) (read : List (Result SaidLine Why)) (told : List ℕ) (windows : List Window) (faults : List Found)
+    → AreWindows start.numbers asked.opts.margin asked.wanted read (line_names old.reader).clients windows (told ++ string_bytes old.teller.text)
+    → (more : TellsOn start.numbers old.teller new asked.opts.margin read (line_names old.reader).clients faults) → old.teller.wanted ≡ asked.wanted
+    → AreWindows start.numbers asked.opts.margin asked.wanted read (line_names old.reader).clients (windows ++ more.windows) (told ++ string_bytes new.text)
+tells_on start asked old new read told windows faults tells more is =
     let names = (line_names old.reader).clients in
     let margin = asked.opts.margin in
-    subst (λ text. AreWindows kept margin asked.wanted read names (windows ++ more.windows) text)
+    subst (λ text. AreWindows start.numbers margin asked.wanted read names (windows ++ more.windows) text)
     (append_assoc told (string_bytes old.teller.text) more.text ∙ ap (λ text. told ++ text) (sym more.appended))
-    (windows_on kept margin asked.wanted read names windows more.windows (told ++ string_bytes old.teller.text) more.text tells
-    (subst (λ wanted. AreWindows kept margin wanted read names more.windows more.text) (more.wanted ∙ is) more.told))
+    (windows_on start.numbers margin asked.wanted read names windows more.windows (told ++ string_bytes old.teller.text) more.text tells
+    (subst (λ wanted. AreWindows start.numbers margin wanted read names more.windows more.text) (more.same.wanted ∙ is) more.told))
 
-pub first_next : (kept : KeptNumbers) (old new : Teller) (margin : ℕ) (read : List (Result SaidLine Why)) (names : List (List ℕ)) (windows : List Window)
-    → old.first ≡ first_told kept read windows → (more : TellsOn kept old new margin read names) → new.first ≡ first_told kept read (windows ++ more.windows)
-first_next kept old new margin read names windows is more =
-    more.first ∙ (ap (λ first. option_or first (first_told kept read more.windows)) is ∙ sym (first_on kept read windows more.windows))
+are_on : (start : Start) (asked : AuditArguments) (old new : Teller) (margin : ℕ) (read : List (Result SaidLine Why)) (names : List (List ℕ)) (windows : List Window) (faults : List Found)
+    → IsTold asked start old read windows → (more : TellsOn start.numbers old new margin read names faults) → IsTold asked start new read (windows ++ more.windows)
+are_on start asked old new margin read names windows faults are more = record {
+  wanted = more.same.wanted ∙ are.wanted;
+  margin = more.same.margin ∙ are.margin;
+  by_key = ap is_some more.same.key ∙ are.by_key;
+  first = more.first ∙ (ap (λ first. option_or first (first_told start.numbers read more.windows)) are.first ∙ sym (first_on start.numbers read windows more.windows));
+  totals = subst (λ lines. HasTotals (members_asked asked) new lines (kinds_told (windows ++ more.windows))) (sym (all_lines_on read windows more.windows))
+      (subst (HasTotals (members_asked asked) new (lines_told read windows ++ lines_told read more.windows)) (sym (kinds_on windows more.windows))
+      (more.counts (members_asked asked) (lines_told read windows) (kinds_told windows) are.totals));
+}
+
+faults_on : (start : Start) (old new : Teller) (margin : ℕ) (read : List (Result SaidLine Why)) (names : List (List ℕ)) (windows : List Window) (faults : List Found)
+    → (more : TellsOn start.numbers old new margin read names faults)
+    → (start.told ++ told_in_all read windows) ++ faults ≡ start.told ++ told_in_all read (windows ++ more.windows)
+faults_on start old new margin read names windows faults more =
+    append_assoc start.told (told_in_all read windows) faults
+    ∙ ap (λ list. start.told ++ list) (ap (λ list. told_in_all read windows ++ list) (sym more.faults_are) ∙ sym (told_on read windows more.windows))
 
 -- with what is told when a watch settles
-pub settled : (kept : KeptNumbers) (asked : AuditArguments) (old new : Follower) (read : List (Result SaidLine Why)) (told : List ℕ) → IsTelling asked kept old read told
-    → new.reader ≡ old.reader → AreTaken kept new.taking read → new.taking.watch.margin ≡ old.taking.watch.margin
-    → TellsOn kept old.teller new.teller asked.opts.margin read (line_names old.reader).clients → IsTelling asked kept new read told
-settled kept asked old new read told is reader takes margin more = record {
-  taken = takes;
-  margin = margin ∙ is.margin;
-  wanted = more.wanted ∙ is.wanted;
-  windows = is.windows ++ more.windows;
-  tells = subst (λ reader. AreWindows kept asked.opts.margin asked.wanted read (line_names reader).clients (is.windows ++ more.windows) (told ++ string_bytes new.teller.text)) (sym reader)
-      (tells_on kept asked old new.teller read told is.windows is.tells more is.wanted);
-  first = first_next kept old.teller new.teller asked.opts.margin read (line_names old.reader).clients is.windows is.first more;
+pub settled : (start : Start) (asked : AuditArguments) (old new : Follower) (read : List (Result SaidLine Why)) (told : List ℕ) (faults : List Found) → (is : IsTelling asked start old read told)
+    → new.reader ≡ old.reader → AreTaken start new.taking read ((start.told ++ told_in_all read is.windows) ++ faults) → new.taking.watch.margin ≡ old.taking.watch.margin
+    → TellsOn start.numbers old.teller new.teller asked.opts.margin read (line_names old.reader).clients faults → new.behind ≡ old.behind → IsTelling asked start new read told
+settled start asked old new read told faults is reader takes margin more behind =
+    let names = (line_names old.reader).clients in
+    record {
+      behind = behind ∙ is.behind;
+      windows = is.windows ++ more.windows;
+      taken = subst (AreTaken start new.taking read) (faults_on start old.teller new.teller asked.opts.margin read names is.windows faults more) takes;
+      margin = margin ∙ is.margin;
+      tells = subst (λ reader. AreWindows start.numbers asked.opts.margin asked.wanted read (line_names reader).clients (is.windows ++ more.windows) (told ++ string_bytes new.teller.text)) (sym reader)
+          (tells_on start asked old new.teller read told is.windows faults is.tells more is.are.wanted);
+      are = are_on start asked old.teller new.teller asked.opts.margin read names is.windows faults is.are more;
+    }
+
+counted_for : (start : Start) (old : Follower) (read : List (Result SaidLine Why)) {told : List Found} → AreTaken start old.taking read told → (new : Follower)
+    → new.taking.counts ≡ old.taking.counts → new.taking.numbering ≡ old.taking.numbering → IsCounted start read (counted_of new.taking)
+counted_for start old read are new counts numbering = record {
+  lines = ap (λ (counts : Counts). counts.lines) counts ∙ are.counted.lines;
+  reads = ap (λ (counts : Counts). counts.reads) counts ∙ are.counted.reads;
+  commits = ap (λ (counts : Counts). counts.commits) counts ∙ are.counted.commits;
+  asks = ap (λ (counts : Counts). counts.asks) counts ∙ are.counted.asks;
+  reports = ap (λ (counts : Counts). counts.reports) counts ∙ are.counted.reports;
+  refused = ap (λ (numbering : Numbering). length numbering.above.items) numbering ∙ ap length are.numbered.above;
 }
+
+early_for : (start : Start) (old : Follower) (read : List (Result SaidLine Why)) {told : List Found} → AreTaken start old.taking read told → (new : Follower)
+    → new.taking.counts ≡ old.taking.counts → start.anew ≡ true → new.taking.counts.early ≤ out_of_reach start.behind 0 (lines_taken read)
+early_for start old read are new counts anew =
+    let le = (are.reach anew).early in
+    let same = ap (λ (counts : Counts). counts.early) counts in
+    omega (arith, le, same)
 
 -- and when it settles for good
-pub settled_all : (kept : KeptNumbers) (asked : AuditArguments) (old new : Follower) (read : List (Result SaidLine Why)) (told : List ℕ) → IsTelling asked kept old read told
-    → new.reader ≡ old.reader → TellsOn kept old.teller new.teller asked.opts.margin read (line_names old.reader).clients → HasToldAll asked kept new read told
-settled_all kept asked old new read told is reader more = record {
-  wanted = more.wanted ∙ is.wanted;
-  windows = is.windows ++ more.windows;
-  tells = subst (λ reader. AreWindows kept asked.opts.margin asked.wanted read (line_names reader).clients (is.windows ++ more.windows) (told ++ string_bytes new.teller.text)) (sym reader)
-      (tells_on kept asked old new.teller read told is.windows is.tells more is.wanted);
-  first = first_next kept old.teller new.teller asked.opts.margin read (line_names old.reader).clients is.windows is.first more;
+pub settled_all : (start : Start) (asked : AuditArguments) (ends : Bool) (old new : Follower) (read : List (Result SaidLine Why)) (told : List ℕ) (faults : List Found) → (is : IsTelling asked start old read told)
+    → new.reader ≡ old.reader → TellsOn start.numbers old.teller new.teller asked.opts.margin read (line_names old.reader).clients faults → new.behind ≡ old.behind
+    → new.taking.counts ≡ old.taking.counts → new.taking.numbering ≡ old.taking.numbering
+    → (start.early ≡ 0 → old.taking.counts.early ≡ 0 → IsComplete ends asked.opts.margin read ((start.told ++ told_in_all read is.windows) ++ faults))
+    → HasToldAll asked start ends new read told
+settled_all start asked ends old new read told faults is reader more behind counts numbering whole =
+    let names = (line_names old.reader).clients in
+    record {
+      behind = behind ∙ is.behind;
+      windows = is.windows ++ more.windows;
+      tells = subst (λ reader. AreWindows start.numbers asked.opts.margin asked.wanted read (line_names reader).clients (is.windows ++ more.windows) (told ++ string_bytes new.teller.text)) (sym reader)
+          (tells_on start asked old new.teller read told is.windows faults is.tells more is.are.wanted);
+      are = are_on start asked old.teller new.teller asked.opts.margin read names is.windows faults is.are more;
+      counted = counted_for start old read is.taken new counts numbering;
+      before = is.taken.before;
+      early = λ anew. early_for start old read is.taken new counts anew;
+      whole = λ none_before none. subst (IsComplete ends asked.opts.margin read) (faults_on start old.teller new.teller asked.opts.margin read names is.windows faults more)
+          (whole none_before (sym (ap (λ (counts : Counts). counts.early) counts) ∙ none));
+    }
+
+-- and where it is to be followed on
+pub told_so_far : (start : Start) (asked : AuditArguments) (old : Follower) (read : List (Result SaidLine Why)) (told : List ℕ) → (is : IsTelling asked start old read told)
+    → (start.early ≡ 0 → old.taking.counts.early ≡ 0 → IsComplete false asked.opts.margin read (start.told ++ told_in_all read is.windows))
+    → HasToldAll asked start false old read told
+told_so_far start asked old read told is whole = record {
+  behind = is.behind;
+  windows = is.windows;
+  tells = is.tells;
+  are = is.are;
+  counted = counted_for start old read is.taken old refl refl;
+  whole = whole;
+  before = is.taken.before;
+  early = λ anew. early_for start old read is.taken old refl anew;
 }
 
+same_arguments : (asked : AuditArguments) (start : Start) (last : Follower) → last.behind ≡ start.behind → last.teller.margin ≡ asked.opts.margin
+    → is_some last.teller.key ≡ is_some asked.key → told_with last.behind last.teller (members_asked asked) ≡ followed_by asked start.behind
+same_arguments asked start last behind margin by_key =
+    let make = λ (behind margin : ℕ) (by_key : Bool). let it : FollowArguments = record { behind = behind; margin = margin; by_key = by_key; members = members_asked asked } in it in
+    ap (λ n. make n last.teller.margin (is_some last.teller.key)) behind
+    ∙ (ap (λ n. make start.behind n (is_some last.teller.key)) margin ∙ ap (make start.behind asked.opts.margin) by_key)
+
 -- what is told of lines is told of a text that has them
-pub all_told : (kept : KeptNumbers) (asked : AuditArguments) (last : Follower) (bytes told text more : List ℕ) (found : Option LogFault)
-    → HasToldAll asked kept last (lines_asked asked bytes) told → names_asked asked bytes ≡ line_names last.reader
-    → text ≡ string_bytes last.teller.text ++ more → found ≡ last.teller.first → IsFollowed asked kept bytes (told ++ text) found
-all_told kept asked last bytes told text more found is names texts first = record {
-  windows = is.windows;
-  told = told ++ string_bytes last.teller.text;
-  end = more;
-  whole = ap (λ text. told ++ text) texts ∙ sym (append_assoc told (string_bytes last.teller.text) more);
-  tells = subst (λ names. AreWindows kept asked.opts.margin asked.wanted (lines_asked asked bytes) names.clients is.windows (told ++ string_bytes last.teller.text)) (sym names) is.tells;
-  first = first ∙ is.first;
-}
+pub all_told : (asked : AuditArguments) (start : Start) (ends : Bool) (last : Follower) (bytes told text end : List ℕ) (found : Option LogFault)
+    → (is : HasToldAll asked start ends last (lines_asked asked bytes) told) → names_asked asked bytes ≡ line_names last.reader
+    → text ≡ string_bytes last.teller.text ++ end → found ≡ last.teller.first
+    → IsEnd (not (is_some last.teller.first) && not last.teller.wanted.json) last.teller.wanted.totals last.teller.wanted.json (counted_of last.taking) (told_with last.behind last.teller (members_asked asked))
+    (map printed (line_names last.reader).clients) (lines_told (lines_asked asked bytes) is.windows) (kinds_told is.windows) end
+    → IsFollowed asked start ends bytes (told ++ text) found
+all_told asked start ends last bytes told text end found is names texts first end_is =
+    let read = lines_asked asked bytes in
+    let lines = lines_told read is.windows in
+    let kinds = kinds_told is.windows in
+    record {
+      windows = is.windows;
+      told = told ++ string_bytes last.teller.text;
+      counts = counted_of last.taking;
+      end = end;
+      text_is = ap (λ text. told ++ text) texts ∙ sym (append_assoc told (string_bytes last.teller.text) end);
+      tells = subst (λ names. AreWindows start.numbers asked.opts.margin asked.wanted read names.clients is.windows (told ++ string_bytes last.teller.text)) (sym names) is.tells;
+      first = first ∙ is.are.first;
+      counted = is.counted;
+      end_is =
+          subst (λ found. IsEnd (not (is_some found) && not asked.wanted.json) asked.wanted.totals asked.wanted.json (counted_of last.taking) (followed_by asked start.behind)
+          (map printed (names_asked asked bytes).clients) lines kinds end) (sym first)
+          (subst (λ names. IsEnd (not (is_some last.teller.first) && not asked.wanted.json) asked.wanted.totals asked.wanted.json (counted_of last.taking) (followed_by asked start.behind)
+          (map printed names.clients) lines kinds end) (sym names)
+          (subst (λ arguments. IsEnd (not (is_some last.teller.first) && not asked.wanted.json) asked.wanted.totals asked.wanted.json (counted_of last.taking) arguments
+          (map printed (line_names last.reader).clients) lines kinds end) (same_arguments asked start last is.behind is.are.margin is.are.by_key)
+          (subst (λ wanted. IsEnd (not (is_some last.teller.first) && not wanted.json) wanted.totals wanted.json (counted_of last.taking) (told_with last.behind last.teller (members_asked asked))
+          (map printed (line_names last.reader).clients) lines kinds end) is.are.wanted end_is)));
+      whole = is.whole;
+      before = is.before;
+      early = is.early;
+    }

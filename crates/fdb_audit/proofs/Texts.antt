@@ -6,6 +6,3 @@ two_written before one two a b is more = more ∙ (ap (λ text. text ++ b) is �
 
 pub written : (before one two three a b c : List ℕ) → one ≡ before ++ a → two ≡ one ++ b → three ≡ two ++ c → three ≡ before ++ ((a ++ b) ++ c)
 written before one two three a b c is more all = all ∙ (ap (λ text. text ++ c) (more ∙ ap (λ text. text ++ b) is) ∙ simp append_assoc)
-
-pub three_written : (before one two a b c : List ℕ) → one ≡ before ++ (a ++ b) → two ≡ one ++ c → two ≡ before ++ (a ++ (b ++ c))
-three_written before one two a b c is more = two_written before one two (a ++ b) c is more ∙ ap (λ text. before ++ text) (append_assoc a b c)

@@ -3,17 +3,22 @@ use Rattle.std.proofs.Common.{◌≡◌, ◌∙◌, ℕ, zero, suc, ◌<◌, ◌
 use Rattle.std.proofs.lemmas.Bool.{cases_lt}
 use Rattle.std.proofs.lemmas.List.{get_or_append_left, get_or_past, get_or_push, length-map, take_all, take-append-le}
 use Rattle.std.proofs.lemmas.List.Elements.{All-append, All-cons, All-map, All-nil}
+use Rattle.std.proofs.lemmas.Grind.{flat_map-append}
+use Rattle.std.specs.List.{flat_map}
 use Rattle.std.specs.Option.{option_or}
+use Rattle.fdb_lines.specs.declared.fault.Fault.{Fault}
+use Rattle.fdb_lines.specs.declared.fault.Found.{Found}
 use Rattle.fdb_lines.specs.declared.key_part.KeyPart.{KeyPart}
 use Rattle.fdb_lines.specs.declared.key_part.SettledKey.{SettledKey}
 use Rattle.fdb_lines.specs.declared.line.Line.{Line}
 use Rattle.fdb_lines.specs.declared.reason.Finding.{Finding}
 use Rattle.fdb_lines.specs.KeyParts.{lines_of_one}
-use Rattle.fdb_lines.specs.Keys.{key_at, places_below, places_of, same_key}
+use Rattle.fdb_lines.specs.Keys.{key_at, placed_found, places_below, places_of, same_key}
 use Rattle.fdb_lines.specs.KeyWatch.{AreTold, IsToldOf}
-use Rattle.fdb_lines.specs.Lines.{lines_in}
+use Rattle.fdb_lines.specs.Lines.{line_at, lines_in}
 use Rattle.fdb_lines.specs.Log.{lines_of}
 use Rattle.fdb_lines.specs.Reasons.{found_of}
+use Rattle.fdb_lines.specs.ToldByKey.{told_by}
 use Rattle.fdb_lines.specs.Watch.{judged_from}
 use Rattle.fdb_log_reader.specs.declared.error.Why.{Why}
 use Rattle.fdb_log_reader.specs.Numbers.{IsMore}
@@ -22,9 +27,9 @@ use Rattle.fdb_log_reader.specs.ReadLine.{SaidLine}
 use Rattle.fdb_audit.specs.declared.fault.LogFault.{LogFault}
 use Rattle.fdb_audit.specs.declared.judged.Wanted.{Wanted}
 use Rattle.fdb_audit.specs.declared.teller.Teller.{Teller}
-use Rattle.fdb_audit.specs.Following.{AreWindows, IsFoundIn, IsWindow, KeptNumbers, Window, first_in, first_told, keys_taken, lines_taken, number_in, printed_in, taken, told_text}
+use Rattle.fdb_audit.specs.Following.{AreWindows, IsFoundIn, IsWindow, KeptNumbers, Window, first_in, first_told, keys_taken, kinds_told, lines_at, lines_taken, lines_told, number_in, printed_in, taken, told_in, told_in_all, told_text}
 use Rattle.fdb_audit.specs.Text.{Beside, PrintedLog, fault_of}
-use Rattle.fdb_audit.specs.private.Followed.{TellsOn}
+use Rattle.fdb_audit.specs.private.Followed.{CountsOn, HasTotals, IsSameTeller, TellsOn}
 
 -- ---- windows that follow others
 
@@ -92,6 +97,31 @@ first_stays kept read further (w ∷ ws) within =
     ap (λ (those : List (Result SaidLine Why)). option_or (first_in kept those w) (first_told kept (read ++ further) ws)) (same_taken read further w.read here)
     ∙ ap (option_or (first_in kept (take w.read read) w)) (first_stays kept read further ws rest)
 
+-- ---- the faults that are told
+
+pub told_on : (read : List (Result SaidLine Why)) (ws vs : List Window) → told_in_all read (ws ++ vs) ≡ told_in_all read ws ++ told_in_all read vs
+told_on read ws vs = flat_map-append (λ (window : Window). told_in (take window.read read) window) ws vs
+
+pub lines_on : (read : List (Result SaidLine Why)) (ws vs : List Window) → lines_told read (ws ++ vs) ≡ lines_told read ws ++ lines_told read vs
+lines_on read ws vs = flat_map-append (λ (window : Window). lines_at (take window.read read) window) ws vs
+
+pub kinds_on : (ws vs : List Window) → kinds_told (ws ++ vs) ≡ kinds_told ws ++ kinds_told vs
+kinds_on ws vs = flat_map-append (λ (window : Window). map (λ (finding : Finding). finding.found.fault) window.found) ws vs
+
+each_stays : {X : Type 0} (f : List (Result SaidLine Why) → Window → List X) (read further : List (Result SaidLine Why)) (ws : List Window) → All (λ (w : Window). w.read ≤ length read) ws
+    → flat_map (λ (window : Window). f (take window.read (read ++ further)) window) ws ≡ flat_map (λ (window : Window). f (take window.read read) window) ws
+each_stays f read further [] within = refl
+each_stays {X} f read further (w ∷ ws) within =
+    let here : w.read ≤ length read = within 0 w (omega arith) in
+    ap (λ (those : List (Result SaidLine Why)). f those w ++ flat_map (λ (window : Window). f (take window.read (read ++ further)) window) ws) (same_taken read further w.read here)
+    ∙ ap (λ (rest : List X). f (take w.read read) w ++ rest) (each_stays f read further ws (λ k d lt. within (suc k) d (omega (arith, lt))))
+
+pub told_stays : (read further : List (Result SaidLine Why)) (ws : List Window) → All (λ (w : Window). w.read ≤ length read) ws → told_in_all (read ++ further) ws ≡ told_in_all read ws
+told_stays read further ws within = each_stays told_in read further ws within
+
+pub lines_stay : (read further : List (Result SaidLine Why)) (ws : List Window) → All (λ (w : Window). w.read ≤ length read) ws → lines_told (read ++ further) ws ≡ lines_told read ws
+lines_stay read further ws within = each_stays lines_at read further ws within
+
 -- windows are of lines that were read
 pub windows_within : (kept : KeptNumbers) (margin : ℕ) (wanted : Wanted) (read : List (Result SaidLine Why)) (names : List (List ℕ)) (ws : List Window) (text : List ℕ)
     → AreWindows kept margin wanted read names ws text → All (λ (w : Window). w.read ≤ length read) ws
@@ -101,7 +131,7 @@ windows_within kept margin wanted read names (w ∷ ws) text are =
 
 -- ---- what is told more
 
-pub tells_nothing : (kept : KeptNumbers) (teller : Teller) (margin : ℕ) (read : List (Result SaidLine Why)) (names : List (List ℕ)) → TellsOn kept teller teller margin read names
+pub tells_nothing : (kept : KeptNumbers) (teller : Teller) (margin : ℕ) (read : List (Result SaidLine Why)) (names : List (List ℕ)) → TellsOn kept teller teller margin read names []
 tells_nothing kept teller margin read names = record {
   windows = [];
   at = All-nil (λ (window : Window). window.read ≡ length read);
@@ -109,22 +139,31 @@ tells_nothing kept teller margin read names = record {
   told = refl;
   appended = sym (append-nil (string_bytes teller.text));
   first = sym (or_none teller.first);
-  wanted = refl;
+  faults_are = refl;
+  counts = λ members lines kinds has. subst (λ (ls : List Line). HasTotals members teller ls (kinds ++ [])) (sym (append-nil lines)) (subst (HasTotals members teller lines) (sym (append-nil kinds)) has);
+  same = record { wanted = refl; margin = refl; key = refl };
 }
 
-pub tells_yet : (kept : KeptNumbers) (old mid new : Teller) (margin : ℕ) (read : List (Result SaidLine Why)) (names : List (List ℕ))
-    → TellsOn kept old mid margin read names → TellsOn kept mid new margin read names → TellsOn kept old new margin read names
-tells_yet kept old mid new margin read names one two = record {
+pub tells_yet : (kept : KeptNumbers) (old mid new : Teller) (margin : ℕ) (read : List (Result SaidLine Why)) (names : List (List ℕ)) (faults more : List Found)
+    → TellsOn kept old mid margin read names faults → TellsOn kept mid new margin read names more → TellsOn kept old new margin read names (faults ++ more)
+tells_yet kept old mid new margin read names faults more one two = record {
   windows = one.windows ++ two.windows;
   at = All-append (λ (window : Window). window.read ≡ length read) one.windows two.windows one.at two.at;
   text = one.text ++ two.text;
   told = windows_on kept margin new.wanted read names one.windows two.windows one.text two.text
-      (subst (λ (wanted : Wanted). AreWindows kept margin wanted read names one.windows one.text) (sym two.wanted) one.told) two.told;
+      (subst (λ (wanted : Wanted). AreWindows kept margin wanted read names one.windows one.text) (sym two.same.wanted) one.told) two.told;
   appended = two.appended ∙ (ap (λ (bytes : List ℕ). bytes ++ two.text) one.appended ∙ append_assoc (string_bytes old.text) one.text two.text);
   first = two.first ∙ (ap (λ (first : Option LogFault). option_or first (first_told kept read two.windows)) one.first
       ∙ (or_else old.first (first_told kept read one.windows) (first_told kept read two.windows)
       ∙ ap (option_or old.first) (sym (first_on kept read one.windows two.windows))));
-  wanted = two.wanted ∙ one.wanted;
+  faults_are = told_on read one.windows two.windows ∙ (ap (λ (list : List Found). list ++ told_in_all read two.windows) one.faults_are ∙ ap (λ (list : List Found). faults ++ list) two.faults_are);
+  counts = λ members lines kinds has.
+      subst (λ (ls : List Line). HasTotals members new ls (kinds ++ kinds_told (one.windows ++ two.windows)))
+      (append_assoc lines (lines_told read one.windows) (lines_told read two.windows) ∙ ap (λ (ls : List Line). lines ++ ls) (sym (lines_on read one.windows two.windows)))
+      (subst (HasTotals members new ((lines ++ lines_told read one.windows) ++ lines_told read two.windows))
+      (append_assoc kinds (kinds_told one.windows) (kinds_told two.windows) ∙ ap (λ (ks : List Fault). kinds ++ ks) (sym (kinds_on one.windows two.windows)))
+      (two.counts members (lines ++ lines_told read one.windows) (kinds ++ kinds_told one.windows) (one.counts members lines kinds has)));
+  same = record { wanted = two.same.wanted ∙ one.same.wanted; margin = two.same.margin ∙ one.same.margin; key = two.same.key ∙ one.same.key };
 }
 
 -- ---- the places of the lines of a key
@@ -210,12 +249,18 @@ shown_is kept to read names entry part beside told =
 abbrev pub first_of : PrintedLog → List Finding → Option LogFault
 first_of it found = option_map (λ (finding : Finding). fault_of it.numbers (found_of finding)) (slice_get found 0)
 
+-- the lines at which faults stand
+abbrev pub stand_at : List Line → List Finding → List Line
+stand_at lines found = map (λ (finding : Finding). line_at lines finding.found.line) found
+
 pub tells_of : (kept : KeptNumbers) (old new : Teller) (margin : ℕ) (to : Option ℕ) (read : List (Result SaidLine Why)) (names : List (List ℕ)) (entry : SettledKey) (part : KeyPart) (beside : List Beside) (it : PrintedLog)
     → part.watch.margin ≡ margin → IsToldOf to (lines_taken read) (keys_taken read) entry part → it ≡ shown_of kept read names entry beside
     → string_bytes new.text ≡ string_bytes old.text ++ told_text old.wanted it entry.settled.found.items
-    → new.first ≡ option_or old.first (first_of it entry.settled.found.items) → new.wanted ≡ old.wanted
-    → TellsOn kept old new margin read names
-tells_of kept old new margin to read names entry part beside it same told is added first wanted =
+    → new.first ≡ option_or old.first (first_of it entry.settled.found.items)
+    → CountsOn old new (stand_at it.lines entry.settled.found.items) (map (λ (finding : Finding). finding.found.fault) entry.settled.found.items) → IsSameTeller old new
+    → TellsOn kept old new margin read names (told_by entry)
+tells_of kept old new margin to read names entry part beside it same told is added first counts still =
+    let wanted = still.wanted in
     let found = entry.settled.found.items in
     let window = window_of to read names entry part in
     let log = printed_in kept read window beside in
@@ -242,7 +287,16 @@ tells_of kept old new margin to read names entry part beside it same told is add
       first = first ∙ (ap (λ (it : PrintedLog). option_or old.first (first_of it found)) shown
           ∙ ap (option_or old.first) (sym (or_none (first_in kept (take (length read) read) window)
           ∙ ap (λ (those : List (Result SaidLine Why)). first_in kept those window) all)));
-      wanted = wanted;
+      faults_are = append-nil (told_in (take (length read) read) window)
+          ∙ (ap (λ (those : List (Result SaidLine Why)). told_in those window) all
+          ∙ ap (λ (places : List ℕ). map (λ (finding : Finding). placed_found places (found_of finding)) found) (sym told.numbers));
+      counts = λ members lines kinds has.
+          let stand : stand_at it.lines found ≡ lines_told read (window ∷ []) =
+          ap (λ (it : PrintedLog). stand_at it.lines found) shown ∙ (ap (λ (those : List (Result SaidLine Why)). lines_at those window) (sym all) ∙ sym (append-nil (lines_at (take (length read) read) window))) in
+          subst (λ (ls : List Line). HasTotals members new (lines ++ ls) (kinds ++ kinds_told (window ∷ []))) stand
+          (subst (λ (ks : List Fault). HasTotals members new (lines ++ stand_at it.lines found) (kinds ++ ks)) (sym (append-nil (map (λ (finding : Finding). finding.found.fault) found)))
+          (counts members lines kinds has));
+      same = still;
     }
 
 pub tells_for : (kept : KeptNumbers) (old new : Teller) (margin : ℕ) (to : Option ℕ) (read : List (Result SaidLine Why)) (names : List (List ℕ)) (entry : SettledKey) (part : KeyPart)
@@ -250,16 +304,18 @@ pub tells_for : (kept : KeptNumbers) (old new : Teller) (margin : ℕ) (to : Opt
     → texts ≡ map printed names → numbers ≡ map (number_in kept read) entry.settled.numbers.items → found ≡ entry.settled.found.items
     → part.watch.margin ≡ margin → IsToldOf to (lines_taken read) (keys_taken read) entry part
     → string_bytes new.text ≡ string_bytes old.text ++ told_text old.wanted (log_with (lines_of entry.settled.log).lines texts numbers beside) found
-    → new.first ≡ option_or old.first (first_of (log_with (lines_of entry.settled.log).lines texts numbers beside) found) → new.wanted ≡ old.wanted
-    → TellsOn kept old new margin read names
-tells_for kept old new margin to read names entry part texts numbers beside found named numbered is same told added first wanted =
+    → new.first ≡ option_or old.first (first_of (log_with (lines_of entry.settled.log).lines texts numbers beside) found)
+    → CountsOn old new (stand_at (lines_of entry.settled.log).lines found) (map (λ (finding : Finding). finding.found.fault) found) → IsSameTeller old new
+    → TellsOn kept old new margin read names (told_by entry)
+tells_for kept old new margin to read names entry part texts numbers beside found named numbered is same told added first counts still =
     let lines = (lines_of entry.settled.log).lines in
     let it = log_with lines texts numbers beside in
     tells_of kept old new margin to read names entry part beside it same told
     (same_log lines texts (map printed names) numbers (map (number_in kept read) entry.settled.numbers.items) beside named numbered)
     (added ∙ ap (λ (found : List Finding). string_bytes old.text ++ told_text old.wanted it found) is)
     (first ∙ ap (λ (found : List Finding). option_or old.first (first_of it found)) is)
-    wanted
+    (subst (λ (found : List Finding). CountsOn old new (stand_at lines found) (map (λ (finding : Finding). finding.found.fault) found)) is counts)
+    still
 
 -- ---- what is told of each key
 

@@ -1,23 +1,32 @@
 -- What is told of a log that is followed as it grows. (this product's own)
-use Rattle.std.specs.Prelude.{◌≡◌, ℕ, ◌+◌, ◌≤◌, ◌++◌, ◌||◌, nat_le, not, Bool, List, [], ◌∷◌, All, Option, None, codes, count_by, decimal, length, map, option_map, slice_get, slice_index, take, unwrap_or, Result, Ok, Err, if◌then◌else◌}
-use Rattle.std.specs.List.{flat_map}
+use Rattle.std.specs.Prelude.{◌≡◌, ℕ, ◌+◌, ◌≤◌, ◌++◌, ◌||◌, nat_le, not, Bool, true, false, List, [], ◌∷◌, All, Option, None, Some, codes, cond, count_by, drop, length, map, max, nat_lt, option_map, slice_get, slice_index, take, unwrap_or, Result, Ok, Err, if◌then◌else◌}
+use Rattle.std.specs.List.{flat_map, range_with_len}
 use Rattle.std.specs.Option.{option_or}
+use Rattle.fdb_lines.specs.declared.fault.Fault.{Fault}
+use Rattle.fdb_lines.specs.declared.fault.Found.{Found}
 use Rattle.fdb_lines.specs.declared.line.Line.{Line}
 use Rattle.fdb_lines.specs.declared.reason.Finding.{Finding}
+use Rattle.fdb_lines.specs.Before.{began, ended}
 use Rattle.fdb_lines.specs.Carried.{with_times}
 use Rattle.fdb_lines.specs.KeyParts.{lines_of_one}
 use Rattle.fdb_lines.specs.Keys.{placed_finding, placed_found, places_of}
 use Rattle.fdb_lines.specs.Late.{HasLateSince}
-use Rattle.fdb_lines.specs.Lines.{lines_in}
+use Rattle.fdb_lines.specs.Lines.{is_ask, is_commit, is_read, is_report, line_at, lines_in}
 use Rattle.fdb_lines.specs.Reasons.{found_of, HasReason}
+use Rattle.fdb_lines.specs.Summary.{how_many}
 use Rattle.fdb_lines.specs.Watching.{is_due, opts_of, told_of}
+use Rattle.fdb_log_reader.specs.declared.error.ReadError.{ReadError}
 use Rattle.fdb_log_reader.specs.declared.error.Why.{Why}
+use Rattle.fdb_log_reader.specs.declared.error.Why.TheVariants.{Empty}
 use Rattle.fdb_log_reader.specs.Numbers.{IsMore}
 use Rattle.fdb_log_reader.specs.Printed.{printed}
 use Rattle.fdb_log_reader.specs.ReadLine.{SaidLine}
+use Rattle.fdb_audit.specs.Figures.{Figure, figure, figures_words}
+use Rattle.fdb_audit.specs.Groups.{groupings, AreMostOfEach}
 use Rattle.fdb_audit.specs.Judged.{list_text}
-use Rattle.fdb_audit.specs.Objects.{truth}
-use Rattle.fdb_audit.specs.Text.{Beside, PrintedLog, fault_of}
+use Rattle.fdb_audit.specs.Objects.{total_object}
+use Rattle.fdb_audit.specs.Text.{Beside, PrintedLog, fault_of, line}
+use Rattle.fdb_audit.specs.Totals.{faults_line}
 use Rattle.fdb_audit.specs.declared.fault.LogFault.{LogFault}
 use Rattle.fdb_audit.specs.declared.judged.Wanted.{Wanted}
 
@@ -41,6 +50,17 @@ taken_above above [] = []
 taken_above above (Ok said ∷ read) = taken_above (above + 1) read
 taken_above above (Err why ∷ read) = above ∷ taken_above above read
 
+-- the last of the lines that are refused, by its number and why, where the first has a number
+abbrev pub last_refused : ℕ → Option ReadError → List (Result SaidLine Why) → Option ReadError
+last_refused number last [] = last
+last_refused number last (Ok said ∷ read) = last_refused (number + 1) last read
+last_refused number last (Err why ∷ read) = last_refused (number + 1) (Some (record { line = number; why = why })) read
+
+-- that there is no line, where none is taken
+abbrev pub no_line : List SaidLine → Option ReadError
+no_line [] = Some (record { line = 0; why = Empty })
+no_line (said ∷ taken) = None
+
 -- Of what was read before, lines that were kept of it come first: each with its number, counted from 1; and there were so many more.
 pub record KeptNumbers : Type 0 where
   pub numbers : List ℕ
@@ -49,6 +69,44 @@ pub record KeptNumbers : Type 0 where
 -- nothing was read before
 abbrev pub none_kept : KeptNumbers
 none_kept = record { numbers = []; more = 0 }
+
+-- From where a log is followed: how far behind the newest end a line that comes may begin; whether that is from its beginning;
+-- the numbers of the lines that were kept of what was read before, and of these how many lines they are, how many had come early,
+-- and which faults had been told.
+pub record Start : Type 0 where
+  pub behind : ℕ
+  pub anew : Bool
+  pub numbers : KeptNumbers
+  pub lines : ℕ
+  pub early : ℕ
+  pub told : List Found
+
+-- none of the lines that have these numbers has been read yet
+abbrev pub start_with : ℕ → KeptNumbers → Start
+start_with behind numbers = record { behind = behind; anew = true; numbers = numbers; lines = 0; early = 0; told = [] }
+
+-- nothing was read before
+abbrev pub fresh : ℕ → Start
+fresh behind = start_with behind none_kept
+
+-- the lines that were taken of those that came since
+abbrev pub lines_since : Start → List (Result SaidLine Why) → List Line
+lines_since start read = lines_taken (drop start.lines read)
+
+-- the newest end of some lines that is known, or of what was before
+abbrev pub newest_end : ℕ → List Line → ℕ
+newest_end newest [] = newest
+newest_end newest (line ∷ lines) = newest_end (max newest (unwrap_or (ended line) 0)) lines
+
+-- how many of some lines began further behind than that the newest end of those above them
+abbrev pub out_of_reach : ℕ → ℕ → List Line → ℕ
+out_of_reach behind newest [] = 0
+out_of_reach behind newest (line ∷ lines) =
+    cond (nat_lt (began line + behind) newest) 1 0 + out_of_reach behind (max newest (unwrap_or (ended line) 0)) lines
+
+-- why a part of a log is refused, if it is: the last line that is, or that none is taken
+abbrev pub left_out : KeptNumbers → List (Result SaidLine Why) → Option ReadError
+left_out kept read = option_or (last_refused (kept.more + 1) None read) (no_line (taken read))
 
 -- The number of a line among all, counted from 1, by how many were taken above it: these, those that were not kept, and those
 -- that were refused above.
@@ -121,6 +179,24 @@ AreWindows kept margin wanted read names (window ∷ windows) text =
     (first rest : List ℕ) × (text ≡ first ++ rest) × (window.read ≤ length read) × IsMore window.names names
     × IsWindow kept margin wanted (take window.read read) window first × AreWindows kept margin wanted read names windows rest
 
+-- the faults that a window tells, each at the place of its line among all lines that were taken
+abbrev pub told_in : List (Result SaidLine Why) → Window → List Found
+told_in read window = map (λ finding. placed_found (places_in read window) (found_of finding)) window.found
+
+-- and those that windows tell, one after another
+abbrev pub told_in_all : List (Result SaidLine Why) → List Window → List Found
+told_in_all read windows = flat_map (λ (window : Window). told_in (take window.read read) window) windows
+
+-- their kinds, and the lines at which they stand
+abbrev pub kinds_told : List Window → List Fault
+kinds_told windows = flat_map (λ (window : Window). map (λ (finding : Finding). finding.found.fault) window.found) windows
+
+abbrev pub lines_at : List (Result SaidLine Why) → Window → List Line
+lines_at read window = map (λ (finding : Finding). line_at (lines_in (lines_taken read) (places_in read window)) finding.found.line) window.found
+
+abbrev pub lines_told : List (Result SaidLine Why) → List Window → List Line
+lines_told read windows = flat_map (λ (window : Window). lines_at (take window.read read) window) windows
+
 -- ---- what is printed at the end
 
 -- how many lines were taken, in all and of each kind; how many were refused; and how many began before what had been settled
@@ -133,32 +209,20 @@ pub record Counted : Type 0 where
   pub refused : ℕ
   pub early : ℕ
 
--- in words
-abbrev pub draws_words : Counted → List ℕ
-draws_words counts = codes " asks " ++ decimal counts.asks ++ codes " reports " ++ decimal counts.reports
+pub record IsCounted (start : Start) (read : List (Result SaidLine Why)) (counts : Counted) : Type 0 where
+  pub lines : counts.lines ≡ length (lines_since start read)
+  pub reads : counts.reads ≡ how_many is_read (lines_since start read)
+  pub commits : counts.commits ≡ how_many is_commit (lines_since start read)
+  pub asks : counts.asks ≡ how_many is_ask (lines_since start read)
+  pub reports : counts.reports ≡ how_many is_report (lines_since start read)
+  pub refused : counts.refused ≡ length (taken_above 0 read)
 
-abbrev pub came_words : Counted → List ℕ
-came_words counts = codes " refused " ++ decimal counts.refused ++ codes " early " ++ decimal counts.early
-
-abbrev pub counted_words : Counted → List ℕ
-counted_words counts =
-    codes " lines " ++ decimal counts.lines ++ codes " reads " ++ decimal counts.reads ++ codes " commits " ++ decimal counts.commits
-    ++ draws_words counts ++ came_words counts
-
--- as a JSON object
-abbrev pub draws_members : Counted → List ℕ
-draws_members counts = codes ",\"asks\":" ++ decimal counts.asks ++ codes ",\"reports\":" ++ decimal counts.reports
-
-abbrev pub came_members : Counted → List ℕ
-came_members counts = codes ",\"refused\":" ++ decimal counts.refused ++ codes ",\"early\":" ++ decimal counts.early ++ codes "}"
-
-abbrev pub lines_members : Counted → List ℕ
-lines_members counts =
-    codes "{\"lines\":" ++ decimal counts.lines ++ codes ",\"reads\":" ++ decimal counts.reads ++ codes ",\"commits\":"
-    ++ decimal counts.commits
-
-abbrev pub counted_object : Counted → List ℕ
-counted_object counts = lines_members counts ++ draws_members counts ++ came_members counts
+-- these, by their names
+abbrev pub counted_figures : Counted → List Figure
+counted_figures counts =
+    figure (codes "lines") counts.lines ∷ figure (codes "reads") counts.reads ∷ figure (codes "commits") counts.commits
+    ∷ figure (codes "asks") counts.asks ∷ figure (codes "reports") counts.reports ∷ figure (codes "refused") counts.refused
+    ∷ figure (codes "early") counts.early ∷ []
 
 -- the arguments: how far behind the newest end a line may begin, the margin, whether keys are kept, and what is printed beside lines
 pub record FollowArguments : Type 0 where
@@ -167,21 +231,28 @@ pub record FollowArguments : Type 0 where
   pub by_key : Bool
   pub members : List (List ℕ)
 
--- names with commas between them
-abbrev pub listed : List (List ℕ) → List ℕ
-listed [] = []
-listed (name ∷ names) = name ++ flat_map (λ other. codes "," ++ other) names
+abbrev pub followed_figures : FollowArguments → List Figure
+followed_figures asked = figure (codes "follow") asked.behind ∷ figure (codes "margin") asked.margin ∷ []
 
-abbrev pub followed_members : FollowArguments → List ℕ
-followed_members asked =
-    codes "{\"follow\":" ++ decimal asked.behind ++ codes ",\"margin\":" ++ decimal asked.margin ++ codes ",\"by_key\":"
+-- The totals of faults of these kinds, the first of which stands at the first of these lines, and so on: how many there are, and
+-- the groups with most.
+pub record AreTotals (json : Bool) (names : List (List ℕ)) (lines : List Line) (kinds : List Fault) (text : List ℕ) : Type 0 where
+  pub faults : List Found
+  pub are : map (λ (found : Found). found.fault) faults ≡ kinds
+  pub stand : map (λ (found : Found). found.line) faults ≡ range_with_len 0 (length kinds)
+  pub beside : List Beside
+  pub groups : List ℕ
+  pub most : AreMostOfEach json (groupings (record { lines = lines; names = names; numbers = []; beside = beside })) faults groups
+  pub printed : text ≡ line (faults_line json faults) ++ groups
 
-abbrev pub followed_object : FollowArguments → List ℕ
-followed_object asked = followed_members asked ++ truth asked.by_key ++ codes ",\"members\":[" ++ listed asked.members ++ codes "]}"
+-- how much was read, in front of the totals
+abbrev pub total_head : Bool → Counted → FollowArguments → List ℕ
+total_head false counts asked = line (figures_words (codes "audit total") (counted_figures counts))
+total_head true counts asked = line (total_object (counted_figures counts) (followed_figures asked) asked.by_key asked.members)
 
--- how much was read, and by which arguments
-abbrev pub arguments_member : FollowArguments → List ℕ
-arguments_member asked = codes ",\"arguments\":" ++ followed_object asked ++ codes "}"
-
-abbrev pub total_of : Counted → FollowArguments → List ℕ
-total_of counts asked = codes "{\"total\":" ++ counted_object counts ++ arguments_member asked
+-- What is printed behind all that was told: that no fault was, in words; or the totals, where they are wanted.
+abbrev pub IsEnd : (quiet totals json : Bool) → Counted → FollowArguments → List (List ℕ) → List Line → List Fault → List ℕ → Type 0
+IsEnd true totals json counts asked names lines kinds text = text ≡ line (figures_words (codes "audit ok") (counted_figures counts))
+IsEnd false false json counts asked names lines kinds text = text ≡ []
+IsEnd false true json counts asked names lines kinds text =
+    (totals : List ℕ) × AreTotals json names lines kinds totals × (text ≡ total_head json counts asked ++ totals)

@@ -1,17 +1,16 @@
 -- What is printed of the clients, and of the texts of a member, with most faults. (this product's own)
-use Rattle.std.specs.Prelude.{◌≡◌, ℕ, ◌+◌, ◌<◌, ◌==◌, ◌⊎◌, ◌++◌, ◌∷◌, Bool, true, false, List, [], All, AllPairs, Contains, Option, None, Some, codes, filter, length, map, slice_get, slice_index_or, take}
+use Rattle.std.specs.Prelude.{◌≡◌, ℕ, ◌+◌, ◌<◌, ◌==◌, ◌⊎◌, ◌++◌, ◌∷◌, Bool, true, false, List, [], All, AllPairs, Contains, Option, None, Some, codes, filter, length, map, slice_index_or, take}
 use Rattle.std.specs.List.{flat_map}
-use Rattle.fdb_lines.specs.declared.reason.Finding.{Finding}
+use Rattle.fdb_lines.specs.declared.fault.Found.{Found}
 use Rattle.fdb_lines.specs.Lines.{line_at}
-use Rattle.fdb_audit.specs.Objects.{name_or_number, text_or_null}
-use Rattle.fdb_audit.specs.Text.{Beside, PrintedLog, client_text, line, owner_of}
+use Rattle.fdb_audit.specs.Objects.{text_or_null}
+use Rattle.fdb_audit.specs.Text.{Beside, PrintedLog, client_or, line, owner_of}
 use Rattle.fdb_audit.specs.Totals.{kinds, value_of}
 
 -- What faults are grouped by: of which group a line is, and how a group is named, in words and in an object.
 pub record Grouping : Type 0 where
   pub owner : ℕ → Option ℕ
-  pub words : Option ℕ → List ℕ
-  pub field : Option ℕ → List ℕ
+  pub name : Bool → Option ℕ → List ℕ
 
 -- ---- which groups have most faults
 
@@ -21,8 +20,8 @@ number_of None = 0
 number_of (Some number) = number + 1
 
 -- the faults of a group
-abbrev pub of_group : (ℕ → Option ℕ) → List Finding → Option ℕ → List Finding
-of_group owner found group = filter (λ finding. number_of (owner finding.found.line) == number_of group) found
+abbrev pub of_group : (ℕ → Option ℕ) → List Found → Option ℕ → List Found
+of_group owner found group = filter (λ (it : Found). number_of (owner it.line) == number_of group) found
 
 -- one group comes before another: it has more faults, or as many and the lower number
 abbrev pub ComesBefore : (Option ℕ → ℕ) → Option ℕ → Option ℕ → Type 0
@@ -36,44 +35,41 @@ pub record AreRanked (count : Option ℕ → ℕ) (groups : List (Option ℕ)) :
 
 -- ---- by what faults are grouped: by the clients of the calls, and by the texts of each member that is printed beside them
 
-abbrev pub client_words : List (List ℕ) → Option ℕ → List ℕ
-client_words names None = codes " no client"
-client_words names (Some client) = codes " " ++ client_text names client
+abbrev pub client_name : Bool → List (List ℕ) → Option ℕ → List ℕ
+client_name false names client = client_or names (codes " client ") (codes " no client") client
+client_name true names client = client_or names (codes "\"client\":") (codes "\"client\":null") client
 
-abbrev pub client_or_null : List (List ℕ) → Option ℕ → List ℕ
-client_or_null names None = codes "\"client\":null"
-client_or_null names (Some client) = codes "\"client\":" ++ name_or_number client (slice_get names client)
-
-abbrev pub value_or_null : Beside → Option ℕ → List ℕ
-value_or_null it group = codes "\"members\":{" ++ it.member ++ codes ":" ++ text_or_null (value_of it group) ++ codes "}"
+abbrev pub member_name : Bool → Beside → Option ℕ → List ℕ
+member_name false it group = owner_of it group
+member_name true it group = codes "\"members\":{" ++ it.member ++ codes ":" ++ text_or_null (value_of it group) ++ codes "}"
 
 abbrev pub by_client : PrintedLog → Grouping
-by_client it = record { owner = λ place. (line_at it.lines place).client; words = client_words it.names; field = client_or_null it.names }
+by_client it = record { owner = λ place. (line_at it.lines place).client; name = λ json. client_name json it.names }
 
 abbrev pub by_member : Beside → Grouping
-by_member it = record { owner = λ place. slice_index_or it.numbers place None; words = owner_of it; field = value_or_null it }
+by_member it = record { owner = λ place. slice_index_or it.numbers place None; name = λ json. member_name json it }
 
 -- ---- what is printed of them
 
 -- a group, and how many faults it has, in all and of each kind
 abbrev pub group_head : Bool → Grouping → Option ℕ → List ℕ
-group_head false by group = codes "audit total" ++ by.words group
-group_head true by group = codes "{" ++ by.field group ++ codes ","
+group_head false by group = codes "audit total" ++ by.name false group
+group_head true by group = codes "{" ++ by.name true group ++ codes ","
 
-abbrev pub group_line : Bool → Grouping → List Finding → Option ℕ → List ℕ
+abbrev pub group_line : Bool → Grouping → List Found → Option ℕ → List ℕ
 group_line json by found group = group_head json by group ++ kinds json (of_group by.owner found group)
 
-abbrev pub group_lines : Bool → Grouping → List Finding → List (Option ℕ) → List ℕ
+abbrev pub group_lines : Bool → Grouping → List Found → List (Option ℕ) → List ℕ
 group_lines json by found groups = flat_map (λ group. line (group_line json by found group)) groups
 
 -- the ten groups with most faults
-abbrev pub AreMost : Bool → Grouping → List Finding → List ℕ → Type 0
+abbrev pub AreMost : Bool → Grouping → List Found → List ℕ → Type 0
 AreMost json by found text =
     (groups : List (Option ℕ)) × AreRanked (λ group. length (of_group by.owner found group)) groups
     × (text ≡ group_lines json by found (take 10 groups))
 
 -- the same of each grouping
-abbrev pub AreMostOfEach : Bool → List Grouping → List Finding → List ℕ → Type 0
+abbrev pub AreMostOfEach : Bool → List Grouping → List Found → List ℕ → Type 0
 AreMostOfEach json [] found text = text ≡ []
 AreMostOfEach json (by ∷ more) found text =
     (first : List ℕ) × AreMost json by found first × (rest : List ℕ) × AreMostOfEach json more found rest × (text ≡ first ++ rest)

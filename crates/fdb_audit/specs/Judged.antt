@@ -1,5 +1,5 @@
 -- What is printed of an audit of a log. (this product's own)
-use Rattle.std.specs.Prelude.{◌≡◌, ⊤, ℕ, ◌++◌, Bool, true, false, cond, List, [], ◌∷◌, All, Option, None, Some, Ok, codes, is_some, length, map, slice_get}
+use Rattle.std.specs.Prelude.{◌≡◌, ⊤, ℕ, ◌+◌, ◌++◌, Bool, true, false, List, [], ◌∷◌, Option, None, Some, Ok, codes, is_some, map, slice_get}
 use Rattle.std.specs.List.{flat_map}
 use Rattle.fdb_lines.specs.declared.fault.Found.{Found}
 use Rattle.fdb_lines.specs.declared.key_order.KeyOrder.{KeyOrder}
@@ -7,81 +7,30 @@ use Rattle.fdb_lines.specs.declared.opts.AuditOpts.{AuditOpts}
 use Rattle.fdb_lines.specs.declared.reason.Finding.{Finding}
 use Rattle.fdb_lines.specs.declared.summed.Summary.{Summary}
 use Rattle.fdb_lines.specs.declared.step.OrderStep.{OrderStep}
-use Rattle.fdb_lines.specs.Audit.{AreExplained, case_of}
-use Rattle.fdb_lines.specs.Keys.{faults_by_key, keys_of, AreExplainedByKey, HasLateByKey, HasReasonByKey}
-use Rattle.fdb_lines.specs.KeyOrders.{IsOrderOfKey}
-use Rattle.fdb_lines.specs.Late.{HasLate}
-use Rattle.fdb_lines.specs.Lines.{Lines, is_ask, is_commit, is_learn, is_read, is_report}
-use Rattle.fdb_lines.specs.Listing.{faults_of}
-use Rattle.fdb_lines.specs.Reasons.{HasReason, found_of}
-use Rattle.fdb_lines.specs.Summary.{how_many, ordered, ordered_by_key, unreported, unreported_by_key}
+use Rattle.fdb_lines.specs.Audit.{case_of}
+use Rattle.fdb_lines.specs.Judged.{faults_in, AreAll, AreExplainedIn, AreOrders, HasLateIn, HasReasonIn, IsSummary}
+use Rattle.fdb_lines.specs.Lines.{Lines}
 use Rattle.fdb_lines.specs.OrderSteps.{IsOrderOf}
 use Rattle.fdb_log_reader.specs.Columns.{ArePrinted, HasCells, KeyColumn, ShownColumn}
 use Rattle.fdb_log_reader.specs.Printed.{printed}
 use Rattle.fdb_log_reader.specs.Reading.{Reading, reading_with}
 use Rattle.fdb_audit.specs.Groups.{groupings, AreMostOfEach}
-use Rattle.fdb_audit.specs.Objects.{fault_objects, text_or_null, total_object, step_objects}
-use Rattle.fdb_audit.specs.Text.{Beside, PrintedLog, counts_text, history_lines, line, listing_text, owner_of, summary_text}
+use Rattle.fdb_audit.specs.Figures.{figures_words, opts_figures, summary_figures}
+use Rattle.fdb_audit.specs.Objects.{fault_object, step_object, text_or_null, total_object}
+use Rattle.fdb_audit.specs.Text.{Beside, PrintedLog, finding_text, line, owner_of, step_line}
 use Rattle.fdb_audit.specs.Totals.{faults_line, value_of}
 use Rattle.fdb_audit.specs.declared.judged.Wanted.{Wanted}
 
--- ---- what is found: of all lines together, or of those of each key by themselves, where they have keys
-
--- some history explains the lines, or for each key one explains its lines
-abbrev pub AreExplainedIn : Lines → Option (List (Option ℕ)) → AuditOpts → Type 0
-AreExplainedIn log None opts = AreExplained (case_of log opts)
-AreExplainedIn log (Some keys) opts = AreExplainedByKey log keys opts
-
-abbrev pub faults_in : Lines → Option (List (Option ℕ)) → AuditOpts → List Found
-faults_in log None opts = faults_of (case_of log opts)
-faults_in log (Some keys) opts = faults_by_key log keys opts
-
--- a fault has a reason that is true of the lines, and it is told how late the call was
-abbrev pub HasReasonIn : Lines → Option (List (Option ℕ)) → AuditOpts → Finding → Type 0
-HasReasonIn log None opts finding = HasReason log opts finding
-HasReasonIn log (Some keys) opts finding = HasReasonByKey log keys opts finding
-
-abbrev pub HasLateIn : Lines → Option (List (Option ℕ)) → AuditOpts → Finding → Type 0
-HasLateIn log None opts finding = HasLate log opts finding
-HasLateIn log (Some keys) opts finding = HasLateByKey log keys opts finding
-
--- all faults, each once
-pub record AreAll (log : Lines) (keys : Option (List (Option ℕ))) (opts : AuditOpts) (found : List Finding) : Type 0 where
-  pub listed : map found_of found ≡ faults_in log keys opts
-  pub reasons : All (HasReasonIn log keys opts) found
-  pub late : All (HasLateIn log keys opts) found
-
-abbrev pub unreported_in : Lines → Option (List (Option ℕ)) → AuditOpts → ℕ
-unreported_in log None opts = unreported (case_of log opts)
-unreported_in log (Some keys) opts = unreported_by_key log keys opts
-
-abbrev pub ordered_in : Lines → Option (List (Option ℕ)) → AuditOpts → ℕ
-ordered_in log None opts = ordered (case_of log opts)
-ordered_in log (Some keys) opts = ordered_by_key log keys opts
-
--- the counts of a verdict: the lines in all and of each kind, the versions that no line reports, and the pairs of lines
--- in order, where these have times
-pub record IsSummary (log : Lines) (keys : Option (List (Option ℕ))) (opts : AuditOpts) (counts : Summary) : Type 0 where
-  pub lines : counts.lines ≡ length log.lines
-  pub timed : counts.timed ≡ cond log.timed (length log.lines) 0
-  pub reads : counts.reads ≡ how_many is_read log.lines
-  pub commits : counts.commits ≡ how_many is_commit log.lines
-  pub asks : counts.asks ≡ how_many is_ask log.lines
-  pub reports : counts.reports ≡ how_many is_report log.lines
-  pub learns : counts.learns ≡ how_many is_learn log.lines
-  pub unreported : counts.unreported ≡ unreported_in log keys opts
-  pub ordered : counts.ordered ≡ cond log.timed (Some (ordered_in log keys opts)) None
-
--- an order for each key
-pub record AreOrders (log : Lines) (keys : List (Option ℕ)) (opts : AuditOpts) (orders : List KeyOrder) : Type 0 where
-  pub each : map (λ order. order.key) orders ≡ keys_of keys
-  pub explain : All (IsOrderOfKey log keys opts) orders
-
 -- ---- what is printed: sentences, or JSON objects
 
-abbrev pub steps_text : Bool → PrintedLog → List ℕ → List OrderStep → List ℕ
-steps_text false it key steps = history_lines it key 0 steps
-steps_text true it key steps = step_objects it key 0 steps
+abbrev pub step_text : Bool → PrintedLog → List ℕ → ℕ → OrderStep → List ℕ
+step_text false it key number step = step_line it key number step
+step_text true it key number step = step_object it key number step
+
+-- a line for each step of an order, counted on from a number
+abbrev pub steps_text : Bool → PrintedLog → List ℕ → ℕ → List OrderStep → List ℕ
+steps_text json it key number [] = []
+steps_text json it key number (step ∷ steps) = line (step_text json it key number step) ++ steps_text json it key (number + 1) steps
 
 -- a key, as it is told of a step: by the first member that is printed beside the calls
 abbrev pub key_text : Bool → List Beside → Option ℕ → List ℕ
@@ -90,24 +39,24 @@ key_text false (it ∷ more) key = owner_of it key
 key_text true (it ∷ more) key = codes ",\"key\":" ++ text_or_null (value_of it key)
 
 abbrev pub orders_text : Bool → PrintedLog → List KeyOrder → List ℕ
-orders_text json it orders = flat_map (λ order. steps_text json it (key_text json it.beside order.key) order.steps.items) orders
+orders_text json it orders = flat_map (λ order. steps_text json it (key_text json it.beside order.key) 0 order.steps.items) orders
 
 -- an order that explains the lines, if it is wanted
 abbrev pub IsHistory : Lines → PrintedLog → Option (List (Option ℕ)) → AuditOpts → Wanted → Bool → List ℕ → Type 0
 IsHistory log it keys opts wanted false text = text ≡ []
 IsHistory log it None opts wanted true text =
-    (steps : List OrderStep) × IsOrderOf (case_of log opts) steps × (text ≡ steps_text wanted.json it [] steps)
+    (steps : List OrderStep) × IsOrderOf (case_of log opts) steps × (text ≡ steps_text wanted.json it [] 0 steps)
 IsHistory log it (Some keys) opts wanted true text =
     (orders : List KeyOrder) × AreOrders log keys opts orders × (text ≡ orders_text wanted.json it orders)
 
 -- how much was judged
 abbrev pub total_line : Bool → PrintedLog → Option (List (Option ℕ)) → AuditOpts → Summary → List ℕ
-total_line false it keys opts counts = codes "audit total" ++ counts_text counts
-total_line true it keys opts counts = total_object opts (is_some keys) it.beside counts
+total_line false it keys opts counts = figures_words (codes "audit total") (summary_figures counts)
+total_line true it keys opts counts = total_object (summary_figures counts) (opts_figures opts) (is_some keys) (map (λ member. member.member) it.beside)
 
 -- What is printed where no fault stands: how much that stands on, and an order that explains the lines if it is wanted.
 abbrev pub head_text : Bool → PrintedLog → Option (List (Option ℕ)) → AuditOpts → Summary → List ℕ
-head_text false it keys opts counts = line (summary_text counts)
+head_text false it keys opts counts = line (figures_words (codes "audit ok") (summary_figures counts))
 head_text true it keys opts counts = line (total_line true it keys opts counts) ++ line (faults_line true [])
 
 abbrev pub passed_text : Bool → List ℕ → List ℕ → List ℕ
@@ -119,9 +68,13 @@ IsPassed log it keys opts wanted text =
     (counts : Summary) × IsSummary log keys opts counts × (history : List ℕ) × IsHistory log it keys opts wanted wanted.history history
     × (text ≡ passed_text wanted.json (head_text wanted.json it keys opts counts) history)
 
+abbrev pub fault_line : Bool → PrintedLog → Finding → List ℕ
+fault_line false it finding = finding_text it finding
+fault_line true it finding = fault_object it finding
+
+-- a line for each of some faults
 abbrev pub list_text : Bool → PrintedLog → List Finding → List ℕ
-list_text false it found = listing_text it found
-list_text true it found = fault_objects it found
+list_text json it found = flat_map (λ finding. line (fault_line json it finding)) found
 
 -- the faults that are listed: all, or the first alone, or none where the totals alone are wanted
 abbrev pub IsListing : Lines → PrintedLog → Option (List (Option ℕ)) → AuditOpts → Wanted → Bool → Bool → Found → List ℕ → Type 0
@@ -136,8 +89,8 @@ IsListing log it keys opts wanted false false first text =
 abbrev pub AreTotals : Lines → PrintedLog → Option (List (Option ℕ)) → AuditOpts → Wanted → Bool → List ℕ → Type 0
 AreTotals log it keys opts wanted false text = text ≡ []
 AreTotals log it keys opts wanted true text =
-    (found : List Finding) × AreAll log keys opts found × (counts : Summary) × IsSummary log keys opts counts
-    × (groups : List ℕ) × AreMostOfEach wanted.json (groupings it) found groups
+    let found = faults_in log keys opts in
+    (counts : Summary) × IsSummary log keys opts counts × (groups : List ℕ) × AreMostOfEach wanted.json (groupings it) found groups
     × (text ≡ line (total_line wanted.json it keys opts counts) ++ line (faults_line wanted.json found) ++ groups)
 
 -- What is printed where faults stand: those that are listed, each with a reason that is true of the lines, and totals.

@@ -1,3 +1,4 @@
+pub mod Figures
 pub mod Text
 pub mod Counting
 pub mod Objects
@@ -7,5 +8,6 @@ pub mod Judged
 pub mod Following
 pub mod Taken
 pub mod Watched
+pub mod Kept
 pub mod Program
 pub mod private

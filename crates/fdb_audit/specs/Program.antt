@@ -1,11 +1,12 @@
 -- What the program promises of itself. (this product's own)
-use Rattle.std.specs.Prelude.{◌≡◌, ◌≢◌, ℕ, ◌++◌, ◌||◌, ◌&&◌, ◌==◌, not, true, Bool, List, [], ◌∷◌, Option, None, Some, Err, codes, is_some, map, option_map, pos, string_bytes, unwrap_or}
+use Rattle.std.specs.Prelude.{◌≡◌, ◌≢◌, ℕ, ◌++◌, ◌||◌, ◌&&◌, ◌==◌, not, true, Bool, List, [], ◌∷◌, Option, None, Some, Err, codes, is_some, map, option_map, pos, string_bytes, unwrap_or, if◌then◌else◌}
 use Rattle.std.specs.List.{slice_split}
 use Rattle.std.specs.Str.Parse.{digits_value, without_leading_plus}
 use Rattle.clap.specs.Words.{App, Rule, Text, first_of, matches_of, new_rule, one_of}
 use Rattle.fdb_command.specs.Arguments.{command_of, file_rule, flag_rule, is_set, number_rule}
 use Rattle.fdb_command.specs.Driving.{Promise}
 use Rattle.fdb_lines.specs.declared.fault.Found.{Found}
+use Rattle.fdb_log_reader.specs.declared.error.ReadError.{ReadError}
 use Rattle.fdb_log_reader.specs.declared.error.Why.TheVariants.{Memory}
 use Rattle.fdb_log_reader.specs.declared.reader.LogReader.{LogReader}
 use Rattle.fdb_log_reader.specs.Reader.{reads_on}
@@ -18,11 +19,12 @@ use Rattle.fdb_audit.specs.declared.judged.Wanted.{Wanted}
 use Rattle.fdb_audit.specs.declared.refused.LogsRefused.{LogsRefused}
 use Rattle.fdb_audit.specs.declared.refused.LogsRefused.TheVariants.{Log}
 use Rattle.fdb_audit.specs.declared.refused.LogsRefused.TheVariants.{Kept as Of_kept}
-use Rattle.fdb_audit.specs.Following.{KeptNumbers, none_kept}
+use Rattle.fdb_audit.specs.Following.{Start, fresh, left_out}
+use Rattle.fdb_audit.specs.Kept.{start_of}
 use Rattle.fdb_audit.specs.declared.audit_program.AuditIntake.{AuditIntake}
 use Rattle.fdb_audit.specs.declared.audit_program.AuditIntake.TheVariants.{Whole, Followed}
 use Rattle.fdb_audit.specs.declared.audit_program.TheConstants.{MAX_LOG_BYTES}
-use Rattle.fdb_audit.specs.Watched.{AreAllTaken, AreLeftOut, HasFollowed, IsFollowed}
+use Rattle.fdb_audit.specs.Watched.{HasFollowed, IsFollowed, lines_asked}
 
 -- an argument that gives a text, as clap is given it
 abbrev pub text_rule : Text → Rule
@@ -93,40 +95,39 @@ Prints asked bytes text found =
     (first : Option Found) × (found ≡ option_map (fault_of []) first)
     × IsJudgementBy (key_asked asked) (shown_asked asked) bytes asked.opts asked.wanted first text
 
--- What was kept of what was read before, where the arguments say that and where it is kept: lines, as a text that is read in
--- front of what comes, and the numbers of these.
-pub record Kept : Type 0 where
-  pub text : List ℕ
-  pub numbers : KeptNumbers
+-- From where a log is followed on: by what was kept of it, where the arguments say that and where it is kept, as a text that is
+-- read in front of what comes; and else from its beginning.
+abbrev pub started : AuditArguments → ℕ → List ℕ → Start
+started asked behind kept = if is_some asked.keep then start_of asked behind kept else fresh behind
 
-abbrev pub IsKeptFor : AuditArguments → Kept → Type 0
-IsKeptFor asked kept = asked.keep ≡ None → (kept.text ≡ []) × (kept.numbers ≡ none_kept)
+-- no text is kept where none is asked for
+abbrev pub MayBeKept : AuditArguments → List ℕ → Type 0
+MayBeKept asked kept = asked.keep ≡ None → kept ≡ []
 
 -- the intake has taken these bytes: of a log that is followed this text has been told so far, of any other none
 abbrev pub HasTaken : AuditArguments → AuditIntake → List ℕ → List ℕ → Type 0
 HasTaken asked (Whole reader) bytes told = (asked.follow ≡ None) × HasRead asked reader bytes × (told ≡ [])
 HasTaken asked (Followed log) bytes told =
-    (behind : ℕ) × (asked.follow ≡ Some behind) × (kept : Kept) × IsKeptFor asked kept
-    × HasFollowed asked kept.numbers log.follower (kept.text ++ bytes) told
+    (behind : ℕ) × (asked.follow ≡ Some behind) × (kept : List ℕ) × MayBeKept asked kept
+    × HasFollowed asked (started asked behind kept) log.follower (kept ++ bytes) told
 
--- each line of a text was taken; or some were refused, and why the last was
-abbrev pub AreLeftBy : Option LogsRefused → AuditArguments → List ℕ → Type 0
-AreLeftBy None asked text = AreAllTaken asked text
-AreLeftBy (Some (Log error)) asked text = AreLeftOut asked text
-AreLeftBy (Some (Of_kept refused)) asked text = ⊥
+-- why a part of a text is refused, if it is: the last line that is, or that none is taken
+abbrev pub refused_of : AuditArguments → Start → List ℕ → Option ReadError
+refused_of asked start text = left_out start.numbers (lines_asked asked text)
 
 -- what is printed of a log, which is refused whole or not at all, or of one that is followed, of which lines may be left out
 abbrev pub PrintsBy : Option ℕ → AuditArguments → List ℕ → List ℕ → Option LogFault → Option LogsRefused → Type 0
 PrintsBy None asked bytes text found refused = Prints asked bytes text found × (refused ≡ None)
 PrintsBy (Some behind) asked bytes text found refused =
-    (kept : Kept) × IsKeptFor asked kept × IsFollowed asked kept.numbers (kept.text ++ bytes) text found
-    × AreLeftBy refused asked (kept.text ++ bytes)
+    (kept : List ℕ) × MayBeKept asked kept × IsFollowed asked (started asked behind kept) (not (is_some asked.keep)) (kept ++ bytes) text found
+    × (refused ≡ option_map Log (refused_of asked (started asked behind kept) (kept ++ bytes)))
 
 -- why it is refused, or why a part of it is; or what was kept is
 abbrev pub RefusesBy : Option ℕ → AuditArguments → List ℕ → LogsRefused → Type 0
 RefusesBy None asked bytes (Log error) = (error.why ≢ Memory) × (reading_with (key_asked asked) (shown_asked asked) bytes ≡ Err error)
 RefusesBy None asked bytes (Of_kept refused) = ⊥
-RefusesBy (Some behind) asked bytes (Log error) = (kept : Kept) × IsKeptFor asked kept × AreLeftOut asked (kept.text ++ bytes)
+RefusesBy (Some behind) asked bytes (Log error) =
+    (kept : List ℕ) × MayBeKept asked kept × (refused_of asked (started asked behind kept) (kept ++ bytes) ≡ Some error)
 RefusesBy (Some behind) asked bytes (Of_kept refused) = is_some asked.keep ≡ true
 
 -- Neither --complete nor --history suits --follow, and --keep suits nothing else. It prints what an audit of the log finds that the bytes stand for,

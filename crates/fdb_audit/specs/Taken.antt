@@ -1,11 +1,22 @@
--- The lines that a follower has taken, of those that were read. (this product's own)
-use Rattle.std.specs.Prelude.{◌≡◌, ◌+◌, ◌<◌, ◌^◌, List, length, Result}
+-- The lines that a follower has taken, of those that were read, and what it has told of them. (this product's own)
+use Rattle.std.specs.Prelude.{◌≡◌, ℕ, ◌+◌, ◌-◌, ◌<◌, ◌≤◌, ◌^◌, Bool, true, false, All, List, MatchOption, None, Option, Result, length, map, string_bytes}
+use Rattle.std.specs.List.{range_with_len}
+use Rattle.fdb_lines.specs.declared.fault.Fault.{Fault}
+use Rattle.fdb_lines.specs.declared.fault.Found.{Found}
+use Rattle.fdb_lines.specs.declared.line.Line.{Line}
 use Rattle.fdb_lines.specs.KeyWatch.{HasSeenByKey}
+use Rattle.fdb_lines.specs.Lines.{is_ask, is_commit, is_read, is_report}
+use Rattle.fdb_lines.specs.Summary.{how_many}
+use Rattle.fdb_lines.specs.ToldByKey.{HasTold}
 use Rattle.fdb_log_reader.specs.declared.error.Why.{Why}
 use Rattle.fdb_log_reader.specs.ReadLine.{SaidLine}
+use Rattle.fdb_audit.specs.declared.counts.Counts.{Counts}
 use Rattle.fdb_audit.specs.declared.numbering.Numbering.{Numbering}
 use Rattle.fdb_audit.specs.declared.taking.Taking.{Taking}
-use Rattle.fdb_audit.specs.Following.{KeptNumbers, keys_taken, lines_taken, taken, taken_above}
+use Rattle.fdb_audit.specs.declared.teller.Teller.{Teller}
+use Rattle.fdb_audit.specs.declared.beside.Column.{Column}
+use Rattle.fdb_audit.specs.declared.told_faults.ToldFaults.{ToldFaults}
+use Rattle.fdb_audit.specs.Following.{Counted, KeptNumbers, Start, keys_taken, last_refused, lines_since, lines_taken, newest_end, out_of_reach, taken, taken_above}
 
 -- the numbers of the lines that were kept of others and come first, and how many more there were
 abbrev pub kept_by : Numbering → KeptNumbers
@@ -17,8 +28,60 @@ pub record AreNumbered (kept : KeptNumbers) (taking : Taking) (read : List (Resu
   pub front : kept_by taking.numbering ≡ kept
   pub few : length read + kept.more + 1 < 2 ^ 64
 
--- the lines that were taken, of those that were read
-pub record AreTaken (kept : KeptNumbers) (taking : Taking) (read : List (Result SaidLine Why)) : Type 0 where
+-- how many lines there are, and how many of each kind
+pub record AreCounted (counts : Counts) (all : List Line) : Type 0 where
+  pub lines : counts.lines ≡ length all
+  pub reads : counts.reads ≡ how_many is_read all
+  pub commits : counts.commits ≡ how_many is_commit all
+  pub asks : counts.asks ≡ how_many is_ask all
+  pub reports : counts.reports ≡ how_many is_report all
+
+-- It has settled no further than to where lines that come may begin, and so no more have come early than began out of reach.
+pub record IsInReach (behind : ℕ) (taking : Taking) (lines : List Line) : Type 0 where
+  pub newest : taking.newest ≡ newest_end 0 lines
+  pub from : taking.watch.from ≤ taking.newest - behind
+  pub early : taking.counts.early ≤ out_of_reach behind 0 lines
+
+-- The lines that were taken, of those that were read, and what was told of them: where none came early, each fault of a key once
+-- that stands at a line that began before where it has settled.
+pub record AreTaken (start : Start) (taking : Taking) (read : List (Result SaidLine Why)) (told : List Found) : Type 0 where
   pub seen : HasSeenByKey taking.watch (lines_taken read) (keys_taken read)
-  pub numbered : AreNumbered kept taking read
+  pub numbered : AreNumbered start.numbers taking read
   pub count : taking.taken ≡ length (taken read)
+  pub refused : taking.refused ≡ last_refused (start.numbers.more + 1) None read
+  pub counted : AreCounted taking.counts (lines_since start read)
+  pub few : start.lines ≤ length read
+  pub before : start.early ≡ 0 → All (λ (found : Found). found.line < start.lines) start.told
+  pub reach : start.anew ≡ true → IsInReach start.behind taking (lines_taken read)
+  pub once : start.early ≡ 0 → taking.counts.early ≡ 0 → HasTold taking.watch (lines_taken read) (keys_taken read) told
+
+-- Faults of these kinds are counted, the first of which stands at the first of these lines, and so on, with what is printed of
+-- these members beside the lines.
+pub record HasCounted (members : List (List ℕ)) (faults : ToldFaults) (at : List Line) (kinds : List Fault) : Type 0 where
+  pub lines : faults.log.lines.items ≡ at
+  pub are : map (λ (found : Found). found.fault) faults.found.items ≡ kinds
+  pub stand : map (λ (found : Found). found.line) faults.found.items ≡ range_with_len 0 (length kinds)
+  pub as_many : length at ≡ length kinds
+  pub columns : map (λ (column : Column). string_bytes column.member) faults.columns.items ≡ members
+
+-- and so they are where totals are wanted
+abbrev pub HasTotalsIn : Bool → List (List ℕ) → Option ToldFaults → List Line → List Fault → Type 0
+HasTotalsIn totals members told lines kinds = MatchOption told (totals ≡ false) (λ faults. (totals ≡ true) × HasCounted members faults lines kinds)
+
+abbrev pub HasTotals : List (List ℕ) → Teller → List Line → List Fault → Type 0
+HasTotals members teller lines kinds = HasTotalsIn teller.wanted.totals members teller.told lines kinds
+
+-- how much was read
+abbrev pub counted_in : Counts → ℕ → Counted
+counted_in counts refused = record {
+  lines = counts.lines;
+  reads = counts.reads;
+  commits = counts.commits;
+  asks = counts.asks;
+  reports = counts.reports;
+  refused = refused;
+  early = counts.early;
+}
+
+abbrev pub counted_of : Taking → Counted
+counted_of taking = counted_in taking.counts (length taking.numbering.above.items)

@@ -1,8 +1,6 @@
 -- What is printed of a log and its faults. (this product's own)
 use Rattle.std.specs.Prelude.{ℕ, ◌+◌, ◌-◌, ◌++◌, ◌∷◌, ◌==◌, ◌&&◌, nat_lt, not, Bool, true, false, cond, List, [], Option, None, Some, codes, decimal, slice_get, unwrap_or}
 use Rattle.std.specs.List.{flat_map}
-use Rattle.fdb_lines.specs.declared.effect.Effect.{Effect}
-use Rattle.fdb_lines.specs.declared.effect.Effect.TheVariants.{Asks, Reports, Reads}
 use Rattle.fdb_lines.specs.declared.fault.Found.{Found}
 use Rattle.fdb_lines.specs.declared.late.Late.{Late}
 use Rattle.fdb_lines.specs.declared.line.Operation.{Operation}
@@ -15,11 +13,11 @@ use Rattle.fdb_lines.specs.declared.reason.Reason.{Reason}
 use Rattle.fdb_lines.specs.declared.reason.Reason.TheVariants.{Known, Unreported, Reported, Drawn, Undrawn}
 use Rattle.fdb_lines.specs.declared.reason.Witness.{Witness}
 use Rattle.fdb_lines.specs.declared.step.OrderStep.{OrderStep}
-use Rattle.fdb_lines.specs.declared.summed.Summary.{Summary}
 use Rattle.fdb_lines.specs.Before.{began, ended}
 use Rattle.fdb_lines.specs.Lines.{draws, kind_of, line_at}
 use Rattle.fdb_lines.specs.Text.{fault_name}
 use Rattle.fdb_log_reader.specs.Columns.{text_at}
+use Rattle.fdb_audit.specs.Figures.{figures_text, step_figures}
 use Rattle.fdb_audit.specs.declared.fault.LogFault.{LogFault}
 
 -- a line ends with one newline byte
@@ -45,17 +43,14 @@ pub record PrintedLog : Type 0 where
 -- ---- a line, as a sentence names it
 
 -- a client: by its name, or by its number where it has none
-abbrev pub named : ℕ → Option (List ℕ) → List ℕ
-named client None = codes "client " ++ decimal client
-named client (Some name) = codes "client " ++ name
+abbrev pub name_or_number : ℕ → Option (List ℕ) → List ℕ
+name_or_number client None = decimal client
+name_or_number client (Some name) = name
 
-abbrev pub client_text : List (List ℕ) → ℕ → List ℕ
-client_text names client = named client (slice_get names client)
-
--- who made a call: a client, or `its caller` where that is not known
-abbrev pub caller_text : List (List ℕ) → Option ℕ → List ℕ
-caller_text names None = codes "its caller"
-caller_text names (Some client) = client_text names client
+-- a client behind a text, or another text where it is not known
+abbrev pub client_or : List (List ℕ) → List ℕ → List ℕ → Option ℕ → List ℕ
+client_or names before none None = none
+client_or names before none (Some client) = before ++ name_or_number client (slice_get names client)
 
 -- what a line says that was done, with the version, or of whom it has learnt, by number
 abbrev pub call_text : Operation → List ℕ
@@ -80,7 +75,7 @@ owner_of it (Some number) = member_text it.member (slice_get it.texts number)
 
 abbrev pub whose_text : List (List ℕ) → Option ℕ → List ℕ
 whose_text names None = []
-whose_text names (Some client) = client_text names client ++ codes ", "
+whose_text names (Some client) = codes "client " ++ name_or_number client (slice_get names client) ++ codes ", "
 
 -- lines are printed by their numbers, counted from 1: that of a place, or where it has none the place, counted from 1
 abbrev pub number_at : List ℕ → ℕ → ℕ
@@ -173,7 +168,7 @@ reason_text it place late Undrawn = codes ", which nobody drew"
 abbrev pub sentence_text : PrintedLog → ℕ → Option Late → Reason → List ℕ
 sentence_text it place late reason =
     let this = line_at it.lines place in
-    caller_text it.names this.client ++ deed_text this.call ++ members_text it.beside place ++ reason_text it place late reason
+    client_or it.names (codes "client ") (codes "its caller") this.client ++ deed_text this.call ++ members_text it.beside place ++ reason_text it place late reason
 
 -- ---- a fault, on a line of its own
 
@@ -190,51 +185,13 @@ finding_text it finding =
     codes "audit fault: " ++ fault_text (fault_of it.numbers finding.found) ++ codes ": "
     ++ sentence_text it finding.found.line finding.late finding.reason
 
--- a line for each of some faults
-abbrev pub listing_text : PrintedLog → List Finding → List ℕ
-listing_text it found = flat_map (λ finding. line (finding_text it finding)) found
-
--- ---- a log without a fault: how much that stands on, and an order
-
-abbrev pub versions_text : Summary → List ℕ
-versions_text counts =
-    codes " timed " ++ decimal counts.timed ++ codes " reads " ++ decimal counts.reads ++ codes " commits " ++ decimal counts.commits
-
-abbrev pub parts_text : Summary → List ℕ
-parts_text counts =
-    codes " asks " ++ decimal counts.asks ++ codes " reports " ++ decimal counts.reports ++ codes " learns "
-    ++ decimal counts.learns
-
--- of how many pairs of lines one comes before the other, where the lines have times
-abbrev pub ordered_text : Option ℕ → List ℕ
-ordered_text None = []
-ordered_text (Some pairs) = codes " ordered " ++ decimal pairs
-
-abbrev pub evidence_text : Summary → List ℕ
-evidence_text counts = codes " unreported " ++ decimal counts.unreported ++ ordered_text counts.ordered
-
--- how much was judged
-abbrev pub counts_text : Summary → List ℕ
-counts_text counts = codes " lines " ++ decimal counts.lines ++ versions_text counts ++ parts_text counts ++ evidence_text counts
-
--- how much a verdict stands on
-abbrev pub summary_text : Summary → List ℕ
-summary_text counts = codes "audit ok" ++ counts_text counts
-
-abbrev pub effect_text : Effect → List ℕ
-effect_text (Asks version) = codes "ask " ++ decimal version
-effect_text (Reports version) = codes "report " ++ decimal version
-effect_text (Reads version) = codes "read " ++ decimal version
-
-abbrev pub owner_text : List (List ℕ) → Option ℕ → List ℕ
-owner_text names None = []
-owner_text names (Some client) = codes " " ++ client_text names client
+-- ---- an order
 
 -- whose step it is: of a line, with its client where that is known, or of others, with the key of the lines that are in order
 abbrev pub step_owner : PrintedLog → List ℕ → Option ℕ → List ℕ
 step_owner it key None = codes " others" ++ key
 step_owner it key (Some place) =
-    codes " " ++ number_text it.numbers place ++ owner_text it.names (line_at it.lines place).client
+    codes " " ++ number_text it.numbers place ++ client_or it.names (codes " client ") [] (line_at it.lines place).client
     ++ members_text it.beside place
 
 abbrev pub shared_text : Bool → List ℕ
@@ -243,9 +200,4 @@ shared_text false = []
 
 abbrev pub step_line : PrintedLog → List ℕ → ℕ → OrderStep → List ℕ
 step_line it key number step =
-    codes "history " ++ decimal number ++ codes " " ++ effect_text step.effect ++ step_owner it key step.line ++ shared_text step.shared
-
--- a line for each step of an order, counted on from a number
-abbrev pub history_lines : PrintedLog → List ℕ → ℕ → List OrderStep → List ℕ
-history_lines it key number [] = []
-history_lines it key number (step ∷ steps) = line (step_line it key number step) ++ history_lines it key (number + 1) steps
+    figures_text false (step_figures number step.effect) ++ step_owner it key step.line ++ shared_text step.shared

@@ -1,14 +1,18 @@
 -- What has been told of a text whose log is followed. (this product's own)
-use Rattle.std.specs.Prelude.{◌≡◌, ◌⊎◌, ℕ, ◌<◌, ◌++◌, List, [], Option, length, map, option_map, string_bytes, Result}
+use Rattle.std.specs.Prelude.{◌≡◌, ℕ, ◌<◌, ◌≤◌, ◌&&◌, ◌++◌, Bool, true, false, not, All, IsPermutation, List, Option, is_some, map, option_map, option_to_list, string_bytes, Result}
+use Rattle.fdb_lines.specs.declared.fault.Found.{Found}
+use Rattle.fdb_lines.specs.ToldByKey.{audited, audited_to}
 use Rattle.fdb_log_reader.specs.declared.error.Why.{Why}
 use Rattle.fdb_log_reader.specs.LineReader.{line_names, lines_on, names_on}
+use Rattle.fdb_log_reader.specs.Printed.{printed}
 use Rattle.fdb_log_reader.specs.ReadLine.{LineNames, SaidLine, lines_read, names_behind, no_names}
 use Rattle.fdb_log_reader.specs.Reading.{lines_in}
 use Rattle.fdb_audit.specs.declared.arguments.AuditArguments.{AuditArguments}
 use Rattle.fdb_audit.specs.declared.fault.LogFault.{LogFault}
 use Rattle.fdb_audit.specs.declared.follower.Follower.{Follower}
-use Rattle.fdb_audit.specs.Following.{AreWindows, KeptNumbers, Window, first_told, taken, taken_above}
-use Rattle.fdb_audit.specs.Taken.{AreTaken}
+use Rattle.fdb_audit.specs.declared.teller.Teller.{Teller}
+use Rattle.fdb_audit.specs.Following.{AreWindows, Counted, FollowArguments, IsCounted, IsEnd, Start, Window, first_told, keys_taken, kinds_told, lines_taken, lines_told, out_of_reach, told_in_all}
+use Rattle.fdb_audit.specs.Taken.{AreTaken, HasTotals, counted_of}
 
 -- what becomes of the lines of a text, as it is asked for
 abbrev pub lines_asked : AuditArguments → List ℕ → List (Result SaidLine Why)
@@ -18,42 +22,69 @@ lines_asked asked text = lines_read (map string_bytes asked.shown.items) (no_nam
 abbrev pub names_asked : AuditArguments → List ℕ → LineNames
 names_asked asked text = names_behind (map string_bytes asked.shown.items) (no_names (option_map string_bytes asked.key)) (lines_in text)
 
+-- the names of the members that are printed beside lines, as they are printed: of that which has the keys, and of those that are shown
+abbrev pub members_asked : AuditArguments → List (List ℕ)
+members_asked asked =
+    option_to_list (option_map (λ name. printed (string_bytes name)) asked.key) ++ map (λ name. printed (string_bytes name)) asked.shown.items
+
+-- by which arguments a log is followed
+abbrev pub followed_by : AuditArguments → ℕ → FollowArguments
+followed_by asked behind = record { behind = behind; margin = asked.opts.margin; by_key = is_some asked.key; members = members_asked asked }
+
+-- what has been told by windows, as it is asked for
+pub record IsTold (asked : AuditArguments) (start : Start) (teller : Teller) (read : List (Result SaidLine Why)) (windows : List Window) : Type 0 where
+  pub wanted : teller.wanted ≡ asked.wanted
+  pub margin : teller.margin ≡ asked.opts.margin
+  pub by_key : is_some teller.key ≡ is_some asked.key
+  pub first : teller.first ≡ first_told start.numbers read windows
+  pub totals : HasTotals (members_asked asked) teller (lines_told read windows) (kinds_told windows)
+
 -- These lines were read, and this text has been told of them, but for what is told next.
-pub record IsTelling (asked : AuditArguments) (kept : KeptNumbers) (follower : Follower) (read : List (Result SaidLine Why)) (told : List ℕ) : Type 0 where
-  pub taken : AreTaken kept follower.taking read
-  pub margin : follower.taking.watch.margin ≡ asked.opts.margin
-  pub wanted : follower.teller.wanted ≡ asked.wanted
+pub record IsTelling (asked : AuditArguments) (start : Start) (follower : Follower) (read : List (Result SaidLine Why)) (told : List ℕ) : Type 0 where
+  pub behind : follower.behind ≡ start.behind
   pub windows : List Window
-  pub tells : AreWindows kept asked.opts.margin asked.wanted read (line_names follower.reader).clients windows (told ++ string_bytes follower.teller.text)
-  pub first : follower.teller.first ≡ first_told kept read windows
+  pub taken : AreTaken start follower.taking read (start.told ++ told_in_all read windows)
+  pub margin : follower.taking.watch.margin ≡ asked.opts.margin
+  pub tells : AreWindows start.numbers asked.opts.margin asked.wanted read (line_names follower.reader).clients windows (told ++ string_bytes follower.teller.text)
+  pub are : IsTold asked start follower.teller read windows
 
 -- These bytes have been read, whatever comes after them, and this text has been told of their lines.
-pub record HasFollowed (asked : AuditArguments) (kept : KeptNumbers) (follower : Follower) (bytes told : List ℕ) : Type 0 where
+pub record HasFollowed (asked : AuditArguments) (start : Start) (follower : Follower) (bytes told : List ℕ) : Type 0 where
   pub read : List (Result SaidLine Why)
   pub goes : (text : List ℕ) → lines_asked asked (bytes ++ text) ≡ read ++ lines_on follower.reader text
   pub behind : (text : List ℕ) → names_asked asked (bytes ++ text) ≡ names_on follower.reader text
-  pub telling : IsTelling asked kept follower read told
+  pub telling : IsTelling asked start follower read told
+
+-- At the end of a log has been told, each fault once, what an audit of all lines finds; where it is to be followed on, what that
+-- finds at lines that began before some moment.
+abbrev pub IsComplete : Bool → ℕ → List (Result SaidLine Why) → List Found → Type 0
+IsComplete true margin read told = IsPermutation told (audited margin (lines_taken read) (keys_taken read))
+IsComplete false margin read told = (to : ℕ) × IsPermutation told (audited_to margin to (lines_taken read) (keys_taken read))
 
 -- What is told of all lines of a text, window by window, and at the end how much was read; and the first fault, if one was told.
-pub record IsFollowed (asked : AuditArguments) (kept : KeptNumbers) (bytes text : List ℕ) (found : Option LogFault) : Type 0 where
+-- Where no line came early, it is whole; and from its beginning no more came early than began out of reach.
+pub record IsFollowed (asked : AuditArguments) (start : Start) (ends : Bool) (bytes text : List ℕ) (found : Option LogFault) : Type 0 where
   pub windows : List Window
   pub told : List ℕ
+  pub before : start.early ≡ 0 → All (λ (found : Found). found.line < start.lines) start.told
+  pub counts : Counted
   pub end : List ℕ
-  pub whole : text ≡ told ++ end
-  pub tells : AreWindows kept asked.opts.margin asked.wanted (lines_asked asked bytes) (names_asked asked bytes).clients windows told
-  pub first : found ≡ first_told kept (lines_asked asked bytes) windows
-
--- lines of a text are refused, or it has none that is taken
-abbrev pub AreLeftOut : AuditArguments → List ℕ → Type 0
-AreLeftOut asked bytes = (taken (lines_asked asked bytes) ≡ []) ⊎ (0 < length (taken_above 0 (lines_asked asked bytes)))
-
--- each line of a text is taken, and there is one
-abbrev pub AreAllTaken : AuditArguments → List ℕ → Type 0
-AreAllTaken asked bytes = (taken_above 0 (lines_asked asked bytes) ≡ []) × (0 < length (taken (lines_asked asked bytes)))
+  pub text_is : text ≡ told ++ end
+  pub tells : AreWindows start.numbers asked.opts.margin asked.wanted (lines_asked asked bytes) (names_asked asked bytes).clients windows told
+  pub first : found ≡ first_told start.numbers (lines_asked asked bytes) windows
+  pub counted : IsCounted start (lines_asked asked bytes) counts
+  pub end_is : IsEnd (not (is_some found) && not asked.wanted.json) asked.wanted.totals asked.wanted.json counts (followed_by asked start.behind)
+      (map printed (names_asked asked bytes).clients) (lines_told (lines_asked asked bytes) windows) (kinds_told windows) end
+  pub whole : start.early ≡ 0 → counts.early ≡ 0 → IsComplete ends asked.opts.margin (lines_asked asked bytes) (start.told ++ told_in_all (lines_asked asked bytes) windows)
+  pub early : start.anew ≡ true → counts.early ≤ out_of_reach start.behind 0 (lines_taken (lines_asked asked bytes))
 
 -- all that is told of these lines has been told, but for what is told next
-pub record HasToldAll (asked : AuditArguments) (kept : KeptNumbers) (follower : Follower) (read : List (Result SaidLine Why)) (told : List ℕ) : Type 0 where
-  pub wanted : follower.teller.wanted ≡ asked.wanted
+pub record HasToldAll (asked : AuditArguments) (start : Start) (ends : Bool) (follower : Follower) (read : List (Result SaidLine Why)) (told : List ℕ) : Type 0 where
+  pub behind : follower.behind ≡ start.behind
   pub windows : List Window
-  pub tells : AreWindows kept asked.opts.margin asked.wanted read (line_names follower.reader).clients windows (told ++ string_bytes follower.teller.text)
-  pub first : follower.teller.first ≡ first_told kept read windows
+  pub tells : AreWindows start.numbers asked.opts.margin asked.wanted read (line_names follower.reader).clients windows (told ++ string_bytes follower.teller.text)
+  pub are : IsTold asked start follower.teller read windows
+  pub before : start.early ≡ 0 → All (λ (found : Found). found.line < start.lines) start.told
+  pub counted : IsCounted start read (counted_of follower.taking)
+  pub whole : start.early ≡ 0 → follower.taking.counts.early ≡ 0 → IsComplete ends asked.opts.margin read (start.told ++ told_in_all read windows)
+  pub early : start.anew ≡ true → follower.taking.counts.early ≤ out_of_reach start.behind 0 (lines_taken read)

@@ -2,26 +2,34 @@
 pub mod Followed
 pub mod Numbering
 pub mod Kept
-use Rattle.std.specs.Prelude.{◌≡◌, ℕ, ◌==◌, Bool, List, [], Option, None, Some, IfSome, count_by, length, map, option_map, string_bytes}
-use Rattle.fdb_lines.specs.declared.opts.AuditOpts.{AuditOpts}
-use Rattle.fdb_lines.specs.Audit.{case_of}
+pub mod KeptTexts
+use Rattle.std.specs.Prelude.{◌≡◌, ℕ, ◌==◌, Bool, List, [], Option, count_by, map, option_copied, string_bytes}
+use Rattle.fdb_lines.specs.declared.key_order.Order.{Order}
+use Rattle.fdb_lines.specs.declared.key_order.Order.TheVariants.{One, ByKey}
+use Rattle.fdb_lines.specs.Judged.{HaveKeys}
 use Rattle.fdb_lines.specs.Lines.{Lines}
 use Rattle.fdb_lines.specs.Log.{lines_of}
-use Rattle.fdb_lines.specs.OrderSteps.{IsOrderOf}
+use Rattle.fdb_audit.specs.Figures.{Figure}
 use Rattle.fdb_audit.specs.Groups.{by_client, by_member, number_of, Grouping}
 use Rattle.fdb_audit.specs.Text.{Beside, PrintedLog}
-use Rattle.fdb_audit.specs.Judged.{orders_text, steps_text, AreOrders}
+use Rattle.fdb_audit.specs.Judged.{orders_text, steps_text}
 use Rattle.fdb_audit.specs.declared.asked.Asked.{Asked}
-use Rattle.fdb_audit.specs.declared.asked.Order.{Order}
-use Rattle.fdb_audit.specs.declared.asked.Order.TheVariants.{One, ByKey}
-use Rattle.fdb_audit.specs.declared.beside.MemberBeside.{MemberBeside}
+use Rattle.fdb_audit.specs.declared.beside.Column.{Column}
+use Rattle.fdb_audit.specs.declared.figures.Figure.{Figure as Written}
 use Rattle.fdb_audit.specs.declared.grouped.By.{By}
 use Rattle.fdb_audit.specs.declared.grouped.By.TheVariants.{Client, Member}
 use Rattle.fdb_audit.specs.declared.groups.Group.{Group}
 use Rattle.fdb_audit.specs.declared.printer.Printer.{Printer}
 
-abbrev pub beside_of : MemberBeside → Beside
-beside_of it = record { member = string_bytes it.member; texts = map string_bytes it.texts.items; numbers = it.numbers.now }
+abbrev pub beside_of : Column → Beside
+beside_of it = record { member = string_bytes it.member; texts = map string_bytes it.texts.items; numbers = it.numbers.items }
+
+-- the names of the members that are printed beside lines
+abbrev pub members_of : List Column → List (List ℕ)
+members_of columns = map (λ (column : Column). string_bytes column.member) columns
+
+abbrev pub figure_of : Written → Figure
+figure_of it = record { name = it.0.now; number = it.1 }
 
 abbrev pub shown_in : Printer → PrintedLog
 shown_in printer = record {
@@ -37,21 +45,14 @@ abbrev pub log_in : Asked → Lines
 log_in asked = lines_of asked.printer.log.now
 
 abbrev pub keys_in : Asked → Option (List (Option ℕ))
-keys_in asked = option_map (λ keys. keys.now) asked.keys
+keys_in asked = option_copied asked.keys
 
 -- where lines have keys, each has its own
 abbrev pub HasKeys : Asked → Type 0
-HasKeys asked = IfSome (keys_in asked) (λ keys. length keys ≡ length (log_in asked).lines)
-
--- an order for all lines where they have no keys, and else one for each key
-abbrev pub HasOrders : Lines → Option (List (Option ℕ)) → AuditOpts → Order → Type 0
-HasOrders log None opts (One steps) = IsOrderOf (case_of log opts) steps.items
-HasOrders log None opts (ByKey orders) = ⊥
-HasOrders log (Some keys) opts (One steps) = ⊥
-HasOrders log (Some keys) opts (ByKey orders) = AreOrders log keys opts orders.items
+HasKeys asked = HaveKeys (log_in asked) (keys_in asked)
 
 abbrev pub order_text : Bool → PrintedLog → Order → List ℕ
-order_text json it (One steps) = steps_text json it [] steps.items
+order_text json it (One steps) = steps_text json it [] 0 steps.items
 order_text json it (ByKey orders) = orders_text json it orders.items
 
 -- ---- groups of faults

@@ -6,8 +6,8 @@ ghost use Rattle.std.specs.Prelude.{None, not, option_map, true};
 ghost use Rattle.std.specs.Thread.{IsSync};
 ghost use Rattle.clap.specs.Words.{Text};
 ghost use Rattle.fdb_audit.specs.Program.{audit, HasRead, HasTaken, IsAsked, IsWhole, Prints};
-ghost use Rattle.fdb_audit.specs.Following.{KeptNumbers};
-ghost use Rattle.fdb_audit.specs.Program.{AreLeftBy, PrintsBy};
+ghost use Rattle.fdb_audit.specs.Following.{Start};
+ghost use Rattle.fdb_audit.specs.Program.{PrintsBy, refused_of};
 ghost use Rattle.fdb_audit.specs.Watched.{HasFollowed, IsFollowed};
 ghost use Rattle.fdb_command.specs.Driving.{IsBegun, IsDriven, Stops};
 
@@ -217,10 +217,11 @@ fn followed<R: Files>(
     asked: &AuditArguments,
     log: FollowedLog,
 ) -> Result<Output<LogsRefused, LogFault>, Failure<LogsRefused, LogFault>>
-    ensures told { IfOk result (λ it. (kept : KeptNumbers) → (bytes told : List ℕ)
-        → HasFollowed asked.now kept log.follower bytes told
-        → IsFollowed asked.now kept bytes (told ++ it.text.items) it.found
-        × AreLeftBy it.refused asked.now bytes) }
+    ensures told { IfOk result (λ it. (start : Start) → (bytes told : List ℕ)
+        → HasFollowed asked.now start log.follower bytes told
+        → IsFollowed asked.now start (not (is_some asked.now.keep)) bytes
+        (told ++ it.text.items) it.found
+        × (it.refused ≡ option_map LogsRefused.Log (refused_of asked.now start bytes))) }
     ensures stops { IfErr result (λ fault. (fault ≡ Failure.Memory)
         ⊎ ((fault ≡ Failure.Writing) × (is_some asked.now.keep ≡ true))) }
 {
@@ -242,17 +243,7 @@ fn answered(it: Followed) -> Output<LogsRefused, LogFault>
         text: it.said.text.into_bytes(),
         warnings: it.said.warnings.into_bytes(),
         found: it.found,
-        refused: refused_part(it.refused),
-    }
-}
-
-/// Why a part of a log is refused.
-fn refused_part(refused: Option<ReadError>) -> Option<LogsRefused>
-    ensures { result ≡ option_map LogsRefused.Log refused }
-{
-    match refused {
-        Some(error) => Some(LogsRefused::Log(error)),
-        None => None,
+        refused: it.refused.map(LogsRefused::Log),
     }
 }
 

@@ -11,18 +11,60 @@ ghost use Rattle.fdb_audit.specs.private.{beside_of};
 
 use fdb_log_reader::{Keys, NamedLog, Shown, printed_name};
 use std::alloc::{AllocError, Global};
+use std::collections::BTreeMap;
 use std::fmt::Write;
 
 /// A member that is printed beside each call, as its name and its texts are printed, and which of
 /// these each line has.
 #[derive(Drop)]
-pub(crate) struct MemberBeside<'a> {
+pub(crate) struct Column {
     pub member: String,
     pub texts: Vec<String>,
-    pub numbers: &'a [Option<u32>],
+    pub numbers: Vec<Option<u32>>,
+    /// The number of each text that was added.
+    places: BTreeMap<String, u32>,
 }
 
-impl MemberBeside<'_> {
+impl Column {
+    /// Of no line, by the name of the member as it is printed.
+    pub(crate) fn new(alloc: Global, member: &str) -> Result<Self, AllocError>
+        ensures { IfOk result (λ column. string_bytes column.member ≡ member.now) }
+    {
+        Ok(Column {
+            member: String::from_str(alloc, member)?,
+            texts: Vec::new(alloc),
+            numbers: Vec::new(alloc),
+            places: BTreeMap::new(alloc),
+        })
+    }
+
+    /// Adds the text of the next line as it is printed, if it has one.
+    pub(crate) fn add(&mut self, alloc: Global, text: Option<&str>) -> Result<(), AllocError>
+        ensures { self.new.member ≡ self.old.member }
+    {
+        let number = match text {
+            Some(text) => Some(self.number(alloc, text)?),
+            None => None,
+        };
+        self.numbers.push(number)?;
+        Ok(())
+    }
+
+    /// The number of a text, which is added unless it is there.
+    fn number(&mut self, alloc: Global, text: &str) -> Result<u32, AllocError>
+        ensures { self.new.member ≡ self.old.member }
+    {
+        if let Some(number) = self.places.get(text) {
+            return Ok(*number);
+        }
+        let Ok(number) = u32::try_from(self.texts.len()) else {
+            return Err(AllocError);
+        };
+        self.texts.push(String::from_str(alloc, text)?)?;
+        self.places.insert(String::from_str(alloc, text)?, number)?;
+        Ok(number)
+    }
+
     /// Its text at a line; none where the line has none.
     pub(crate) fn text(&self, place: u32) -> Option<&str>
         ensures { let it = beside_of self.now in
@@ -77,13 +119,10 @@ impl MemberBeside<'_> {
 
 /// The members that are printed beside the calls of a log that was read: its keys, if they were
 /// kept, and what is shown.
-pub(crate) fn members_beside<'x>(
-    alloc: Global,
-    named: &'x NamedLog,
-) -> Result<Vec<MemberBeside<'x>>, AllocError>
+pub(crate) fn members_beside(alloc: Global, named: &NamedLog) -> Result<Vec<Column>, AllocError>
     ensures { IfOk result (λ members. (shown : List Beside)
-        × AreBeside (reading_of named.entry.now).shown shown
-        × (map beside_of members.items ≡ keys_beside (reading_of named.entry.now).keys ++ shown)) }
+        × AreBeside (reading_of named.now).shown shown
+        × (map beside_of members.items ≡ keys_beside (reading_of named.now).keys ++ shown)) }
 {
     let mut members = Vec::new(alloc);
     if let Some(keys) = &named.keys {
@@ -94,11 +133,7 @@ pub(crate) fn members_beside<'x>(
 }
 
 /// Adds the columns that are shown.
-fn add_shown<'x>(
-    members: &mut Vec<MemberBeside<'x>>,
-    alloc: Global,
-    columns: &'x [Shown],
-) -> Result<(), AllocError>
+fn add_shown(members: &mut Vec<Column>, alloc: Global, columns: &[Shown]) -> Result<(), AllocError>
     ensures { OnOk result ((shown : List Beside) × AreBeside (map shown_of columns.now) shown
         × (map beside_of members.new.items ≡ map beside_of members.old.items ++ shown)) }
 {
@@ -109,24 +144,26 @@ fn add_shown<'x>(
 }
 
 /// The keys of lines, as they are printed.
-fn key_beside<'x>(alloc: Global, keys: &'x Keys) -> Result<MemberBeside<'x>, AllocError>
+fn key_beside(alloc: Global, keys: &Keys) -> Result<Column, AllocError>
     ensures { IfOk result
-        (λ member. beside_of member ∷ [] ≡ keys_beside (Some (column_of keys.entry.now))) }
+        (λ member. beside_of member ∷ [] ≡ keys_beside (Some (column_of keys.now))) }
 {
-    Ok(MemberBeside {
+    Ok(Column {
         member: printed_name(alloc, keys.member())?,
         texts: keys.names().printed(alloc)?,
-        numbers: keys.numbers(),
+        numbers: Vec::from_slice(alloc, keys.numbers())?,
+        places: BTreeMap::new(alloc),
     })
 }
 
 /// A column that is shown, as it is printed.
-fn shown_beside<'x>(alloc: Global, column: &'x Shown) -> Result<MemberBeside<'x>, AllocError>
-    ensures { IfOk result (λ member. IsBeside (shown_of column.entry.now) (beside_of member)) }
+fn shown_beside(alloc: Global, column: &Shown) -> Result<Column, AllocError>
+    ensures { IfOk result (λ member. IsBeside (shown_of column.now) (beside_of member)) }
 {
-    Ok(MemberBeside {
+    Ok(Column {
         member: printed_name(alloc, column.member())?,
         texts: column.printed(alloc)?,
-        numbers: column.numbers(),
+        numbers: Vec::from_slice(alloc, column.numbers())?,
+        places: BTreeMap::new(alloc),
     })
 }

@@ -1,13 +1,17 @@
 //! How much of a log has been followed.
 
-ghost use Rattle.std.specs.Prelude.{◌≡◌, ◌+◌, ◌-◌, ◌^◌, ◌++◌, min, OnOk, string_bytes};
-ghost use Rattle.fdb_audit.specs.Following.{came_members, counted_object, counted_words};
-ghost use Rattle.fdb_audit.specs.Following.{draws_members, lines_members};
-ghost use Rattle.fdb_audit.specs.private.Followed.{counted_in};
+ghost use Rattle.std.specs.Prelude.{◌≡◌, ◌+◌, ◌-◌, ◌<◌, ◌^◌, ◌++◌, ◌∷◌, [], List, map, min, nat_lt};
+ghost use Rattle.std.specs.Prelude.{length};
+ghost use Rattle.fdb_lines.specs.declared.line.Line.{Line};
+ghost use Rattle.fdb_lines.specs.Before.{began};
+ghost use Rattle.fdb_lines.specs.Lines.{is_ask, is_commit, is_read, is_report, kind_of};
+ghost use Rattle.fdb_audit.specs.Following.{counted_figures};
+ghost use Rattle.fdb_audit.specs.Taken.{AreCounted};
+ghost use Rattle.fdb_audit.specs.private.{figure_of};
+ghost use Rattle.fdb_audit.specs.private.Followed.{counted_in, one_more};
 
+use crate::figures::Figure;
 use fdb_lines::{Line, Operation};
-use std::alloc::AllocError;
-use std::fmt::Write;
 
 /// How many lines were taken, of each kind, and how they came.
 #[derive(Clone, Copy, Debug, PartialEq, Eq)]
@@ -25,7 +29,8 @@ pub(crate) struct Counts {
 impl Counts {
     /// Of no line.
     pub(crate) fn new() -> Self
-        ensures { result.lines ≡ 0 }
+        ensures counted { AreCounted result [] }
+        ensures early { result.early ≡ 0 }
     {
         Counts {
             lines: 0,
@@ -39,13 +44,42 @@ impl Counts {
 
     /// Counts a line that was taken, where all was settled up to a moment.
     pub(crate) fn add(&mut self, line: &Line, settled_to: u64)
-        ensures { self.new.lines ≡ min (self.old.lines + 1) (2 ^ 64 - 1) }
+        ensures counted { (lines : List Line) → length lines + 1 < 2 ^ 64
+            → AreCounted self.old lines → AreCounted self.new (lines ++ line.now ∷ []) }
+        ensures early { self.new.early
+            ≡ one_more (nat_lt (began line.now) settled_to) self.old.early }
     {
         add_one(&mut self.lines);
-        if line.began() < settled_to {
+        self.add_call(line.call);
+        self.note_early(line.began() < settled_to);
+    }
+
+    /// Counts a line that began before what had been settled.
+    fn note_early(&mut self, is_early: bool)
+        ensures early { self.new.early ≡ one_more is_early self.old.early }
+        ensures lines { self.new.lines ≡ self.old.lines }
+        ensures reads { self.new.reads ≡ self.old.reads }
+        ensures commits { self.new.commits ≡ self.old.commits }
+        ensures asks { self.new.asks ≡ self.old.asks }
+        ensures reports { self.new.reports ≡ self.old.reports }
+    {
+        if is_early {
             add_one(&mut self.early);
         }
-        match line.call {
+    }
+
+    /// Counts a call by its kind.
+    fn add_call(&mut self, call: Operation)
+        ensures reads { self.new.reads ≡ one_more (is_read (kind_of call)) self.old.reads }
+        ensures commits { self.new.commits
+            ≡ one_more (is_commit (kind_of call)) self.old.commits }
+        ensures asks { self.new.asks ≡ one_more (is_ask (kind_of call)) self.old.asks }
+        ensures reports { self.new.reports
+            ≡ one_more (is_report (kind_of call)) self.old.reports }
+        ensures lines { self.new.lines ≡ self.old.lines }
+        ensures early { self.new.early ≡ self.old.early }
+    {
+        match call {
             Operation::Read(_) => add_one(&mut self.reads),
             Operation::Commit(_) => add_one(&mut self.commits),
             Operation::Ask(_) => add_one(&mut self.asks),
@@ -54,54 +88,19 @@ impl Counts {
         }
     }
 
-    /// Writes them in words, with how many lines were refused.
-    pub(crate) fn push_words(&self, out: &mut String, refused: u64) -> Result<(), AllocError>
-        ensures { OnOk result (string_bytes out.new
-            ≡ string_bytes out.old ++ counted_words (counted_in self.now refused)) }
+    /// How many lines were taken, how many were refused, and how they came.
+    pub(crate) fn figures(&self, refused: u64) -> [Figure; 7]
+        ensures { map figure_of result ≡ counted_figures (counted_in self.now refused) }
     {
-        let (lines, reads, commits) = (self.lines, self.reads, self.commits);
-        let (asks, reports) = (self.asks, self.reports);
-        let early = self.early;
-        write!(out, " lines {lines} reads {reads} commits {commits}")?;
-        write!(out, " asks {asks} reports {reports}")?;
-        write!(out, " refused {refused} early {early}")
-    }
-
-    /// Writes them as a JSON object, with how many lines were refused.
-    pub(crate) fn push_object(&self, out: &mut String, refused: u64) -> Result<(), AllocError>
-        ensures { OnOk result (string_bytes out.new
-            ≡ string_bytes out.old ++ counted_object (counted_in self.now refused)) }
-    {
-        self.push_lines(out, refused)?;
-        self.push_draws(out, refused)?;
-        self.push_came(out, refused)
-    }
-
-    fn push_lines(&self, out: &mut String, refused: u64) -> Result<(), AllocError>
-        ensures { OnOk result (string_bytes out.new
-            ≡ string_bytes out.old ++ lines_members (counted_in self.now refused)) }
-    {
-        let (lines, reads, commits) = (self.lines, self.reads, self.commits);
-        write!(
-            out,
-            "{{\"lines\":{lines},\"reads\":{reads},\"commits\":{commits}"
-        )
-    }
-
-    fn push_draws(&self, out: &mut String, refused: u64) -> Result<(), AllocError>
-        ensures { OnOk result (string_bytes out.new
-            ≡ string_bytes out.old ++ draws_members (counted_in self.now refused)) }
-    {
-        let (asks, reports) = (self.asks, self.reports);
-        write!(out, ",\"asks\":{asks},\"reports\":{reports}")
-    }
-
-    fn push_came(&self, out: &mut String, refused: u64) -> Result<(), AllocError>
-        ensures { OnOk result (string_bytes out.new
-            ≡ string_bytes out.old ++ came_members (counted_in self.now refused)) }
-    {
-        let early = self.early;
-        write!(out, ",\"refused\":{refused},\"early\":{early}}}")
+        [
+            Figure("lines", Some(self.lines)),
+            Figure("reads", Some(self.reads)),
+            Figure("commits", Some(self.commits)),
+            Figure("asks", Some(self.asks)),
+            Figure("reports", Some(self.reports)),
+            Figure("refused", Some(refused)),
+            Figure("early", Some(self.early)),
+        ]
     }
 }
 

@@ -1,10 +1,11 @@
 //! A log that the program follows, and the file in which it keeps the lines that yet matter.
 
-ghost use Rattle.std.specs.Prelude.{◌≡◌, ◌⊎◌, ◌++◌, ℕ, [], IfErr, IfOk, List, MatchOption};
-ghost use Rattle.std.specs.Prelude.{None, OnOk, is_some, string_bytes, true};
-ghost use Rattle.fdb_audit.specs.Following.{KeptNumbers};
+ghost use Rattle.std.specs.Prelude.{◌≡◌, ◌⊎◌, ◌++◌, ℕ, [], IfErr, IfOk, List, false};
+ghost use Rattle.std.specs.Prelude.{None, is_some, string_bytes, true};
+ghost use Rattle.fdb_audit.specs.Following.{Start, left_out};
+ghost use Rattle.fdb_audit.specs.Kept.{start_of};
 ghost use Rattle.fdb_audit.specs.private.Kept.{MayStop};
-ghost use Rattle.fdb_audit.specs.Watched.{AreAllTaken, AreLeftOut, HasFollowed, IsFollowed};
+ghost use Rattle.fdb_audit.specs.Watched.{HasFollowed, IsFollowed, lines_asked};
 ghost use Rattle.fdb_audit.specs.declared.arguments.AuditArguments.{AuditArguments};
 
 use crate::arguments::AuditArguments;
@@ -47,7 +48,7 @@ struct Keeper {
 }
 
 impl FollowedLog {
-    ghost use Rattle.fdb_audit.specs.Program.{IsKeptFor, Kept};
+    ghost use Rattle.fdb_audit.specs.Program.{MayBeKept, started};
 
     /// A log of which nothing has been read, but for what was kept of it.
     pub(crate) fn begin<R: Files>(
@@ -56,8 +57,8 @@ impl FollowedLog {
         asked: &AuditArguments,
         behind: u64,
     ) -> Result<Self, Stop>
-        ensures begun { IfOk result (λ log. (kept : Kept) × IsKeptFor asked.now kept
-            × HasFollowed asked.now kept.numbers log.follower kept.text []) }
+        ensures begun { IfOk result (λ log. (kept : List ℕ) × MayBeKept asked.now kept
+            × HasFollowed asked.now (started asked.now behind kept) log.follower kept []) }
         ensures stops { IfErr result (MayStop (is_some asked.now.keep)) }
     {
         match asked.keep.as_deref() {
@@ -83,8 +84,8 @@ impl FollowedLog {
         behind: u64,
         file: &str,
     ) -> Result<Self, Stop>
-        ensures begun { IfOk result (λ log. (text : List ℕ) × (numbers : KeptNumbers)
-            × HasFollowed asked.now numbers log.follower text []) }
+        ensures begun { IfOk result (λ log. (text : List ℕ)
+            × HasFollowed asked.now (start_of asked.now behind text) log.follower text []) }
         ensures stops { IfErr result (MayStop true) }
     {
         let text = read_kept(rt, alloc, file)?;
@@ -124,7 +125,9 @@ impl FollowedLog {
         };
         let settled = self.follower.settled_count();
         if keeper.is_due(rt, settled) {
-            let text = self.follower.kept()?;
+            let Ok(text) = self.follower.kept()? else {
+                return Err(Failure::Writing);
+            };
             keeper.write(rt, &text)?;
             keeper.settled = settled;
         }
@@ -133,12 +136,12 @@ impl FollowedLog {
 
     /// What is left to be said, where the log ends here.
     pub(crate) fn finish(self) -> Result<Followed, Stop>
-        ensures told { IfOk result (λ it. (asked : AuditArguments) → (kept : KeptNumbers)
-            → (bytes told : List ℕ) → HasFollowed asked kept self.follower bytes told
-            → IsFollowed asked kept bytes (told ++ string_bytes it.said.text) it.found) }
-        ensures refused { IfOk result (λ it. (asked : AuditArguments) → (kept : KeptNumbers)
-            → (bytes told : List ℕ) → HasFollowed asked kept self.follower bytes told
-            → MatchOption it.refused (AreAllTaken asked bytes) (λ _. AreLeftOut asked bytes)) }
+        ensures told { IfOk result (λ it. (asked : AuditArguments) → (start : Start)
+            → (bytes told : List ℕ) → HasFollowed asked start self.follower bytes told
+            → IsFollowed asked start true bytes (told ++ string_bytes it.said.text) it.found) }
+        ensures refused { IfOk result (λ it. (asked : AuditArguments) → (start : Start)
+            → (bytes told : List ℕ) → HasFollowed asked start self.follower bytes told
+            → it.refused ≡ left_out start.numbers (lines_asked asked bytes)) }
         ensures stops { IfErr result (λ fault. fault ≡ Failure.Memory) }
     {
         let followed = self.follower.finish()?;
@@ -147,16 +150,19 @@ impl FollowedLog {
 
     /// Keeps the lines that yet matter, and says what is left to be said.
     pub(crate) fn stop<R: Files>(self, rt: &R) -> Result<Followed, Stop>
-        ensures told { IfOk result (λ it. (asked : AuditArguments) → (kept : KeptNumbers)
-            → (bytes told : List ℕ) → HasFollowed asked kept self.follower bytes told
-            → IsFollowed asked kept bytes (told ++ string_bytes it.said.text) it.found) }
-        ensures refused { IfOk result (λ it. (asked : AuditArguments) → (kept : KeptNumbers)
-            → (bytes told : List ℕ) → HasFollowed asked kept self.follower bytes told
-            → MatchOption it.refused (AreAllTaken asked bytes) (λ _. AreLeftOut asked bytes)) }
+        ensures told { IfOk result (λ it. (asked : AuditArguments) → (start : Start)
+            → (bytes told : List ℕ) → HasFollowed asked start self.follower bytes told
+            → IsFollowed asked start false bytes (told ++ string_bytes it.said.text) it.found) }
+        ensures refused { IfOk result (λ it. (asked : AuditArguments) → (start : Start)
+            → (bytes told : List ℕ) → HasFollowed asked start self.follower bytes told
+            → it.refused ≡ left_out start.numbers (lines_asked asked bytes)) }
         ensures stops { IfErr result (λ fault. (fault ≡ Failure.Memory) ⊎ (fault ≡ Failure.Writing)) }
     {
         let Stopped { followed, kept } = self.follower.stop()?;
         if let Some(keeper) = &self.keeper {
+            let Ok(kept) = kept else {
+                return Err(Failure::Writing);
+            };
             keeper.write(rt, &kept)?;
         }
         Ok(followed)
@@ -250,8 +256,8 @@ fn restored(
     behind: u64,
     text: &[u8],
 ) -> Result<Follower, Stop>
-    ensures followed { IfOk result (λ follower. (numbers : KeptNumbers)
-        × HasFollowed asked.now numbers follower text.now []) }
+    ensures followed { IfOk result (λ follower. HasFollowed asked.now
+        (start_of asked.now behind text.now) follower text.now []) }
     ensures stops { IfErr result (MayStop true) }
 {
     match Follower::restore(alloc, asked, behind, text) {

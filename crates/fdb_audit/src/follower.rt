@@ -1,21 +1,28 @@
 //! An audit that follows a log as it grows.
 
-ghost use Rattle.std.specs.Prelude.{◌≡◌, ◌⊎◌, ◌++◌, ℕ, [], IfOk, List, MatchOption, OnOk};
-ghost use Rattle.std.specs.Prelude.{◌<◌, Result, string_bytes};
+ghost use Rattle.std.specs.Prelude.{◌≡◌, ◌++◌, ℕ, [], Bool, IfOk, List, OnOk, false, true};
+ghost use Rattle.std.specs.Prelude.{◌<◌, Option, Result, option_map, string_bytes};
 ghost use Rattle.fdb_log_reader.specs.ReadLine.{SaidLine};
 ghost use Rattle.fdb_log_reader.specs.declared.error.Why.{Why};
-ghost use Rattle.fdb_audit.specs.Following.{KeptNumbers, none_kept};
-ghost use Rattle.fdb_audit.specs.Watched.{AreAllTaken, AreLeftOut, IsFollowed};
+ghost use Rattle.fdb_audit.specs.Following.{Start, fresh, left_out, start_with};
+ghost use Rattle.fdb_lines.specs.declared.fault.Found.{Found};
+ghost use Rattle.fdb_audit.specs.Kept.{KeptSaid, start_from, start_of, Keeps};
+ghost use Rattle.fdb_audit.specs.Taken.{AreTaken};
+ghost use Rattle.fdb_audit.specs.declared.taking.Taking.{Taking};
+ghost use Rattle.fdb_log_reader.specs.ReadLine.{member_in};
+ghost use Rattle.fdb_audit.specs.Watched.{IsFollowed};
 ghost use Rattle.fdb_audit.specs.declared.arguments.AuditArguments.{AuditArguments};
 
 use crate::arguments::AuditArguments;
 use crate::fault::LogFault;
 use crate::kept::{KeptText, kept_text};
 use crate::numbering::Numbering;
+use crate::read_back::{kept_in_order, places_of, refusal_of};
 use crate::refused::KeptRefused;
 use crate::taking::Taking;
 use crate::teller::Teller;
-use fdb_lines::KeyWatch;
+use fdb_lines::{KeyWatch, laws};
+use fdb_log_reader::laws::{a_space_more_is_of_one_line, keys_stay_in_one_member};
 use fdb_log_reader::{LineReader, ReadError, Why};
 use std::alloc::{AllocError, Global};
 use std::mem::replace;
@@ -59,20 +66,22 @@ pub struct Followed {
 #[derive(Debug, Drop)]
 pub struct Stopped {
     pub followed: Followed,
-    /// What [`Follower::restore`] goes on from.
-    pub kept: String,
+    /// What [`Follower::restore`] goes on from, or that it does not say what is kept.
+    pub kept: Result<String, KeptRefused>,
 }
 
 impl Follower {
     ghost use Rattle.fdb_audit.specs.Watched.{lines_asked, names_asked, HasFollowed, HasToldAll};
     ghost use Rattle.fdb_audit.specs.Watched.{IsTelling};
     ghost use Rattle.fdb_audit.specs.Taken.{kept_by};
+    ghost use Rattle.fdb_audit.specs.private.Followed.{IsUnread};
+    ghost use Rattle.fdb_audit.specs.private.Kept.{EndsALine};
     ghost use Rattle.fdb_log_reader.specs.LineReader.{line_names};
 
     /// An audit that has read no line, as the arguments ask for it. A line that comes may begin so far
     /// behind the newest end. It fails only where memory is refused.
     pub fn new(alloc: Global, asked: &AuditArguments, behind: u64) -> Result<Self, AllocError>
-        ensures { IfOk result (λ follower. HasFollowed asked.now none_kept follower [] []) }
+        ensures { IfOk result (λ follower. HasFollowed asked.now (fresh behind) follower [] []) }
     {
         let none = Numbering::new(alloc, Vec::new(alloc), 0);
         let follower = Follower::numbered(alloc, asked, behind, none)?;
@@ -88,12 +97,12 @@ impl Follower {
     ) -> Result<Self, AllocError>
         requires none { numbering.above.items ≡ [] }
         requires few { numbering.more < 18446744073709551615 }
-        ensures { IfOk result
-            (λ follower. HasFollowed asked.now (kept_by numbering) follower [] []) }
+        ensures { IfOk result (λ follower.
+            IsUnread asked.now (start_with behind (kept_by numbering)) follower) }
     {
         let reader = LineReader::new(alloc, asked.key.as_deref(), &asked.shown)?;
         let taking = Taking::new(alloc, asked.opts.margin, behind, &asked.shown, numbering)?;
-        let teller = Teller::new(alloc, asked, taking.rows.members())?;
+        let teller = Teller::new(alloc, asked, &taking.rows.members)?;
         Ok(Follower {
             alloc,
             reader,
@@ -112,8 +121,8 @@ impl Follower {
         behind: u64,
         text: &[u8],
     ) -> Result<Result<Self, KeptRefused>, AllocError>
-        ensures { IfOk result (λ it. IfOk it (λ follower.
-            (kept : KeptNumbers) × HasFollowed asked.now kept follower text.now [])) }
+        ensures { IfOk result (λ it. IfOk it (λ follower. HasFollowed asked.now
+            (start_of asked.now behind text.now) follower text.now [])) }
     {
         let kept = match KeptText::read(alloc, asked.key.as_deref(), text)? {
             Ok(kept) => kept,
@@ -132,9 +141,9 @@ impl Follower {
 
     /// Reads on. An error says that memory was refused.
     pub fn feed(&mut self, bytes: &[u8]) -> Result<(), AllocError>
-        ensures { OnOk result ((asked : AuditArguments) → (kept : KeptNumbers)
-            → (before told : List ℕ) → HasFollowed asked kept self.old before told
-            → HasFollowed asked kept self.new (before ++ bytes.now) told) }
+        ensures { OnOk result ((asked : AuditArguments) → (start : Start)
+            → (before told : List ℕ) → HasFollowed asked start self.old before told
+            → HasFollowed asked start self.new (before ++ bytes.now) told) }
     {
         let lines = self.reader.feed(self.alloc, bytes)?;
         self.taking.take_all(lines)?;
@@ -144,10 +153,13 @@ impl Follower {
     /// Reads lines that were kept, of which so many had come when it had settled up to a moment: what
     /// was to be told then has been told.
     fn feed_kept(&mut self, bytes: &[u8], told: usize, settled: u64) -> Result<(), AllocError>
-        ensures { OnOk result ((asked : AuditArguments) → (kept : KeptNumbers)
-            → (before told : List ℕ) → HasFollowed asked kept self.old before told
-            → HasFollowed asked kept self.new (before ++ bytes.now) told) }
+        ensures { OnOk result ((asked : AuditArguments) → (behind : ℕ) → (kept : KeptSaid)
+            → kept.told ≡ told → kept.settled ≡ settled → EndsALine bytes.now
+            → IsUnread asked (start_with behind kept.numbers) self.old → HasFollowed asked
+            (start_from behind asked.opts.margin kept (lines_asked asked bytes.now))
+            self.new bytes.now []) }
     {
+        a_space_more_is_of_one_line();
         let lines = self.reader.feed(self.alloc, bytes)?;
         self.taking.take_kept(lines, told, settled)?;
         self.taking.newest = self.taking.newest.max(settled.saturating_add(self.behind));
@@ -157,9 +169,9 @@ impl Follower {
     /// What is to be said before more is read: what has become certain, once some thousand lines have
     /// come since it was said, or where no more may come for a while.
     pub fn tell(&mut self, is_idle: bool) -> Result<Said, AllocError>
-        ensures { IfOk result (λ said. (asked : AuditArguments) → (kept : KeptNumbers)
-            → (bytes told : List ℕ) → HasFollowed asked kept self.old bytes told
-            → HasFollowed asked kept self.new bytes (told ++ string_bytes said.text)) }
+        ensures { IfOk result (λ said. (asked : AuditArguments) → (start : Start)
+            → (bytes told : List ℕ) → HasFollowed asked start self.old bytes told
+            → HasFollowed asked start self.new bytes (told ++ string_bytes said.text)) }
     {
         let unsettled = self.taking.unsettled;
         self.settle_if(unsettled >= STRIDE || (is_idle && unsettled > 0))?;
@@ -169,13 +181,40 @@ impl Follower {
     /// The lines that may yet come to matter, as a log, for [`restore`](Follower::restore): whoever
     /// goes on from them after what was told so far has been written tells each fault of lines that
     /// come later. They stand in the order in which they came.
-    pub fn kept(&self) -> Result<String, AllocError> {
-        kept_text(
+    ///
+    /// The text is read back before it is given. The inner error is that it does not say what is kept.
+    pub fn kept(&self) -> Result<Result<String, KeptRefused>, AllocError>
+        ensures { IfOk result (λ it. IfOk it (λ text. (asked : AuditArguments) → (start : Start)
+            → (bytes told : List ℕ) → (has : HasFollowed asked start self.now bytes told)
+            → Keeps (option_map string_bytes asked.key) start.numbers self.now.taking has.read
+            (string_bytes text))) }
+    {
+        keys_stay_in_one_member();
+        self.read_back()
+    }
+
+    /// The same, by the lines that were taken.
+    fn read_back(&self) -> Result<Result<String, KeptRefused>, AllocError>
+        ensures { IfOk result (λ it. IfOk it (λ text. (start : Start)
+            → (read : List (Result SaidLine Why)) → (told : List Found)
+            → AreTaken start self.now.taking read told
+            → Keeps (member_in (line_names self.now.reader)) start.numbers self.now.taking read
+            (string_bytes text))) }
+    {
+        let kept = kept_in_order(self.alloc, &self.taking.watch)?;
+        let places = places_of(self.alloc, &kept)?;
+        let key = self.teller.key.as_deref();
+        let text = kept_text(self.alloc, &self.reader, &self.taking, key, &kept)?;
+        match refusal_of(
             self.alloc,
             &self.reader,
             &self.taking,
-            self.teller.key.as_deref(),
-        )
+            &places,
+            text.as_bytes(),
+        )? {
+            Some(refused) => Ok(Err(refused)),
+            None => Ok(Ok(text)),
+        }
     }
 
     /// How many lines had been taken when it settled last, those that were kept included.
@@ -186,9 +225,9 @@ impl Follower {
     /// Settles, if it is time to.
     fn settle_if(&mut self, is_time: bool) -> Result<(), AllocError>
         ensures reader { self.new.reader ≡ self.old.reader }
-        ensures told { OnOk result ((asked : AuditArguments) → (kept : KeptNumbers)
+        ensures told { OnOk result ((asked : AuditArguments) → (start : Start)
             → (read : List (Result SaidLine Why)) → (told : List ℕ)
-            → IsTelling asked kept self.old read told → IsTelling asked kept self.new read told) }
+            → IsTelling asked start self.old read told → IsTelling asked start self.new read told) }
     {
         if is_time {
             self.settle()?;
@@ -199,9 +238,9 @@ impl Follower {
     /// Settles as far as lines that come may not begin any more.
     fn settle(&mut self) -> Result<(), AllocError>
         ensures reader { self.new.reader ≡ self.old.reader }
-        ensures told { OnOk result ((asked : AuditArguments) → (kept : KeptNumbers)
+        ensures told { OnOk result ((asked : AuditArguments) → (start : Start)
             → (read : List (Result SaidLine Why)) → (told : List ℕ)
-            → IsTelling asked kept self.old read told → IsTelling asked kept self.new read told) }
+            → IsTelling asked start self.old read told → IsTelling asked start self.new read told) }
     {
         let at = self.taking.newest.saturating_sub(self.behind);
         let told = self.taking.watch.settle(self.alloc, at)?;
@@ -217,10 +256,10 @@ impl Follower {
         ensures reader { self.new.reader ≡ self.old.reader }
         ensures text { string_bytes result.text ≡ string_bytes self.old.teller.text }
         ensures first { self.new.teller.first ≡ self.old.teller.first }
-        ensures told { (asked : AuditArguments) → (kept : KeptNumbers)
+        ensures told { (asked : AuditArguments) → (start : Start)
             → (read : List (Result SaidLine Why)) → (told : List ℕ)
-            → IsTelling asked kept self.old read told
-            → IsTelling asked kept self.new read (told ++ string_bytes result.text) }
+            → IsTelling asked start self.old read told
+            → IsTelling asked start self.new read (told ++ string_bytes result.text) }
     {
         Said {
             text: replace(&mut self.teller.text, String::new(self.alloc)),
@@ -230,12 +269,12 @@ impl Follower {
 
     /// What is left to be said, where the log ends here: what is open, and the totals.
     pub fn finish(mut self) -> Result<Followed, AllocError>
-        ensures told { IfOk result (λ it. (asked : AuditArguments) → (kept : KeptNumbers)
-            → (bytes told : List ℕ) → HasFollowed asked kept self bytes told
-            → IsFollowed asked kept bytes (told ++ string_bytes it.said.text) it.found) }
-        ensures refused { IfOk result (λ it. (asked : AuditArguments) → (kept : KeptNumbers)
-            → (bytes told : List ℕ) → HasFollowed asked kept self bytes told
-            → MatchOption it.refused (AreAllTaken asked bytes) (λ _. AreLeftOut asked bytes)) }
+        ensures told { IfOk result (λ it. (asked : AuditArguments) → (start : Start)
+            → (bytes told : List ℕ) → HasFollowed asked start self bytes told
+            → IsFollowed asked start true bytes (told ++ string_bytes it.said.text) it.found) }
+        ensures refused { IfOk result (λ it. (asked : AuditArguments) → (start : Start)
+            → (bytes told : List ℕ) → HasFollowed asked start self bytes told
+            → it.refused ≡ left_out start.numbers (lines_asked asked bytes)) }
     {
         self.take_last()?;
         let refused = self.taking.left_out();
@@ -247,29 +286,36 @@ impl Follower {
     /// What is left to be said, where the log is to be followed on later: the totals. What is open is
     /// kept, and not told.
     pub fn stop(mut self) -> Result<Stopped, AllocError>
-        ensures told { IfOk result (λ it. (asked : AuditArguments) → (kept : KeptNumbers)
-            → (bytes told : List ℕ) → HasFollowed asked kept self bytes told
-            → IsFollowed asked kept bytes (told ++ string_bytes it.followed.said.text)
+        ensures told { IfOk result (λ it. (asked : AuditArguments) → (start : Start)
+            → (bytes told : List ℕ) → HasFollowed asked start self bytes told
+            → IsFollowed asked start false bytes (told ++ string_bytes it.followed.said.text)
             it.followed.found) }
-        ensures refused { IfOk result (λ it. (asked : AuditArguments) → (kept : KeptNumbers)
-            → (bytes told : List ℕ) → HasFollowed asked kept self bytes told
-            → MatchOption it.followed.refused (AreAllTaken asked bytes)
-            (λ _. AreLeftOut asked bytes)) }
+        ensures refused { IfOk result (λ it. (asked : AuditArguments) → (start : Start)
+            → (bytes told : List ℕ) → HasFollowed asked start self bytes told
+            → it.followed.refused ≡ left_out start.numbers (lines_asked asked bytes)) }
+        ensures kept { IfOk result (λ it. IfOk it.kept (λ text. (asked : AuditArguments)
+            → (start : Start) → (bytes told : List ℕ) → HasFollowed asked start self bytes told
+            → (taking : Taking) × (faults : List Found)
+            × AreTaken start taking (lines_asked asked bytes) faults
+            × Keeps (option_map string_bytes asked.key) start.numbers taking
+            (lines_asked asked bytes) (string_bytes text))) }
     {
         self.take_last()?;
         let refused = self.taking.left_out();
-        let kept = self.kept()?;
+        let kept = self.read_back()?;
+        laws::all_is_told_up_to_where_it_settled();
+        keys_stay_in_one_member();
         let followed = self.conclude(refused)?;
         Ok(Stopped { followed, kept })
     }
 
     /// Takes the line that has not ended, if there is one.
     fn take_last(&mut self) -> Result<(), AllocError>
-        ensures told { OnOk result ((asked : AuditArguments) → (kept : KeptNumbers)
-            → (bytes told : List ℕ) → HasFollowed asked kept self.old bytes told
-            → IsTelling asked kept self.new (lines_asked asked bytes) told) }
-        ensures names { OnOk result ((asked : AuditArguments) → (kept : KeptNumbers)
-            → (bytes told : List ℕ) → HasFollowed asked kept self.old bytes told
+        ensures told { OnOk result ((asked : AuditArguments) → (start : Start)
+            → (bytes told : List ℕ) → HasFollowed asked start self.old bytes told
+            → IsTelling asked start self.new (lines_asked asked bytes) told) }
+        ensures names { OnOk result ((asked : AuditArguments) → (start : Start)
+            → (bytes told : List ℕ) → HasFollowed asked start self.old bytes told
             → names_asked asked bytes ≡ line_names self.new.reader) }
     {
         let last = self.reader.finish(self.alloc)?;
@@ -282,10 +328,10 @@ impl Follower {
     /// Settles all.
     fn settle_for_good(&mut self) -> Result<(), AllocError>
         ensures reader { self.new.reader ≡ self.old.reader }
-        ensures told { OnOk result ((asked : AuditArguments) → (kept : KeptNumbers)
+        ensures told { OnOk result ((asked : AuditArguments) → (start : Start)
             → (read : List (Result SaidLine Why)) → (told : List ℕ)
-            → IsTelling asked kept self.old read told
-            → HasToldAll asked kept self.new read told) }
+            → IsTelling asked start self.old read told
+            → HasToldAll asked start true self.new read told) }
     {
         let none = KeyWatch::new(self.alloc, 0, 0);
         let watch = replace(&mut self.taking.watch, none);
@@ -297,11 +343,11 @@ impl Follower {
 
     /// Says how much was read, behind all that was told.
     fn conclude(mut self, refused: Option<ReadError>) -> Result<Followed, AllocError>
-        ensures told { IfOk result (λ it. (asked : AuditArguments) → (kept : KeptNumbers)
+        ensures told { IfOk result (λ it. (asked : AuditArguments) → (start : Start)
             → (bytes told : List ℕ)
-            → HasToldAll asked kept self (lines_asked asked bytes) told
+            → (ends : Bool) → HasToldAll asked start ends self (lines_asked asked bytes) told
             → names_asked asked bytes ≡ line_names self.reader
-            → IsFollowed asked kept bytes (told ++ string_bytes it.said.text) it.found) }
+            → IsFollowed asked start ends bytes (told ++ string_bytes it.said.text) it.found) }
         ensures refused { IfOk result (λ it. it.refused ≡ refused) }
     {
         self.teller

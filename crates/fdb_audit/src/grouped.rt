@@ -1,20 +1,19 @@
 //! How many faults the clients, and the texts of a member, with most faults have.
 
-ghost use Rattle.std.specs.Prelude.{◌≡◌, ◌++◌, IfOk, List, OnOk, ℕ, map, string_bytes};
-ghost use Rattle.fdb_lines.specs.declared.reason.Finding.{Finding};
-ghost use Rattle.fdb_audit.specs.Groups.{client_or_null, client_words, group_head, group_lines};
-ghost use Rattle.fdb_audit.specs.Groups.{groupings, of_group, value_or_null, AreMost};
-ghost use Rattle.fdb_audit.specs.Groups.{AreMostOfEach};
-ghost use Rattle.fdb_audit.specs.Totals.{kinds};
+ghost use Rattle.std.specs.Prelude.{◌≡◌, ◌++◌, IfOk, List, OnOk, ℕ, map, string_bytes, true};
+ghost use Rattle.fdb_lines.specs.declared.fault.Found.{Found};
+ghost use Rattle.fdb_audit.specs.Groups.{group_head, group_lines, groupings};
+ghost use Rattle.fdb_audit.specs.Groups.{of_group, AreMost, AreMostOfEach};
 ghost use Rattle.fdb_audit.specs.Text.{line};
+ghost use Rattle.fdb_audit.specs.Totals.{faults_line};
 ghost use Rattle.fdb_audit.specs.private.{beside_of, grouping_of, owners_in, shown_in};
 
-use crate::beside::MemberBeside;
+use crate::beside::Column;
 use crate::groups::{Group, most_of, number_of};
 use crate::object::push_or_null;
 use crate::printer::Printer;
-use crate::totals::push_kinds;
-use fdb_lines::Finding;
+use crate::totals::{push_faults, push_kinds};
+use fdb_lines::Found;
 use std::alloc::{AllocError, Global};
 use std::fmt::Write;
 
@@ -22,17 +21,34 @@ use std::fmt::Write;
 #[derive(Clone, Copy)]
 pub(crate) enum By<'a> {
     Client(Printer<'a>),
-    Member(&'a MemberBeside<'a>),
+    Member(&'a Column),
 }
 
-/// Writes how many faults the groups with most have: of the clients, and of each member that is
-/// printed beside the calls.
-pub(crate) fn push_most_of_each(
+/// Writes how many faults of the lines there are, in all, of each kind, and of the groups with most.
+pub(crate) fn push_totals(
     alloc: Global,
     out: &mut String,
     json: bool,
     printer: Printer<'_>,
-    found: &[Finding],
+    found: &[Found],
+) -> Result<(), AllocError>
+    ensures { OnOk result ((groups : List ℕ)
+        × AreMostOfEach json (groupings (shown_in printer.entry)) found.now groups
+        × (string_bytes out.new
+        ≡ string_bytes out.old ++ line (faults_line json found.now) ++ groups)) }
+{
+    push_faults(out, json, found)?;
+    push_most_of_each(alloc, out, json, printer, found)
+}
+
+/// Writes how many faults the groups with most have: of the clients, and of each member that is
+/// printed beside the calls.
+fn push_most_of_each(
+    alloc: Global,
+    out: &mut String,
+    json: bool,
+    printer: Printer<'_>,
+    found: &[Found],
 ) -> Result<(), AllocError>
     ensures { OnOk result ((text : List ℕ)
         × AreMostOfEach json (groupings (shown_in printer.entry)) found.now text
@@ -52,7 +68,7 @@ impl By<'_> {
         alloc: Global,
         out: &mut String,
         json: bool,
-        found: &[Finding],
+        found: &[Found],
     ) -> Result<(), AllocError>
         ensures { OnOk result ((text : List ℕ) × AreMost json (grouping_of self.entry) found.now text
             × (string_bytes out.new ≡ string_bytes out.old ++ text)) }
@@ -68,7 +84,7 @@ impl By<'_> {
         alloc: Global,
         out: &mut String,
         json: bool,
-        found: &[Finding],
+        found: &[Found],
         groups: &[Group],
     ) -> Result<(), AllocError>
         ensures { OnOk result (string_bytes out.new ≡ string_bytes out.old
@@ -76,25 +92,11 @@ impl By<'_> {
     {
         for group in groups {
             let own = self.own(alloc, found, group.owner)?;
-            self.push_group(out, json, &own, group.owner)?;
+            self.push_head(out, json, group.owner)?;
+            push_kinds(out, json, &own)?;
+            writeln!(out)?;
         }
         Ok(())
-    }
-
-    /// Writes a group, and how many faults it has, in all and of each kind.
-    fn push_group(
-        self,
-        out: &mut String,
-        json: bool,
-        own: &[Finding],
-        owner: Option<u32>,
-    ) -> Result<(), AllocError>
-        ensures { OnOk result (string_bytes out.new ≡ string_bytes out.old
-            ++ line (group_head json (grouping_of self.entry) owner ++ kinds json own.now)) }
-    {
-        self.push_head(out, json, owner)?;
-        push_kinds(out, json, own)?;
-        writeln!(out)
     }
 
     /// Writes which group it is.
@@ -104,22 +106,22 @@ impl By<'_> {
     {
         if json {
             write!(out, "{{")?;
-            self.push_field(out, owner)?;
+            self.push_name(out, true, owner)?;
             write!(out, ",")
         } else {
             write!(out, "audit total")?;
-            self.push_words(out, owner)
+            self.push_name(out, false, owner)
         }
     }
 
     /// Whose each fault is.
-    fn owners(self, alloc: Global, found: &[Finding]) -> Result<Vec<Option<u32>>, AllocError>
-        ensures { IfOk result (λ owners. owners.items ≡ map (λ (finding : Finding).
-            (grouping_of self.entry).owner finding.found.line) found.now) }
+    fn owners(self, alloc: Global, found: &[Found]) -> Result<Vec<Option<u32>>, AllocError>
+        ensures { IfOk result (λ owners. owners.items ≡ map (λ (it : Found).
+            (grouping_of self.entry).owner it.line) found.now) }
     {
         let mut owners = Vec::new(alloc);
-        for finding in found {
-            owners.push(self.owner(finding.found.line))?;
+        for it in found {
+            owners.push(self.owner(it.line))?;
         }
         Ok(owners)
     }
@@ -128,16 +130,16 @@ impl By<'_> {
     fn own(
         self,
         alloc: Global,
-        found: &[Finding],
+        found: &[Found],
         owner: Option<u32>,
-    ) -> Result<Vec<Finding>, AllocError>
+    ) -> Result<Vec<Found>, AllocError>
         ensures { IfOk result
             (λ own. own.items ≡ of_group (grouping_of self.entry).owner found.now owner) }
     {
         let mut own = Vec::new(alloc);
-        for finding in found {
-            if number_of(self.owner(finding.found.line)) == number_of(owner) {
-                own.push(*finding)?;
+        for it in found {
+            if number_of(self.owner(it.line)) == number_of(owner) {
+                own.push(*it)?;
             }
         }
         Ok(own)
@@ -153,67 +155,24 @@ impl By<'_> {
         }
     }
 
-    /// Writes which group it is, in words.
-    fn push_words(self, out: &mut String, owner: Option<u32>) -> Result<(), AllocError>
+    /// Writes which group it is, by its name.
+    fn push_name(self, out: &mut String, json: bool, owner: Option<u32>) -> Result<(), AllocError>
         ensures { OnOk result (string_bytes out.new
-            ≡ string_bytes out.old ++ (grouping_of self.entry).words owner) }
+            ≡ string_bytes out.old ++ (grouping_of self.entry).name json owner) }
     {
-        match self {
-            By::Client(printer) => printer.push_client_words(out, owner),
-            By::Member(member) => member.push_owner(out, owner),
-        }
-    }
-
-    /// Writes which group it is, as a member of an object.
-    fn push_field(self, out: &mut String, owner: Option<u32>) -> Result<(), AllocError>
-        ensures { OnOk result (string_bytes out.new
-            ≡ string_bytes out.old ++ (grouping_of self.entry).field owner) }
-    {
-        match self {
-            By::Client(printer) => printer.push_client_or_null(out, owner),
-            By::Member(member) => member.push_value_or_null(out, owner),
-        }
-    }
-}
-
-impl Printer<'_> {
-    /// Writes a client, or that there is none.
-    fn push_client_words(self, out: &mut String, client: Option<u32>) -> Result<(), AllocError>
-        ensures { OnOk result (string_bytes out.new
-            ≡ string_bytes out.old ++ client_words (shown_in self.entry).names client) }
-    {
-        match client {
-            Some(number) => {
-                write!(out, " ")?;
-                self.push_client(out, number)
+        match (self, json) {
+            (By::Client(printer), false) => {
+                printer.push_client_or(out, " client ", owner, " no client")
             }
-            None => write!(out, " no client"),
-        }
-    }
-
-    /// Writes a client, or null, as a member of an object.
-    fn push_client_or_null(self, out: &mut String, client: Option<u32>) -> Result<(), AllocError>
-        ensures { OnOk result (string_bytes out.new
-            ≡ string_bytes out.old ++ client_or_null (shown_in self.entry).names client) }
-    {
-        match client {
-            Some(number) => {
-                write!(out, "\"client\":")?;
-                self.push_name(out, number)
+            (By::Client(printer), true) => {
+                printer.push_client_or(out, "\"client\":", owner, "\"client\":null")
             }
-            None => write!(out, "\"client\":null"),
+            (By::Member(member), false) => member.push_owner(out, owner),
+            (By::Member(member), true) => {
+                write!(out, "\"members\":{{{}:", member.member)?;
+                push_or_null(out, member.value(owner))?;
+                write!(out, "}}")
+            }
         }
-    }
-}
-
-impl MemberBeside<'_> {
-    /// Writes one of its texts, by its number, or null, as a member of an object.
-    fn push_value_or_null(&self, out: &mut String, number: Option<u32>) -> Result<(), AllocError>
-        ensures { OnOk result (string_bytes out.new
-            ≡ string_bytes out.old ++ value_or_null (beside_of self.now) number) }
-    {
-        write!(out, "\"members\":{{{}:", self.member)?;
-        push_or_null(out, self.value(number))?;
-        write!(out, "}}")
     }
 }

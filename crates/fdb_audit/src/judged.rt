@@ -1,16 +1,13 @@
 //! From a log to what is said of it.
 
-ghost use Rattle.std.specs.Prelude.{◌≡◌, ◌⊎◌, ◌↔◌, IfOk, IfErr, IfSome, Err, None, Some, map};
-ghost use Rattle.std.specs.Prelude.{option_map};
-ghost use Rattle.std.specs.Prelude.{slice_get, string_bytes};
+ghost use Rattle.std.specs.Prelude.{◌≡◌, ◌⊎◌, ◌↔◌, IfOk, IfErr, Err, None, Some, map, option_map};
+ghost use Rattle.std.specs.Prelude.{string_bytes};
 ghost use Rattle.std.specs.Thread.{IsSync};
-ghost use Rattle.fdb_lines.specs.Late.{HasLate};
-ghost use Rattle.fdb_lines.specs.Listing.{faults_of};
-ghost use Rattle.fdb_lines.specs.Reasons.{found_of, HasReason};
 ghost use Rattle.fdb_lines.specs.Audit.{AreExplained, case_of};
+ghost use Rattle.fdb_lines.specs.Judged.{IsFirstFound, IsSummary};
 ghost use Rattle.fdb_lines.specs.Log.{lines_of};
 ghost use Rattle.fdb_log_reader.specs.Reading.{reading_in, reading_of, ReadsAs};
-ghost use Rattle.fdb_audit.specs.Judged.{IsJudgement, IsSummary, IsText, IsTextOf};
+ghost use Rattle.fdb_audit.specs.Judged.{IsJudgement, IsText, IsTextOf};
 ghost use Rattle.fdb_audit.specs.Judged.{keys_of_lines, HasOwnKeys, IsTextOfReading};
 ghost use Rattle.fdb_audit.specs.private.{keys_in, log_in, shown_in, HasKeys};
 
@@ -19,7 +16,10 @@ use crate::beside::members_beside;
 use crate::listing::{listed, one_fault};
 use crate::passing::{explained, passed};
 use crate::printer::Printer;
-use fdb_lines::{AuditOpts, Finding, Found, Log, Summary, first_finding_by, summary_by};
+use fdb_lines::{
+    AuditOpts, Finding, Found, Log, Summary, findings, first_finding, first_finding_by,
+    order_or_findings, summary, summary_by,
+};
 use fdb_log_reader::{LogReader, NamedLog, ReadError, Why};
 use std::alloc::{AllocError, Global};
 use std::thread::{Threads, join};
@@ -63,17 +63,18 @@ pub fn judge<'x>(
     ensures { IfOk result (λ found. IsText (lines_of log.now) (map string_bytes names.now)
         opts.now wanted found.fault (string_bytes found.text)) }
 {
-    let printer = Printer::of(log, names);
-    let keys = None;
-    judge_asked(
-        alloc,
-        Asked {
-            printer,
-            keys,
-            opts,
-        },
-        wanted,
-    )
+    let printer = Printer {
+        log,
+        names,
+        numbers: &[],
+        beside: &[],
+    };
+    let asked = Asked {
+        printer,
+        keys: None,
+        opts,
+    };
+    judge_asked(alloc, asked, wanted)
 }
 
 /// Audits what is asked.
@@ -86,23 +87,24 @@ pub(crate) fn judge_asked(
     ensures { IfOk result (λ found. IsTextOf (log_in asked.entry) (shown_in asked.entry.printer)
         (keys_in asked.entry) asked.entry.opts.now wanted found.fault (string_bytes found.text)) }
 {
+    let (log, keys, opts) = (asked.printer.log, asked.keys, asked.opts);
     if wanted.history {
-        return match asked.order(alloc)? {
+        return match order_or_findings(alloc, log, keys, opts)? {
             Ok(order) => explained(alloc, asked, &order, wanted),
             Err(found) if wanted.all || wanted.totals => listed(alloc, asked, &found, wanted),
             Err(found) => one_fault(alloc, asked, found[0], wanted),
         };
     }
     if wanted.all || wanted.totals {
-        let found = asked.findings(alloc)?;
+        let found = findings(alloc, log, keys, opts)?;
         if found.is_empty() {
-            return passed(alloc, asked, asked.summary(alloc)?, wanted);
+            return passed(alloc, asked, summary(alloc, log, keys, opts)?, wanted);
         }
         return listed(alloc, asked, &found, wanted);
     }
-    match asked.first(alloc)? {
+    match first_finding(alloc, log, keys, opts)? {
         Some(first) => one_fault(alloc, asked, first, wanted),
-        None => passed(alloc, asked, asked.summary(alloc)?, wanted),
+        None => passed(alloc, asked, summary(alloc, log, keys, opts)?, wanted),
     }
 }
 
@@ -126,14 +128,10 @@ pub(crate) fn judge_asked_by<R: Threads + Sync>(
         rt,
         || -> Result<Option<Finding>, AllocError>
             requires { IsSync R.row }
-            ensures first { IfOk result (λ first. option_map found_of first
-                ≡ slice_get (faults_of (case_of (lines_of log.entry.now) opts.entry.now)) 0) }
+            ensures first { IfOk result
+                (IsFirstFound (lines_of log.entry.now) None opts.entry.now) }
             ensures explained { IfOk result (λ first. first ≡ None
                 ↔ AreExplained (case_of (lines_of log.entry.now) opts.entry.now)) }
-            ensures reason { IfOk result
-                (λ first. IfSome first (HasReason (lines_of log.entry.now) opts.entry.now)) }
-            ensures late { IfOk result
-                (λ first. IfSome first (HasLate (lines_of log.entry.now) opts.entry.now)) }
         { first_finding_by(rt, alloc, log, opts) },
         || -> Result<Summary, AllocError>
             requires { IsSync R.row }
@@ -195,22 +193,18 @@ pub fn judge_named<'x>(
 {
     let names = named.names.printed(alloc)?;
     let beside = members_beside(alloc, named)?;
-    let keys = numbers_of(named);
     let printer = Printer {
         log: &named.log,
         names: &names,
         numbers: &[],
         beside: &beside,
     };
-    judge_asked(
-        alloc,
-        Asked {
-            printer,
-            keys,
-            opts,
-        },
-        wanted,
-    )
+    let asked = Asked {
+        printer,
+        keys: numbers_of(named),
+        opts,
+    };
+    judge_asked(alloc, asked, wanted)
 }
 
 /// The same, by threads.
@@ -227,23 +221,18 @@ pub(crate) fn judge_named_by<'x, R: Threads + Sync>(
 {
     let names = named.names.printed(alloc)?;
     let beside = members_beside(alloc, named)?;
-    let keys = numbers_of(named);
     let printer = Printer {
         log: &named.log,
         names: &names,
         numbers: &[],
         beside: &beside,
     };
-    judge_asked_by(
-        rt,
-        alloc,
-        Asked {
-            printer,
-            keys,
-            opts,
-        },
-        wanted,
-    )
+    let asked = Asked {
+        printer,
+        keys: numbers_of(named),
+        opts,
+    };
+    judge_asked_by(rt, alloc, asked, wanted)
 }
 
 /// For each line the number of its key, where keys were kept.

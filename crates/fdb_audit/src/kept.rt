@@ -1,11 +1,19 @@
 //! The lines that are kept of a log that is followed, as a log of their own: with each it stands as
 //! what it was kept.
 
-ghost use Rattle.std.specs.Prelude.{◌<◌};
+ghost use Rattle.std.specs.Prelude.{◌≡◌, ◌∷◌, ◌++◌, ◌<◌, ◌^◌, [], List, IfOk, IfSome, Ok, OnOk};
+ghost use Rattle.std.specs.Prelude.{Option, Some, codes, decimal, is_some, length, map, option_map};
+ghost use Rattle.std.specs.Prelude.{string_bytes, true};
+ghost use Rattle.fdb_log_reader.specs.ReadLine.{SaidLine, said_by, said_in};
+ghost use Rattle.fdb_audit.specs.Following.{taken};
+ghost use Rattle.fdb_audit.specs.Kept.{kept_members, kept_said, lines_kept, number_kept};
+ghost use Rattle.fdb_audit.specs.private.Kept.{EndsALine, IsKeptAs};
 
+use crate::figures::{Figure, push_figures};
 use crate::refused::KeptRefused;
 use crate::taking::Taking;
 use fdb_lines::{KeptLine, Operation};
+use fdb_log_reader::laws::{a_space_more_is_of_one_line, digits_are_read_as_their_number};
 use fdb_log_reader::{LineReader, Names, ReadLine, Why, printed_name};
 use std::alloc::{AllocError, Global};
 use std::fmt::Write;
@@ -42,8 +50,12 @@ struct KeptAs {
 }
 
 impl KeptText {
+    ghost use Rattle.fdb_audit.specs.private.KeptTexts.{said_of};
+
     /// Of no line.
-    pub(crate) fn new(alloc: Global) -> Self {
+    pub(crate) fn new(alloc: Global) -> Self
+        ensures { said_of result ≡ kept_said [] }
+    {
         KeptText {
             numbers: Vec::new(alloc),
             told: 0,
@@ -57,37 +69,77 @@ impl KeptText {
         alloc: Global,
         key: Option<&str>,
         text: &[u8],
-    ) -> Result<Result<Self, KeptRefused>, AllocError> {
-        let mut members = Vec::new(alloc);
-        members.push(String::from_str(alloc, NUMBER)?)?;
-        members.push(String::from_str(alloc, READ)?)?;
-        members.push(String::from_str(alloc, SETTLED)?)?;
+    ) -> Result<Result<Self, KeptRefused>, AllocError>
+        ensures said { IfOk result (λ it. IfOk it (λ kept.
+            said_of kept ≡ kept_said (lines_kept (option_map (λ key. key.now) key.entry) text.now))) }
+        ensures ends { IfOk result (λ it. OnOk it (EndsALine text.now)) }
+    {
+        a_space_more_is_of_one_line();
+        let members = members_kept(alloc)?;
         let mut reader = LineReader::new(alloc, key, &members)?;
+        let lines = reader.feed(alloc, text)?;
         let mut kept = KeptText::new(alloc);
-        for read in reader.feed(alloc, text)? {
-            if let Err(refused) = kept.add(read)? {
+        if let Err(refused) = kept.add_all(alloc, lines)? {
+            return Ok(Err(refused));
+        }
+        match reader.finish(alloc)? {
+            Some(_) => Ok(Err(kept.refusal(Some(Why::NotJson)))),
+            None => Ok(Ok(kept)),
+        }
+    }
+
+    /// Adds lines, until one is refused.
+    fn add_all(
+        &mut self,
+        alloc: Global,
+        lines: Vec<Result<ReadLine, Why>>,
+    ) -> Result<Result<(), KeptRefused>, AllocError>
+        ensures { IfOk result (λ it. OnOk it ((before : List SaidLine)
+            → said_of self.old ≡ kept_said before
+            → said_of self.new ≡ kept_said (before ++ taken (map said_in lines.items)))) }
+    {
+        for read in lines {
+            if let Err(refused) = self.add(alloc, read)? {
                 return Ok(Err(refused));
             }
         }
-        if reader.finish(alloc)?.is_some() {
-            return Ok(Err(kept.refusal(Some(Why::NotJson))));
-        }
-        Ok(Ok(kept))
+        Ok(Ok(()))
     }
 
     /// Adds a line.
-    fn add(&mut self, read: Result<ReadLine, Why>) -> Result<Result<(), KeptRefused>, AllocError> {
+    fn add(
+        &mut self,
+        alloc: Global,
+        read: Result<ReadLine, Why>,
+    ) -> Result<Result<(), KeptRefused>, AllocError>
+        ensures { IfOk result (λ it. OnOk it ((before : List SaidLine)
+            → said_of self.old ≡ kept_said before
+            → said_of self.new ≡ kept_said (before ++ taken (said_in read ∷ [])))) }
+    {
         let read = match read {
             Ok(read) => read,
             Err(why) => return Ok(Err(self.refusal(Some(why)))),
         };
-        let Some(kept) = kept_as(&read) else {
+        let Some(kept) = kept_as(alloc, &read)? else {
             return Ok(Err(self.refusal(None)));
         };
+        if !self.take(kept)? {
+            return Ok(Err(self.refusal(None)));
+        }
+        Ok(Ok(()))
+    }
+
+    /// Takes a line by as what it was kept, if it may stand behind those above it.
+    fn take(&mut self, kept: KeptAs) -> Result<bool, AllocError>
+        ensures { IfOk result (λ is_taken. is_taken ≡ true
+            → (before : List SaidLine) → (said : SaidLine) → IsKeptAs kept said
+            → said_of self.old ≡ kept_said before
+            → said_of self.new ≡ kept_said (before ++ said ∷ [])) }
+    {
         let count = self.numbers.len() as u64;
         let more = kept.read.saturating_sub(count).saturating_sub(1);
         if !self.goes_on(kept) || more == u64::MAX {
-            return Ok(Err(self.refusal(None)));
+            return Ok(false);
         }
         self.numbers.push(kept.number)?;
         self.more = more;
@@ -95,12 +147,15 @@ impl KeptText {
             self.told = self.numbers.len();
             self.settled = settled;
         }
-        Ok(Ok(()))
+        Ok(true)
     }
 
     /// Whether a line may stand behind those above it: its number is above theirs, and no lines are
     /// told behind some that are not.
-    fn goes_on(&self, kept: KeptAs) -> bool {
+    fn goes_on(&self, kept: KeptAs) -> bool
+        ensures { result ≡ true → is_some kept.settled ≡ true
+            → self.now.told ≡ length self.now.numbers.items }
+    {
         let count = self.numbers.len();
         let last = self.numbers.last().copied().unwrap_or(0);
         let may_be_told = kept.settled.is_none() || self.told == count;
@@ -116,23 +171,60 @@ impl KeptText {
     }
 }
 
+/// The members that say as what a line was kept.
+fn members_kept(alloc: Global) -> Result<Vec<String>, AllocError>
+    ensures { IfOk result (λ members. map string_bytes members.items ≡ kept_members) }
+{
+    let mut members = Vec::new(alloc);
+    members.push(String::from_str(alloc, NUMBER)?)?;
+    members.push(String::from_str(alloc, READ)?)?;
+    members.push(String::from_str(alloc, SETTLED)?)?;
+    Ok(members)
+}
+
 /// As what a line says that it was kept, if it does.
-fn kept_as(read: &ReadLine) -> Option<KeptAs> {
-    let settled = match number_at(read, 2) {
-        None if read.shown.get(2).is_some_and(Option::is_some) => return None,
-        settled => settled,
-    };
-    Some(KeptAs {
-        number: number_at(read, 0)?,
-        read: number_at(read, 1)?,
-        settled,
-    })
+fn kept_as(alloc: Global, read: &ReadLine) -> Result<Option<KeptAs>, AllocError>
+    ensures { IfOk result (λ kept. IfSome kept (λ kept. IsKeptAs kept (said_by read.now))) }
+{
+    let number = number_at(alloc, read, 0)?;
+    let lines = number_at(alloc, read, 1)?;
+    let settled = number_at(alloc, read, 2)?;
+    let is_bad = settled.is_none() && read.shown.get(2).is_some_and(Option::is_some);
+    match (number, lines) {
+        (Some(number), Some(read)) if !is_bad => Ok(Some(KeptAs {
+            number,
+            read,
+            settled,
+        })),
+        _ => Ok(None),
+    }
 }
 
 /// The number that stands in one of the members that are shown, if one does.
-fn number_at(read: &ReadLine, place: usize) -> Option<u64> {
-    let text = read.shown.get(place)?.as_deref()?;
-    text.parse::<u64>().ok()
+fn number_at(alloc: Global, read: &ReadLine, place: usize) -> Result<Option<u64>, AllocError>
+    ensures { IfOk result (λ found. IfSome found (λ number.
+        number_kept place (said_by read.now) ≡ Some number)) }
+{
+    digits_are_read_as_their_number();
+    match read.shown.get(place) {
+        Some(Some(text)) => number_in(alloc, text),
+        _ => Ok(None),
+    }
+}
+
+/// The number that a text writes, if it does so by its decimal digits alone.
+fn number_in(alloc: Global, text: &str) -> Result<Option<u64>, AllocError>
+    ensures { IfOk result (λ found. IfSome found (λ number.
+        (text.now ≡ decimal number) × (number < 2 ^ 64))) }
+{
+    let Ok(number) = text.parse::<u64>() else {
+        return Ok(None);
+    };
+    let digits = number.to_string(alloc)?;
+    if digits.as_str() != text {
+        return Ok(None);
+    }
+    Ok(Some(number))
 }
 
 /// The members by which lines are written: the one that has the keys, as it is printed.
@@ -141,11 +233,10 @@ pub(crate) fn kept_text(
     reader: &LineReader,
     taking: &Taking,
     key: Option<&str>,
+    kept: &[KeptLine],
 ) -> Result<String, AllocError> {
-    let mut kept = taking.watch.kept(alloc)?;
-    kept.sort_unstable_by_key(|line| line.number);
     let mut text = String::new(alloc);
-    for line in &kept {
+    for line in kept {
         push_call(alloc, &mut text, reader.names(), line)?;
         push_key(alloc, &mut text, reader, key, line)?;
         taking.rows.push_texts(&mut text, line.number)?;
@@ -167,13 +258,12 @@ fn push_call(
         let name = printed_name(alloc, name)?;
         write!(out, "\"client\":{name},")?;
     }
-    let (verb, version) = (verb_of(line.call), line.call.version());
-    let began = line.began();
-    write!(out, "\"{verb}\":{version},\"began\":{began},\"ended\":")?;
-    match line.ended() {
-        Some(ended) => write!(out, "{ended}"),
-        None => write!(out, "null"),
-    }
+    let figures = [
+        Figure(verb_of(line.call), Some(line.call.version())),
+        Figure("began", Some(line.began())),
+        Figure("ended", line.ended()),
+    ];
+    push_figures(out, true, &figures)
 }
 
 /// The member of a call.

@@ -2,19 +2,18 @@
 
 ghost use Rattle.std.specs.Prelude.{◌≡◌, ◌++◌, ◌<◌, ◌⊎◌, ℕ, IfOk, List, OnOk, Some, length};
 ghost use Rattle.std.specs.Prelude.{false, map, slice_get, string_bytes, true};
+ghost use Rattle.fdb_lines.specs.Judged.{AreAll, HasLateIn, HasReasonIn};
 ghost use Rattle.fdb_lines.specs.Reasons.{found_of};
 ghost use Rattle.fdb_lines.specs.declared.fault.Found.{Found};
-ghost use Rattle.fdb_audit.specs.Judged.{list_text, AreAll, AreTotals, IsListing};
-ghost use Rattle.fdb_audit.specs.Judged.{HasLateIn, HasReasonIn, IsFaulted};
+ghost use Rattle.fdb_audit.specs.Judged.{list_text, AreTotals, IsFaulted, IsListing};
 ghost use Rattle.fdb_audit.specs.private.{keys_in, log_in, shown_in, HasKeys};
 
 use crate::asked::Asked;
-use crate::grouped::push_most_of_each;
+use crate::grouped::push_totals;
 use crate::judged::{Judgement, Wanted};
 use crate::passing::push_total_line;
 use crate::printer::Printer;
-use crate::totals::push_faults;
-use fdb_lines::Finding;
+use fdb_lines::{Finding, Found, summary};
 use std::alloc::{AllocError, Global};
 
 /// What is said of a log by its first fault.
@@ -102,10 +101,17 @@ fn add_totals(
     if !wanted.totals {
         return Ok(());
     }
-    let counts = asked.summary(alloc)?;
+    let counts = summary(alloc, asked.printer.log, asked.keys, asked.opts)?;
     push_total_line(out, asked, counts, wanted.json)?;
-    push_faults(out, wanted.json, found)?;
-    push_most_of_each(alloc, out, wanted.json, asked.printer, found)
+    let faults = faults_of(alloc, found)?;
+    push_totals(alloc, out, wanted.json, asked.printer, &faults)
+}
+
+/// The faults that were found, without why they stand.
+fn faults_of(alloc: Global, found: &[Finding]) -> Result<Vec<Found>, AllocError>
+    ensures { IfOk result (λ faults. faults.items ≡ map found_of found.now) }
+{
+    found.iter().map(|finding| finding.found).collect(alloc)
 }
 
 impl Printer<'_> {
@@ -119,10 +125,13 @@ impl Printer<'_> {
         ensures { OnOk result (string_bytes out.new
             ≡ string_bytes out.old ++ list_text json (shown_in self.entry) found.now) }
     {
-        if json {
-            self.push_fault_objects(out, found)
-        } else {
-            self.push_findings(out, found)
+        for finding in found {
+            if json {
+                self.push_fault_object(out, *finding)?;
+            } else {
+                self.push_finding(out, *finding)?;
+            }
         }
+        Ok(())
     }
 }

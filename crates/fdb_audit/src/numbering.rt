@@ -18,7 +18,6 @@ pub(crate) struct Numbering {
 }
 
 impl Numbering {
-    ghost use Rattle.fdb_audit.specs.Following.{KeptNumbers};
     ghost use Rattle.fdb_audit.specs.private.Numbering.{AreNumbersOf, kept_by};
 
     /// No line was refused. Lines of these numbers come first, counted from 1, and there were so many

@@ -1,40 +1,27 @@
 //! Faults and lines as JSON objects.
 
-ghost use Rattle.std.specs.Prelude.{◌≡◌, ◌++◌, OnOk, codes, map, option_map, slice_get};
-ghost use Rattle.std.specs.Prelude.{string_bytes};
-ghost use Rattle.std.specs.List.{flat_map};
-ghost use Rattle.fdb_audit.specs.Objects.{by_field, call_field, client_field, fault_object};
-ghost use Rattle.fdb_audit.specs.Objects.{fault_objects, fault_word, late_field, line_object};
-ghost use Rattle.fdb_audit.specs.Objects.{means_field, member_field, members_field};
-ghost use Rattle.fdb_audit.specs.Objects.{name_or_number, number_or_null, reason_field};
-ghost use Rattle.fdb_audit.specs.Objects.{reported_field, text_or_null, times_field, truth};
+ghost use Rattle.std.specs.Prelude.{◌≡◌, ◌++◌, OnOk, map, option_map, string_bytes};
+ghost use Rattle.fdb_audit.specs.Objects.{by_field, call_field, fault_object, fault_word};
+ghost use Rattle.fdb_audit.specs.Objects.{late_field, line_object, means_field, member_field};
+ghost use Rattle.fdb_audit.specs.Objects.{members_field, reason_field};
+ghost use Rattle.fdb_audit.specs.Objects.{text_or_null, times_field};
 ghost use Rattle.fdb_audit.specs.Text.{line};
 ghost use Rattle.fdb_audit.specs.private.{beside_of, shown_in};
 
-use crate::beside::MemberBeside;
+use crate::beside::Column;
+use crate::figures::{Figure, push_figures};
 use crate::printer::Printer;
 use fdb_lines::{Fault, Finding, Late, Means, Operation, Reason, Times, Witness};
 use std::alloc::AllocError;
 use std::fmt::Write;
 
 impl Printer<'_> {
-    /// Writes an object for each of some faults, in their order.
-    pub(crate) fn push_fault_objects(
+    /// Writes an object for a fault.
+    pub(crate) fn push_fault_object(
         self,
         out: &mut String,
-        found: &[Finding],
+        finding: Finding,
     ) -> Result<(), AllocError>
-        ensures { OnOk result (string_bytes out.new
-            ≡ string_bytes out.old ++ fault_objects (shown_in self.entry) found.now) }
-    {
-        for finding in found {
-            self.push_fault_object(out, *finding)?;
-        }
-        Ok(())
-    }
-
-    /// Writes an object for a fault.
-    fn push_fault_object(self, out: &mut String, finding: Finding) -> Result<(), AllocError>
         ensures { OnOk result (string_bytes out.new
             ≡ string_bytes out.old ++ line (fault_object (shown_in self.entry) finding)) }
     {
@@ -54,36 +41,11 @@ impl Printer<'_> {
         let line = self.line(place);
         let number = self.number(place);
         write!(out, "{{\"line\":{number}")?;
-        self.push_client_field(out, line.client)?;
+        self.push_client_or(out, ",\"client\":", line.client, "")?;
         self.push_call_field(out, line.call)?;
         push_times_field(out, line.times)?;
         push_members_field(out, self.beside, place)?;
         write!(out, "}}")
-    }
-
-    /// Writes whose a call was; nothing where that is not known.
-    fn push_client_field(self, out: &mut String, client: Option<u32>) -> Result<(), AllocError>
-        ensures { OnOk result (string_bytes out.new
-            ≡ string_bytes out.old ++ client_field (shown_in self.entry).names client) }
-    {
-        match client {
-            Some(number) => {
-                write!(out, ",\"client\":")?;
-                self.push_name(out, number)
-            }
-            None => Ok(()),
-        }
-    }
-
-    /// Writes the name of a client, or its number where it has none.
-    pub(crate) fn push_name(self, out: &mut String, number: u32) -> Result<(), AllocError>
-        ensures { let names = (shown_in self.entry).names in OnOk result (string_bytes out.new
-            ≡ string_bytes out.old ++ name_or_number number (slice_get names number)) }
-    {
-        match self.name(number) {
-            Some(name) => write!(out, "{name}"),
-            None => write!(out, "{number}"),
-        }
     }
 
     /// Writes what was done.
@@ -129,7 +91,10 @@ impl Printer<'_> {
             }
             Reason::Unreported => write!(out, ",\"reason\":\"unreported\""),
             Reason::Reported { line, version, by } => {
-                self.push_reported_field(out, line, version, by)
+                write!(out, ",\"reason\":\"reported\",\"reported\":")?;
+                self.push_line_object(out, line)?;
+                write!(out, ",\"known\":{version}")?;
+                self.push_by_field(out, by)
             }
             Reason::Drawn { line } => {
                 write!(out, ",\"reason\":\"drawn\",\"drawn\":")?;
@@ -137,23 +102,6 @@ impl Printer<'_> {
             }
             Reason::Undrawn => write!(out, ",\"reason\":\"undrawn\""),
         }
-    }
-
-    /// Writes which line reported a version first, and what it knew.
-    fn push_reported_field(
-        self,
-        out: &mut String,
-        reporter: u32,
-        version: u64,
-        by: Option<Witness>,
-    ) -> Result<(), AllocError>
-        ensures { OnOk result (string_bytes out.new
-            ≡ string_bytes out.old ++ reported_field (shown_in self.entry) reporter version by) }
-    {
-        write!(out, ",\"reason\":\"reported\",\"reported\":")?;
-        self.push_line_object(out, reporter)?;
-        write!(out, ",\"known\":{version}")?;
-        self.push_by_field(out, by)
     }
 
     /// Writes by which line a version was known, and how.
@@ -186,7 +134,7 @@ impl Printer<'_> {
 }
 
 /// The name of a kind of fault.
-fn fault_word(fault: Fault) -> &'static str
+pub(crate) fn fault_word(fault: Fault) -> &'static str
     ensures { result.now ≡ fault_word fault }
 {
     match fault {
@@ -204,19 +152,19 @@ fn push_times_field(out: &mut String, times: Option<Times>) -> Result<(), AllocE
 {
     match times {
         Some(times) => {
-            write!(out, ",\"began\":{},\"ended\":", times.began)?;
-            push_number_or_null(out, times.ended)
+            let figures = [
+                Figure("began", Some(times.began)),
+                Figure("ended", times.ended),
+            ];
+            write!(out, ",")?;
+            push_figures(out, true, &figures)
         }
         None => Ok(()),
     }
 }
 
 /// Writes what is printed beside a line, as an object.
-fn push_members_field(
-    out: &mut String,
-    beside: &[MemberBeside<'_>],
-    place: u32,
-) -> Result<(), AllocError>
+fn push_members_field(out: &mut String, beside: &[Column], place: u32) -> Result<(), AllocError>
     ensures { OnOk result (string_bytes out.new
         ≡ string_bytes out.old ++ members_field (map beside_of beside.now) place) }
 {
@@ -225,32 +173,15 @@ fn push_members_field(
     };
     write!(out, ",\"members\":{{")?;
     push_member_field(out, first, place)?;
-    push_more_fields(out, more, place)?;
-    write!(out, "}}")
-}
-
-/// Writes members of an object that go on behind a comma.
-fn push_more_fields(
-    out: &mut String,
-    more: &[MemberBeside<'_>],
-    place: u32,
-) -> Result<(), AllocError>
-    ensures { OnOk result (string_bytes out.new ≡ string_bytes out.old
-        ++ flat_map (λ other. codes "," ++ member_field other place) (map beside_of more.now)) }
-{
     for member in more {
         write!(out, ",")?;
         push_member_field(out, member, place)?;
     }
-    Ok(())
+    write!(out, "}}")
 }
 
 /// Writes a member's text at a line, or null.
-fn push_member_field(
-    out: &mut String,
-    member: &MemberBeside<'_>,
-    place: u32,
-) -> Result<(), AllocError>
+fn push_member_field(out: &mut String, member: &Column, place: u32) -> Result<(), AllocError>
     ensures { OnOk result (string_bytes out.new
         ≡ string_bytes out.old ++ member_field (beside_of member.now) place) }
 {
@@ -266,26 +197,5 @@ pub(crate) fn push_or_null(out: &mut String, value: Option<&str>) -> Result<(), 
     match value {
         Some(text) => write!(out, "{text}"),
         None => write!(out, "null"),
-    }
-}
-
-/// Writes a number, or null.
-pub(crate) fn push_number_or_null(out: &mut String, number: Option<u64>) -> Result<(), AllocError>
-    ensures { OnOk result (string_bytes out.new ≡ string_bytes out.old ++ number_or_null number) }
-{
-    match number {
-        Some(number) => write!(out, "{number}"),
-        None => write!(out, "null"),
-    }
-}
-
-/// Writes whether something holds.
-pub(crate) fn push_truth(out: &mut String, holds: bool) -> Result<(), AllocError>
-    ensures { OnOk result (string_bytes out.new ≡ string_bytes out.old ++ truth holds) }
-{
-    if holds {
-        write!(out, "true")
-    } else {
-        write!(out, "false")
     }
 }

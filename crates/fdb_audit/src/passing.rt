@@ -2,22 +2,22 @@
 
 ghost use Rattle.std.specs.Prelude.{◌≡◌, ◌++◌, IfOk, None, OnOk, Option, false, map, string_bytes};
 ghost use Rattle.std.specs.Prelude.{true};
+ghost use Rattle.fdb_lines.specs.Judged.{HasOrders, IsSummary};
+ghost use Rattle.fdb_audit.specs.Figures.{summary_figures};
 ghost use Rattle.fdb_audit.specs.Judged.{head_text, key_text, orders_text, passed_text};
-ghost use Rattle.fdb_audit.specs.Judged.{total_line, steps_text};
-ghost use Rattle.fdb_audit.specs.Judged.{IsPassed, IsSummary};
+ghost use Rattle.fdb_audit.specs.Judged.{total_line, steps_text, IsPassed};
 ghost use Rattle.fdb_audit.specs.Text.{line};
-ghost use Rattle.fdb_audit.specs.private.{beside_of, keys_in, log_in, order_text, shown_in};
-ghost use Rattle.fdb_audit.specs.private.{HasKeys, HasOrders};
+ghost use Rattle.fdb_audit.specs.private.{beside_of, figure_of, keys_in, log_in, order_text};
+ghost use Rattle.fdb_audit.specs.private.{shown_in, HasKeys};
 
-use crate::asked::{Asked, Order};
-use crate::beside::MemberBeside;
+use crate::asked::Asked;
+use crate::beside::Column;
+use crate::figures::{Figure, push_line, push_total_object};
 use crate::judged::{Judgement, Wanted};
 use crate::object::push_or_null;
 use crate::printer::Printer;
-use crate::total_object::push_total_object;
 use crate::totals::push_faults;
-use crate::verdict::{push_counts, push_verdict};
-use fdb_lines::{KeyOrder, OrderStep, Summary};
+use fdb_lines::{KeyOrder, Order, Summary, summary};
 use std::alloc::{AllocError, Global};
 use std::fmt::Write;
 
@@ -53,7 +53,7 @@ pub(crate) fn explained(
     ensures text { IfOk result (λ found. IsPassed (log_in asked.entry) (shown_in asked.entry.printer)
         (keys_in asked.entry) asked.entry.opts.now wanted (string_bytes found.text)) }
 {
-    let counts = asked.summary(alloc)?;
+    let counts = summary(alloc, asked.printer.log, asked.keys, asked.opts)?;
     let mut text = String::new(alloc);
     push_explained(&mut text, asked, counts, order, wanted.json)?;
     Ok(Judgement { fault: None, text })
@@ -95,11 +95,12 @@ fn push_head(
         push_total_line(out, asked, counts, true)?;
         push_faults(out, true, &[])
     } else {
-        push_verdict(out, counts)
+        push_line(out, "audit ok", &summary_figures(counts))
     }
 }
 
 /// Writes how much was judged.
+#[tactic(auto, using(crate::proofs::Members::named_beside))]
 pub(crate) fn push_total_line(
     out: &mut String,
     asked: Asked<'_>,
@@ -109,19 +110,34 @@ pub(crate) fn push_total_line(
     ensures { OnOk result (string_bytes out.new ≡ string_bytes out.old ++ line (total_line json
         (shown_in asked.entry.printer) (keys_in asked.entry) asked.entry.opts.now counts)) }
 {
+    let figures = summary_figures(counts);
     if json {
-        push_total_object(
-            out,
-            asked.opts,
-            asked.keys.is_some(),
-            asked.printer.beside,
-            counts,
-        )
+        let arguments = [
+            Figure("complete", asked.opts.complete),
+            Figure("margin", Some(asked.opts.margin)),
+        ];
+        let by_key = asked.keys.is_some();
+        push_total_object(out, &figures, &arguments, by_key, asked.printer.beside)
     } else {
-        write!(out, "audit total")?;
-        push_counts(out, counts)?;
-        writeln!(out)
+        push_line(out, "audit total", &figures)
     }
+}
+
+/// What a verdict stands on.
+fn summary_figures(counts: Summary) -> [Figure; 9]
+    ensures { map figure_of result ≡ summary_figures counts }
+{
+    [
+        Figure("lines", Some(counts.lines)),
+        Figure("timed", Some(counts.timed)),
+        Figure("reads", Some(counts.reads)),
+        Figure("commits", Some(counts.commits)),
+        Figure("asks", Some(counts.asks)),
+        Figure("reports", Some(counts.reports)),
+        Figure("learns", Some(counts.learns)),
+        Figure("unreported", Some(counts.unreported)),
+        Figure("ordered", counts.ordered),
+    ]
 }
 
 impl Printer<'_> {
@@ -147,42 +163,11 @@ impl Printer<'_> {
             ≡ string_bytes out.old ++ orders_text json (shown_in self.entry) orders.now) }
     {
         for order in orders {
-            self.push_key_order(out, json, order)?;
+            let mut key = String::new(*out.allocator());
+            push_key(&mut key, json, self.beside, order.key)?;
+            self.push_steps(out, json, &key, &order.steps)?;
         }
         Ok(())
-    }
-
-    /// Writes the steps of a key.
-    fn push_key_order(
-        self,
-        out: &mut String,
-        json: bool,
-        order: &KeyOrder,
-    ) -> Result<(), AllocError>
-        ensures { let it = shown_in self.entry in OnOk result (string_bytes out.new ≡ string_bytes out.old
-            ++ steps_text json it (key_text json it.beside order.now.key) order.now.steps.items) }
-    {
-        let mut key = String::new(*out.allocator());
-        push_key(&mut key, json, self.beside, order.key)?;
-        self.push_steps(out, json, &key, &order.steps)
-    }
-
-    /// Writes a line for each step of an order, counted from 0, with the key of its lines.
-    fn push_steps(
-        self,
-        out: &mut String,
-        json: bool,
-        key: &str,
-        steps: &[OrderStep],
-    ) -> Result<(), AllocError>
-        ensures { OnOk result (string_bytes out.new
-            ≡ string_bytes out.old ++ steps_text json (shown_in self.entry) key.now steps.now) }
-    {
-        if json {
-            self.push_step_objects(out, key, steps)
-        } else {
-            self.push_history(out, key, steps)
-        }
     }
 }
 
@@ -190,7 +175,7 @@ impl Printer<'_> {
 fn push_key(
     out: &mut String,
     json: bool,
-    beside: &[MemberBeside<'_>],
+    beside: &[Column],
     key: Option<u32>,
 ) -> Result<(), AllocError>
     ensures { OnOk result (string_bytes out.new

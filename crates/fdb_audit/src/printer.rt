@@ -3,11 +3,11 @@
 ghost use Rattle.std.specs.Prelude.{◌≡◌, ◌++◌, [], OnOk, map, option_map, slice_get, string_bytes};
 ghost use Rattle.fdb_lines.specs.Lines.{line_at};
 ghost use Rattle.fdb_lines.specs.Log.{lines_of};
-ghost use Rattle.fdb_audit.specs.Text.{call_text, client_text, fault_of, members_text, mention};
-ghost use Rattle.fdb_audit.specs.Text.{number_at, number_text, whose_text};
+ghost use Rattle.fdb_audit.specs.Text.{call_text, client_or, fault_of, members_text, mention};
+ghost use Rattle.fdb_audit.specs.Text.{name_or_number, number_at, number_text, whose_text};
 ghost use Rattle.fdb_audit.specs.private.{shown_in};
 
-use crate::beside::MemberBeside;
+use crate::beside::Column;
 use crate::fault::LogFault;
 use fdb_lines::{Found, Line, Log, Operation};
 use std::alloc::AllocError;
@@ -29,28 +29,7 @@ pub(crate) struct Printer<'a> {
     pub log: &'a Log,
     pub names: &'a [String],
     pub numbers: &'a [u64],
-    pub beside: &'a [MemberBeside<'a>],
-}
-
-impl<'a> Printer<'a> {
-    /// A log whose clients have these names, whose lines have no other numbers than their places,
-    /// and of which no member is printed beside the calls.
-    pub(crate) fn of(log: &'a Log, names: &'a [String]) -> Self
-        ensures shown { shown_in result ≡ record {
-          lines = (lines_of log.now).lines;
-          names = map string_bytes names.now;
-          numbers = [];
-          beside = [];
-        } }
-        ensures log { lines_of result.log.now ≡ lines_of log.now }
-    {
-        Printer {
-            log,
-            names,
-            numbers: &[],
-            beside: &[],
-        }
-    }
+    pub beside: &'a [Column],
 }
 
 impl Printer<'_> {
@@ -89,14 +68,34 @@ impl Printer<'_> {
         Some(name.as_str())
     }
 
-    /// Writes a client: by its name, or by its number where it has none.
-    pub(crate) fn push_client(self, out: &mut String, number: u32) -> Result<(), AllocError>
-        ensures { OnOk result (string_bytes out.new
-            ≡ string_bytes out.old ++ client_text (shown_in self.entry).names number) }
+    /// Writes the name of a client, or its number where it has none.
+    pub(crate) fn push_name(self, out: &mut String, number: u32) -> Result<(), AllocError>
+        ensures { let names = (shown_in self.entry).names in OnOk result (string_bytes out.new
+            ≡ string_bytes out.old ++ name_or_number number (slice_get names number)) }
     {
         match self.name(number) {
-            Some(name) => write!(out, "client {name}"),
-            None => write!(out, "client {number}"),
+            Some(name) => write!(out, "{name}"),
+            None => write!(out, "{number}"),
+        }
+    }
+
+    /// Writes a client behind a text, or another text where it is not known.
+    pub(crate) fn push_client_or(
+        self,
+        out: &mut String,
+        before: &str,
+        client: Option<u32>,
+        none: &str,
+    ) -> Result<(), AllocError>
+        ensures { OnOk result (string_bytes out.new ≡ string_bytes out.old
+            ++ client_or (shown_in self.entry).names before.now none.now client) }
+    {
+        match client {
+            Some(number) => {
+                write!(out, "{before}")?;
+                self.push_name(out, number)
+            }
+            None => write!(out, "{none}"),
         }
     }
 
@@ -141,7 +140,8 @@ impl Printer<'_> {
     {
         match client {
             Some(number) => {
-                self.push_client(out, number)?;
+                write!(out, "client ")?;
+                self.push_name(out, number)?;
                 write!(out, ", ")
             }
             None => Ok(()),

@@ -3,8 +3,8 @@
 ghost use Rattle.std.specs.Prelude.{◌≡◌, ◌++◌, OnOk, string_bytes};
 ghost use Rattle.fdb_lines.specs.Before.{began, ended};
 ghost use Rattle.fdb_lines.specs.Lines.{line_at};
-ghost use Rattle.fdb_audit.specs.Text.{caller_text, deed_text, ended_text, finding_text, is_by};
-ghost use Rattle.fdb_audit.specs.Text.{is_told, known_text, late_text, line, listing_text};
+ghost use Rattle.fdb_audit.specs.Text.{deed_text, ended_text, finding_text, is_by};
+ghost use Rattle.fdb_audit.specs.Text.{is_told, known_text, late_text, line};
 ghost use Rattle.fdb_audit.specs.Text.{reason_text, sentence_text, since, wait_text};
 ghost use Rattle.fdb_audit.specs.private.{shown_in};
 
@@ -14,17 +14,6 @@ use std::alloc::AllocError;
 use std::fmt::Write;
 
 impl Printer<'_> {
-    /// Writes a line for each of some faults, in their order.
-    pub(crate) fn push_findings(self, out: &mut String, found: &[Finding]) -> Result<(), AllocError>
-        ensures { OnOk result (string_bytes out.new ≡ string_bytes out.old
-            ++ listing_text (shown_in self.entry) found.now) }
-    {
-        for finding in found {
-            self.push_finding(out, *finding)?;
-        }
-        Ok(())
-    }
-
     /// Writes a line for a fault, with why it stands.
     pub(crate) fn push_finding(self, out: &mut String, finding: Finding) -> Result<(), AllocError>
         ensures { OnOk result (string_bytes out.new ≡ string_bytes out.old
@@ -49,21 +38,10 @@ impl Printer<'_> {
             ++ sentence_text (shown_in self.entry) place late reason) }
     {
         let line = self.line(place);
-        self.push_caller(out, line.client)?;
+        self.push_client_or(out, "client ", line.client, "its caller")?;
         push_deed(out, line.call)?;
         self.push_members(out, place)?;
         self.push_reason(out, place, late, reason)
-    }
-
-    /// Writes who made a call: a client, or `its caller` where that is not known.
-    fn push_caller(self, out: &mut String, client: Option<u32>) -> Result<(), AllocError>
-        ensures { OnOk result (string_bytes out.new
-            ≡ string_bytes out.old ++ caller_text (shown_in self.entry).names client) }
-    {
-        match client {
-            Some(number) => self.push_client(out, number),
-            None => write!(out, "its caller"),
-        }
     }
 
     /// Writes why a fault stands, behind what the caller of the line at a place did.

@@ -1,16 +1,22 @@
 //! The lines of a log that is followed, as they are taken.
 
-ghost use Rattle.std.specs.Prelude.{◌≡◌, ◌⊎◌, ◌+◌, ◌-◌, ◌^◌, ◌<◌, ◌≤◌, ◌++◌, ◌∷◌, [], All, List};
-ghost use Rattle.std.specs.Prelude.{Err, IfOk, MatchOption, Ok, OnOk, Result, length, map, min};
+ghost use Rattle.std.specs.Prelude.{◌≡◌, ℕ, ◌+◌, ◌-◌, ◌^◌, ◌<◌, ◌≤◌, ◌++◌, ◌∷◌, [], All, List};
+ghost use Rattle.std.specs.Prelude.{Err, IfOk, Ok, OnOk, Result, false, length, map, max, min};
+ghost use Rattle.std.specs.Prelude.{nat_lt};
+ghost use Rattle.std.specs.Prelude.{string_bytes, unwrap_or};
+ghost use Rattle.fdb_log_reader.specs.Printed.{printed};
+ghost use Rattle.fdb_lines.specs.declared.fault.Found.{Found};
+ghost use Rattle.fdb_lines.specs.declared.line.Line.{Line};
+ghost use Rattle.fdb_lines.specs.Before.{began, ended};
 ghost use Rattle.fdb_log_reader.specs.declared.error.Why.{Why};
 ghost use Rattle.fdb_log_reader.specs.ReadLine.{IsTimed, SaidLine, said_by, said_in};
-ghost use Rattle.fdb_audit.specs.Following.{taken, taken_above};
+ghost use Rattle.fdb_lines.specs.ToldByKey.{audited_to};
 
 use crate::counts::Counts;
 use crate::numbering::Numbering;
 use crate::refused::LogsRefused;
 use crate::rows::Rows;
-use fdb_lines::{KeyWatch, Line, WatchError};
+use fdb_lines::{KeyWatch, Line, WatchError, laws};
 use fdb_log_reader::{ReadError, ReadLine, Why};
 use std::alloc::{AllocError, Global};
 use std::fmt::Write;
@@ -39,9 +45,11 @@ pub(crate) struct Taking {
 }
 
 impl Taking {
-    ghost use Rattle.fdb_audit.specs.Following.{KeptNumbers};
-    ghost use Rattle.fdb_audit.specs.Taken.{kept_by};
-    ghost use Rattle.fdb_audit.specs.private.Followed.{AreTaken};
+    ghost use Rattle.fdb_audit.specs.Following.{Start, keys_taken, left_out, lines_taken};
+    ghost use Rattle.fdb_audit.specs.Following.{start_with};
+    ghost use Rattle.fdb_audit.specs.Kept.{KeptSaid, early_at, start_from};
+    ghost use Rattle.fdb_audit.specs.Taken.{AreCounted, kept_by};
+    ghost use Rattle.fdb_audit.specs.private.Followed.{AreTaken, one_more};
 
     /// No line has been taken; those of these numbers come first. It fails only where memory is
     /// refused.
@@ -54,8 +62,11 @@ impl Taking {
     ) -> Result<Self, AllocError>
         requires none { numbering.above.items ≡ [] }
         requires few { numbering.more < 18446744073709551615 }
-        ensures taken { IfOk result (λ taking. AreTaken (kept_by numbering) taking []) }
+        ensures taken { IfOk result (λ taking. (behind : ℕ)
+            → AreTaken (start_with behind (kept_by numbering)) taking [] []) }
         ensures margin { IfOk result (λ taking. taking.watch.margin ≡ margin) }
+        ensures members { IfOk result (λ taking. map string_bytes taking.rows.members.items
+            ≡ map (λ name. printed (string_bytes name)) shown.now) }
     {
         let rows = Rows::new(alloc, shown)?;
         Ok(Taking {
@@ -73,12 +84,16 @@ impl Taking {
         })
     }
 
-    /// Takes some lines, or leaves those out that are refused. An error says that memory was refused.
+    /// Takes some lines, or leaves those out that are refused. An error says that memory was
+    /// refused.
     pub(crate) fn take_all(&mut self, lines: Vec<Result<ReadLine, Why>>) -> Result<(), AllocError>
         requires timed { All (λ read. IfOk read IsTimed) lines.items }
-        ensures taken { OnOk result ((kept : KeptNumbers) → (read : List (Result SaidLine Why))
-            → AreTaken kept self.old read
-            → AreTaken kept self.new (read ++ map said_in lines.items)) }
+        ensures taken { OnOk result ((start : Start) → (read : List (Result SaidLine Why))
+            → (told : List Found) → AreTaken start self.old read told
+            → AreTaken start self.new (read ++ map said_in lines.items) told) }
+        ensures early { OnOk result (self.new.counts.early ≤ self.old.counts.early
+            + early_at self.old.watch.from (lines_taken (map said_in lines.items))) }
+        ensures from { self.new.watch.from ≡ self.old.watch.from }
         ensures margin { self.new.watch.margin ≡ self.old.watch.margin }
     {
         for line in lines {
@@ -87,8 +102,8 @@ impl Taking {
         Ok(())
     }
 
-    /// Takes lines that were kept, of which so many had come when it had settled up to a moment. They
-    /// are not counted. An error says that memory was refused.
+    /// Takes lines that were kept, of which so many had come when it had settled up to a moment.
+    /// They are not counted. An error says that memory was refused.
     pub(crate) fn take_kept(
         &mut self,
         mut lines: Vec<Result<ReadLine, Why>>,
@@ -96,9 +111,12 @@ impl Taking {
         settled: u64,
     ) -> Result<(), AllocError>
         requires timed { All (λ read. IfOk read IsTimed) lines.items }
-        ensures taken { OnOk result ((kept : KeptNumbers) → (read : List (Result SaidLine Why))
-            → AreTaken kept self.old read
-            → AreTaken kept self.new (read ++ map said_in lines.items)) }
+        ensures taken { OnOk result ((behind : ℕ) → (kept : KeptSaid)
+            → kept.told ≡ told → kept.settled ≡ settled
+            → AreTaken (start_with behind kept.numbers) self.old [] []
+            → let read = map said_in lines.items in
+            let start = start_from behind self.old.watch.margin kept read in
+            AreTaken start self.new read start.told) }
         ensures margin { self.new.watch.margin ≡ self.old.watch.margin }
     {
         let since = lines.split_off(told.min(lines.len()))?;
@@ -112,9 +130,12 @@ impl Taking {
     /// Takes a line, or leaves it out where it is refused. An error says that memory was refused.
     pub(crate) fn take(&mut self, read: Result<ReadLine, Why>) -> Result<(), AllocError>
         requires timed { IfOk read IsTimed }
-        ensures taken { OnOk result ((kept : KeptNumbers) → (lines : List (Result SaidLine Why))
-            → AreTaken kept self.old lines
-            → AreTaken kept self.new (lines ++ said_in read ∷ [])) }
+        ensures taken { OnOk result ((start : Start) → (lines : List (Result SaidLine Why))
+            → (told : List Found) → AreTaken start self.old lines told
+            → AreTaken start self.new (lines ++ said_in read ∷ []) told) }
+        ensures early { OnOk result (self.new.counts.early ≤ self.old.counts.early
+            + early_at self.old.watch.from (lines_taken (said_in read ∷ []))) }
+        ensures from { self.new.watch.from ≡ self.old.watch.from }
         ensures margin { self.new.watch.margin ≡ self.old.watch.margin }
     {
         // No more lines are read than have numbers.
@@ -129,21 +150,29 @@ impl Taking {
 
     /// Settles up to a moment, and tells nothing of it. An error says that memory was refused.
     pub(crate) fn settle_untold(&mut self, at: u64) -> Result<(), AllocError>
-        ensures taken { OnOk result ((kept : KeptNumbers) → (lines : List (Result SaidLine Why))
-            → AreTaken kept self.old lines → AreTaken kept self.new lines) }
+        ensures taken { OnOk result ((start : Start) → (lines : List (Result SaidLine Why))
+            → (told : List Found) → AreTaken start self.old lines told
+            → AreTaken (record start { anew = false }) self.new lines
+            (audited_to self.old.watch.margin (max self.old.watch.from at) (lines_taken lines)
+            (keys_taken lines))) }
+        ensures from { OnOk result (self.new.watch.from ≡ max self.old.watch.from at) }
+        ensures counts { self.new.counts ≡ self.old.counts }
         ensures margin { self.new.watch.margin ≡ self.old.watch.margin }
     {
         let told = self.watch.settle(self.alloc, at)?;
         self.rows.let_go_all(&told);
+        laws::all_is_told_up_to_where_it_settled();
         self.note_settled();
         Ok(())
     }
 
     /// Notes that it has settled.
     pub(crate) fn note_settled(&mut self)
-        ensures taken { (kept : KeptNumbers) → (lines : List (Result SaidLine Why))
-            → AreTaken kept self.old lines → AreTaken kept self.new lines }
+        ensures taken { (start : Start) → (lines : List (Result SaidLine Why))
+            → (told : List Found) → AreTaken start self.old lines told
+            → AreTaken start self.new lines told }
         ensures watch { self.new.watch ≡ self.old.watch }
+        ensures counts { self.new.counts ≡ self.old.counts }
     {
         self.unsettled = 0;
         self.settled = self.taken;
@@ -151,10 +180,8 @@ impl Taking {
 
     /// The last line that was refused, if one was, or that none was taken.
     pub(crate) fn left_out(&self) -> Option<ReadError>
-        ensures { (kept : KeptNumbers) → (read : List (Result SaidLine Why))
-            → AreTaken kept self.now read → MatchOption result
-            ((taken_above 0 read ≡ []) × (0 < length (taken read)))
-            (λ _. (taken read ≡ []) ⊎ (0 < length (taken_above 0 read))) }
+        ensures { (start : Start) → (read : List (Result SaidLine Why)) → (told : List Found)
+            → AreTaken start self.now read told → result ≡ left_out start.numbers read }
     {
         if self.taken > 0 && self.numbering.count() == 0 {
             return None;
@@ -179,9 +206,12 @@ impl Taking {
         requires timed { IsTimed read }
         requires room { self.old.taken + self.old.numbering.more
             + length self.old.numbering.above.items < 18446744073709551614 }
-        ensures taken { OnOk result ((kept : KeptNumbers) → (lines : List (Result SaidLine Why))
-            → AreTaken kept self.old lines
-            → AreTaken kept self.new (lines ++ Ok (said_by read) ∷ [])) }
+        ensures taken { OnOk result ((start : Start) → (lines : List (Result SaidLine Why))
+            → (told : List Found) → AreTaken start self.old lines told
+            → AreTaken start self.new (lines ++ Ok (said_by read) ∷ []) told) }
+        ensures early { OnOk result (self.new.counts.early ≤ self.old.counts.early
+            + early_at self.old.watch.from (read.line ∷ [])) }
+        ensures from { self.new.watch.from ≡ self.old.watch.from }
         ensures margin { self.new.watch.margin ≡ self.old.watch.margin }
     {
         let ReadLine { line, key, shown } = read;
@@ -201,6 +231,14 @@ impl Taking {
         ensures watch { self.new.watch ≡ self.old.watch }
         ensures numbering { self.new.numbering ≡ self.old.numbering }
         ensures count { self.new.taken ≡ self.old.taken + 1 }
+        ensures refused { self.new.refused ≡ self.old.refused }
+        ensures newest { self.new.newest
+            ≡ max self.old.newest (unwrap_or (ended line.now) 0) }
+        ensures counted { (lines : List Line) → length lines + 1 < 2 ^ 64
+            → AreCounted self.old.counts lines
+            → AreCounted self.new.counts (lines ++ line.now ∷ []) }
+        ensures early { self.new.counts.early
+            ≡ one_more (nat_lt (began line.now) self.old.watch.from) self.old.counts.early }
     {
         self.counts.add(line, self.watch.settled_to());
         self.newest = self.newest.max(line.ended().unwrap_or(0));
@@ -212,8 +250,11 @@ impl Taking {
     fn leave_out(&mut self, why: Why) -> Result<(), AllocError>
         requires room { self.old.taken + self.old.numbering.more
             + length self.old.numbering.above.items < 18446744073709551614 }
-        ensures taken { OnOk result ((kept : KeptNumbers) → (lines : List (Result SaidLine Why))
-            → AreTaken kept self.old lines → AreTaken kept self.new (lines ++ Err why ∷ [])) }
+        ensures taken { OnOk result ((start : Start) → (lines : List (Result SaidLine Why))
+            → (told : List Found) → AreTaken start self.old lines told
+            → AreTaken start self.new (lines ++ Err why ∷ []) told) }
+        ensures early { self.new.counts.early ≡ self.old.counts.early }
+        ensures from { self.new.watch.from ≡ self.old.watch.from }
         ensures margin { self.new.watch.margin ≡ self.old.watch.margin }
     {
         self.numbering.leave_out(self.taken)?;

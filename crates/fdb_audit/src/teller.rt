@@ -1,35 +1,39 @@
 //! What is told of a log that is followed, as it is printed.
 
-ghost use Rattle.std.specs.Prelude.{◌≡◌, ◌++◌, ℕ, [], All, IfOk, List, None, OnOk, Option, Result};
-ghost use Rattle.std.specs.Prelude.{option_map, slice_get, string_bytes};
+ghost use Rattle.std.specs.Prelude.{◌≡◌, ◌&&◌, ◌++◌, ℕ, [], All, Bool, IfOk, List, None, OnOk};
+ghost use Rattle.std.specs.Prelude.{Option, Result, is_some, map, not, option_map, option_to_list};
+ghost use Rattle.std.specs.Prelude.{slice_get, string_bytes};
 ghost use Rattle.std.specs.Option.{option_or};
+ghost use Rattle.fdb_lines.specs.declared.fault.Fault.{Fault};
 ghost use Rattle.fdb_lines.specs.declared.key_part.KeyPart.{KeyPart};
+ghost use Rattle.fdb_lines.specs.declared.line.Line.{Line};
 ghost use Rattle.fdb_lines.specs.KeyWatch.{AreTold, IsToldOf};
+ghost use Rattle.fdb_lines.specs.Lines.{line_at};
 ghost use Rattle.fdb_lines.specs.Reasons.{found_of};
+ghost use Rattle.fdb_lines.specs.ToldByKey.{told_by, told_by_all};
 ghost use Rattle.fdb_log_reader.specs.LineReader.{line_names};
 ghost use Rattle.fdb_log_reader.specs.ReadLine.{SaidLine};
 ghost use Rattle.fdb_log_reader.specs.declared.error.Why.{Why};
-ghost use Rattle.fdb_audit.specs.Following.{arguments_member, counted_words, followed_object};
-ghost use Rattle.fdb_audit.specs.Following.{keys_taken, KeptNumbers};
-ghost use Rattle.fdb_audit.specs.Following.{lines_taken, listed, told_text, total_of};
-ghost use Rattle.fdb_audit.specs.Text.{fault_of, line};
-ghost use Rattle.fdb_audit.specs.private.{shown_in};
-ghost use Rattle.fdb_audit.specs.private.Followed.{arguments_of, counted_of, members_of};
-ghost use Rattle.fdb_audit.specs.private.Followed.{AreNumbered, TellsOn};
+ghost use Rattle.fdb_log_reader.specs.Printed.{printed};
+ghost use Rattle.fdb_audit.specs.Following.{keys_taken, lines_taken, told_text, total_head};
+ghost use Rattle.fdb_audit.specs.Following.{IsEnd, KeptNumbers};
+ghost use Rattle.fdb_audit.specs.Text.{fault_of};
+ghost use Rattle.fdb_audit.specs.private.{members_of, shown_in};
+ghost use Rattle.fdb_audit.specs.private.Followed.{counted_of, told_with, AreNumbered, CountsOn};
+ghost use Rattle.fdb_audit.specs.private.Followed.{HasCounted, HasTotals, HasTotalsIn};
+ghost use Rattle.fdb_audit.specs.private.Followed.{IsSameTeller, TellsOn};
 
 use crate::arguments::AuditArguments;
-use crate::beside::MemberBeside;
-use crate::counts::Counts;
+use crate::beside::Column;
 use crate::fault::LogFault;
+use crate::figures::{Figure, push_line, push_total_object};
 use crate::judged::Wanted;
-use crate::object::push_truth;
 use crate::printer::Printer;
 use crate::taking::Taking;
-use crate::told_faults::{Column, ToldFaults};
+use crate::told_faults::ToldFaults;
 use fdb_lines::{Finding, SettledKey};
-use fdb_log_reader::{LineReader, Names, printed_name};
+use fdb_log_reader::{LineReader, printed_name};
 use std::alloc::{AllocError, Global};
-use std::fmt::Write;
 use std::mem::replace;
 
 /// What is told of a log that is followed, and what it takes to print it.
@@ -57,11 +61,13 @@ impl Teller {
         ensures text { IfOk result (λ teller. string_bytes teller.text ≡ []) }
         ensures first { IfOk result (λ teller. teller.first ≡ None) }
         ensures wanted { IfOk result (λ teller. teller.wanted ≡ asked.now.wanted) }
+        ensures margin { IfOk result (λ teller. teller.margin ≡ asked.now.opts.margin) }
+        ensures key { IfOk result (λ teller. is_some teller.key ≡ is_some asked.now.key) }
+        ensures totals { IfOk result (λ teller. HasTotals
+            (option_to_list (option_map (λ name. printed (string_bytes name)) asked.now.key)
+            ++ map string_bytes members.now) teller [] []) }
     {
-        let key = match &asked.key {
-            Some(key) => Some(printed_name(alloc, key)?),
-            None => None,
-        };
+        let key = key_name(alloc, asked)?;
         let told = if asked.wanted.totals {
             Some(ToldFaults::new(alloc, key.as_deref(), members)?)
         } else {
@@ -89,7 +95,8 @@ impl Teller {
             → (to : Option ℕ) → (parts : List KeyPart) → (margin : ℕ)
             → AreNumbered kept taking.now read → All (λ part. part.watch.margin ≡ margin) parts
             → AreTold to (lines_taken read) (keys_taken read) parts told.now
-            → TellsOn kept self.old self.new margin read (line_names reader.now).clients) }
+            → TellsOn kept self.old self.new margin read (line_names reader.now).clients
+            (told_by_all told.now)) }
     {
         for entry in told {
             if !entry.settled.found.is_empty() {
@@ -111,16 +118,15 @@ impl Teller {
             → (to : Option ℕ) → (part : KeyPart) → (margin : ℕ)
             → AreNumbered kept taking.now read → (part.watch.margin ≡ margin)
             → IsToldOf to (lines_taken read) (keys_taken read) entry.now part
-            → TellsOn kept self.old self.new margin read (line_names reader.now).clients) }
+            → TellsOn kept self.old self.new margin read (line_names reader.now).clients
+            (told_by entry.now)) }
     {
         let settled = &entry.settled;
         let names = reader.names().printed(alloc)?;
         let numbers = taking.numbering.numbers(alloc, settled)?;
-        let keys = keys_of(alloc, entry)?;
-        let texts = taking.rows.numbers(alloc, settled)?;
         let mut beside = Vec::new(alloc);
-        self.add_key(alloc, reader, entry.key, &keys, &mut beside)?;
-        taking.rows.add_beside(alloc, settled, &texts, &mut beside)?;
+        self.add_key(alloc, reader, entry, &mut beside)?;
+        taking.rows.add_beside(alloc, settled, &mut beside)?;
         let printer = Printer {
             log: &settled.log,
             names: &names,
@@ -132,21 +138,29 @@ impl Teller {
     }
 
     /// Adds a key as it is printed beside its lines, if keys are kept.
-    fn add_key<'x>(
+    fn add_key(
         &self,
         alloc: Global,
         reader: &LineReader,
-        key: Option<u32>,
-        numbers: &'x [Option<u32>],
-        beside: &mut Vec<MemberBeside<'x>>,
+        entry: &SettledKey,
+        beside: &mut Vec<Column>,
     ) -> Result<(), AllocError> {
-        if let Some(member) = &self.key {
-            beside.push(MemberBeside {
-                member: String::from_str(alloc, member)?,
-                texts: key_text(alloc, reader.key_names(), key)?,
-                numbers,
-            })?;
+        let Some(member) = &self.key else {
+            return Ok(());
+        };
+        let name = match reader.key_names().zip(entry.key) {
+            Some((names, key)) => names.name(key),
+            None => None,
+        };
+        let text = match name {
+            Some(name) => Some(printed_name(alloc, name)?),
+            None => None,
+        };
+        let mut column = Column::new(alloc, member)?;
+        for _ in &entry.settled.numbers {
+            column.add(alloc, text.as_deref())?;
         }
+        beside.push(column)?;
         Ok(())
     }
 
@@ -162,31 +176,20 @@ impl Teller {
         ensures first { OnOk result (self.new.first ≡ option_or self.old.first (option_map
             (λ finding. fault_of (shown_in printer.entry).numbers (found_of finding))
             (slice_get found.now 0))) }
-        ensures wanted { self.new.wanted ≡ self.old.wanted }
+        ensures counts { OnOk result (CountsOn self.old self.new
+            (map (λ finding. line_at (shown_in printer.entry).lines finding.found.line) found.now)
+            (map (λ finding. finding.found.fault) found.now)) }
+        ensures same { IsSameTeller self.old self.new }
     {
         if self.wanted.all || !self.wanted.totals {
             printer.push_list(&mut self.text, self.wanted.json, found)?;
         }
-        self.note_first(printer, found);
-        count(alloc, &mut self.told, printer, found)
-    }
-
-    /// Notes the first fault that was found.
-    fn note_first(&mut self, printer: Printer<'_>, found: &[Finding])
-        ensures first { self.new.first ≡ option_or self.old.first (option_map
-            (λ finding. fault_of (shown_in printer.entry).numbers (found_of finding))
-            (slice_get found.now 0)) }
-        ensures text { self.new.text ≡ self.old.text }
-        ensures wanted { self.new.wanted ≡ self.old.wanted }
-    {
         if self.first.is_none()
             && let Some(finding) = found.first()
         {
-            self.first = Some(LogFault {
-                fault: finding.found.fault,
-                number: printer.number(finding.found.line),
-            });
+            self.first = Some(printer.fault(finding.found));
         }
+        count(alloc, &mut self.told, printer, found)
     }
 
     /// Says that no fault was found, or how many were, where totals are wanted.
@@ -197,18 +200,23 @@ impl Teller {
         taking: &Taking,
         behind: u64,
     ) -> Result<(), AllocError>
-        ensures text { OnOk result ((more : List ℕ)
-            × (string_bytes self.new.text ≡ string_bytes self.old.text ++ more)) }
+        ensures text { OnOk result ((members : List (List ℕ)) → (lines : List Line)
+            → (kinds : List Fault) → HasTotals members self.old lines kinds → (end : List ℕ)
+            × IsEnd (not (is_some self.old.first) && not self.old.wanted.json)
+            self.old.wanted.totals self.old.wanted.json (counted_of taking.now)
+            (told_with behind self.old members) (map printed (line_names reader.now).clients)
+            lines kinds end
+            × (string_bytes self.new.text ≡ string_bytes self.old.text ++ end)) }
         ensures first { self.new.first ≡ self.old.first }
-        ensures wanted { self.new.wanted ≡ self.old.wanted }
     {
         if self.first.is_none() && !self.wanted.json {
-            return push_line(&mut self.text, "audit ok", taking);
+            let figures = taking.counts.figures(taking.numbering.count());
+            return push_line(&mut self.text, "audit ok", &figures);
         }
         let Some(told) = replace(&mut self.told, None) else {
             return Ok(());
         };
-        self.push_head(taking, behind, told.columns())?;
+        self.push_head(taking, behind, &told.columns)?;
         let names = reader.names().printed(alloc)?;
         told.push(alloc, &mut self.text, self.wanted.json, &names)?;
         Ok(())
@@ -221,123 +229,35 @@ impl Teller {
         behind: u64,
         columns: &[Column],
     ) -> Result<(), AllocError>
-        ensures text { OnOk result ((more : List ℕ)
-            × (string_bytes self.new.text ≡ string_bytes self.old.text ++ more)) }
+        ensures text { OnOk result (string_bytes self.new.text ≡ string_bytes self.old.text
+            ++ total_head self.old.wanted.json (counted_of taking.now)
+            (told_with behind self.old (members_of columns.now))) }
         ensures first { self.new.first ≡ self.old.first }
         ensures wanted { self.new.wanted ≡ self.old.wanted }
     {
+        let figures = taking.counts.figures(taking.numbering.count());
         if self.wanted.json {
-            let asked = ToldArguments {
-                behind,
-                margin: self.margin,
-                by_key: self.key.is_some(),
-                columns,
-            };
-            push_total_object(&mut self.text, taking, asked)
+            let arguments = [
+                Figure("follow", Some(behind)),
+                Figure("margin", Some(self.margin)),
+            ];
+            let by_key = self.key.is_some();
+            push_total_object(&mut self.text, &figures, &arguments, by_key, columns)
         } else {
-            push_line(&mut self.text, "audit total", taking)
+            push_line(&mut self.text, "audit total", &figures)
         }
     }
 }
 
-/// By which arguments a log is followed.
-#[derive(Clone, Copy)]
-struct ToldArguments<'a> {
-    behind: u64,
-    margin: u64,
-    by_key: bool,
-    columns: &'a [Column],
-}
-
-/// Writes a line of words in front of how much was read.
-fn push_line(out: &mut String, words: &str, taking: &Taking) -> Result<(), AllocError>
-    ensures { OnOk result (string_bytes out.new ≡ string_bytes out.old
-        ++ line (words.now ++ counted_words (counted_of taking.now))) }
+/// The member that has the keys, as its name is printed, if they are kept.
+fn key_name(alloc: Global, asked: &AuditArguments) -> Result<Option<String>, AllocError>
+    ensures { IfOk result (λ key. option_map string_bytes key
+        ≡ option_map (λ name. printed (string_bytes name)) asked.now.key) }
 {
-    write!(out, "{words}")?;
-    taking.counts.push_words(out, taking.numbering.count())?;
-    writeln!(out)
-}
-
-/// Writes how much was read, and by which arguments, as a JSON object.
-fn push_total_object(
-    out: &mut String,
-    taking: &Taking,
-    asked: ToldArguments<'_>,
-) -> Result<(), AllocError>
-    ensures { OnOk result (string_bytes out.new ≡ string_bytes out.old
-        ++ line (total_of (counted_of taking.now) (arguments_of asked.entry))) }
-{
-    push_total(out, taking, asked)?;
-    writeln!(out)
-}
-
-fn push_total(out: &mut String, taking: &Taking, asked: ToldArguments<'_>) -> Result<(), AllocError>
-    ensures { OnOk result (string_bytes out.new ≡ string_bytes out.old
-        ++ total_of (counted_of taking.now) (arguments_of asked.entry)) }
-{
-    write!(out, "{{\"total\":")?;
-    taking.counts.push_object(out, taking.numbering.count())?;
-    push_arguments_member(out, asked)
-}
-
-fn push_arguments_member(out: &mut String, asked: ToldArguments<'_>) -> Result<(), AllocError>
-    ensures { OnOk result (string_bytes out.new ≡ string_bytes out.old
-        ++ arguments_member (arguments_of asked.entry)) }
-{
-    write!(out, ",\"arguments\":")?;
-    push_arguments(out, asked)?;
-    write!(out, "}}")
-}
-
-/// Writes the arguments, as a JSON object.
-fn push_arguments(out: &mut String, asked: ToldArguments<'_>) -> Result<(), AllocError>
-    ensures { OnOk result (string_bytes out.new ≡ string_bytes out.old
-        ++ followed_object (arguments_of asked.entry)) }
-{
-    let (behind, margin) = (asked.behind, asked.margin);
-    write!(out, "{{\"follow\":{behind},\"margin\":{margin},\"by_key\":")?;
-    push_truth(out, asked.by_key)?;
-    write!(out, ",\"members\":[")?;
-    push_members(out, asked.columns)?;
-    write!(out, "]}}")
-}
-
-/// Writes the names of the members that are printed beside lines, with commas between them.
-fn push_members(out: &mut String, columns: &[Column]) -> Result<(), AllocError>
-    ensures { OnOk result
-        (string_bytes out.new ≡ string_bytes out.old ++ listed (members_of columns.now)) }
-{
-    let Some((first, more)) = columns.split_first() else {
-        return Ok(());
-    };
-    write!(out, "{}", first.member())?;
-    for column in more {
-        write!(out, ",{}", column.member())?;
+    match &asked.key {
+        Some(key) => Ok(Some(printed_name(alloc, key)?)),
+        None => Ok(None),
     }
-    Ok(())
-}
-
-/// For each line that a watch of a key had kept that it has the one text, if the key has a name.
-fn keys_of(alloc: Global, entry: &SettledKey) -> Result<Vec<Option<u32>>, AllocError> {
-    let mut keys = Vec::new(alloc);
-    keys.resize(entry.settled.numbers.len(), entry.key.map(|_| 0))?;
-    Ok(keys)
-}
-
-/// The name of a key, as it is printed; none where it has none.
-fn key_text(
-    alloc: Global,
-    names: Option<&Names>,
-    key: Option<u32>,
-) -> Result<Vec<String>, AllocError> {
-    let mut texts = Vec::new(alloc);
-    if let (Some(names), Some(key)) = (names, key)
-        && let Some(name) = names.name(key)
-    {
-        texts.push(printed_name(alloc, name)?)?;
-    }
-    Ok(texts)
 }
 
 /// Counts faults that are told, where totals are wanted.
@@ -346,12 +266,35 @@ fn count(
     told: &mut Option<ToldFaults>,
     printer: Printer<'_>,
     found: &[Finding],
-) -> Result<(), AllocError> {
-    let Some(told) = told else {
-        return Ok(());
-    };
+) -> Result<(), AllocError>
+    ensures { OnOk result ((totals : Bool) → (members : List (List ℕ)) → (lines : List Line)
+        → (kinds : List Fault)
+        → HasTotalsIn totals members told.old lines kinds → HasTotalsIn totals members told.new
+        (lines
+        ++ map (λ finding. line_at (shown_in printer.entry).lines finding.found.line) found.now)
+        (kinds ++ map (λ finding. finding.found.fault) found.now)) }
+{
+    match told {
+        Some(told) => count_in(alloc, told, printer, found),
+        None => Ok(()),
+    }
+}
+
+fn count_in(
+    alloc: Global,
+    told: &mut ToldFaults,
+    printer: Printer<'_>,
+    found: &[Finding],
+) -> Result<(), AllocError>
+    ensures { OnOk result ((members : List (List ℕ)) → (lines : List Line)
+        → (kinds : List Fault) → HasCounted members told.old lines kinds
+        → HasCounted members told.new
+        (lines
+        ++ map (λ finding. line_at (shown_in printer.entry).lines finding.found.line) found.now)
+        (kinds ++ map (λ finding. finding.found.fault) found.now)) }
+{
     for finding in found {
-        told.add(alloc, printer, finding.found.fault, finding.found.line)?;
+        told.add(alloc, printer, finding.found)?;
     }
     Ok(())
 }

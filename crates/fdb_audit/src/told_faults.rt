@@ -1,76 +1,27 @@
 //! The faults that a watch has told, as they are counted in totals.
 
-ghost use Rattle.std.specs.Prelude.{◌≡◌, ◌++◌, ℕ, List, OnOk, string_bytes};
-ghost use Rattle.fdb_audit.specs.Groups.{groupings, AreMostOfEach};
-ghost use Rattle.fdb_audit.specs.Text.{line};
-ghost use Rattle.fdb_audit.specs.Totals.{faults_line};
-ghost use Rattle.fdb_audit.specs.private.{shown_in};
+ghost use Rattle.std.specs.Prelude.{◌≡◌, ◌++◌, ◌∷◌, ℕ, [], IfOk, List, OnOk, map, option_map};
+ghost use Rattle.std.specs.Prelude.{option_to_list, string_bytes};
+ghost use Rattle.fdb_lines.specs.declared.fault.Fault.{Fault};
+ghost use Rattle.fdb_lines.specs.declared.line.Line.{Line};
+ghost use Rattle.fdb_lines.specs.Lines.{line_at};
+ghost use Rattle.fdb_audit.specs.Following.{AreTotals};
+ghost use Rattle.fdb_audit.specs.private.{members_of, shown_in};
+ghost use Rattle.fdb_audit.specs.private.Followed.{HasCounted};
 
-use crate::beside::MemberBeside;
-use crate::grouped::push_most_of_each;
+use crate::beside::Column;
+use crate::grouped::push_totals;
 use crate::printer::Printer;
-use crate::totals::push_faults;
-use fdb_lines::{Fault, Finding, Found, Log, Reason};
+use fdb_lines::{Found, Log};
 use std::alloc::{AllocError, Global};
-use std::collections::BTreeMap;
 
 /// The faults that were told: of each the line, what is printed beside it, and the kind.
 #[derive(Drop)]
 pub(crate) struct ToldFaults {
     log: Log,
-    found: Vec<Finding>,
-    columns: Vec<Column>,
-}
-
-/// What is printed of a member beside the lines of faults: each text once, and each fault's.
-#[derive(Drop)]
-pub(crate) struct Column {
-    member: String,
-    texts: Vec<String>,
-    places: BTreeMap<String, u32>,
-    numbers: Vec<Option<u32>>,
-}
-
-impl Column {
-    /// Of no fault.
-    fn new(alloc: Global, member: &str) -> Result<Self, AllocError> {
-        Ok(Column {
-            member: String::from_str(alloc, member)?,
-            texts: Vec::new(alloc),
-            places: BTreeMap::new(alloc),
-            numbers: Vec::new(alloc),
-        })
-    }
-
-    /// The name of the member, as it is printed.
-    pub(crate) fn member(&self) -> &str
-        ensures { result.now ≡ string_bytes self.now.member }
-    {
-        &self.member
-    }
-
-    /// Adds the text of the next fault, if it has one.
-    fn add(&mut self, alloc: Global, text: Option<&str>) -> Result<(), AllocError> {
-        let number = match text {
-            Some(text) => Some(self.number(alloc, text)?),
-            None => None,
-        };
-        self.numbers.push(number)?;
-        Ok(())
-    }
-
-    /// The number of a text, which is added unless it is there.
-    fn number(&mut self, alloc: Global, text: &str) -> Result<u32, AllocError> {
-        if let Some(number) = self.places.get(text) {
-            return Ok(*number);
-        }
-        let Ok(number) = u32::try_from(self.texts.len()) else {
-            return Err(AllocError);
-        };
-        self.texts.push(String::from_str(alloc, text)?)?;
-        self.places.insert(String::from_str(alloc, text)?, number)?;
-        Ok(number)
-    }
+    found: Vec<Found>,
+    /// What is printed beside the lines of the faults.
+    pub(crate) columns: Vec<Column>,
 }
 
 impl ToldFaults {
@@ -79,11 +30,12 @@ impl ToldFaults {
         alloc: Global,
         key: Option<&str>,
         members: &[String],
-    ) -> Result<Self, AllocError> {
-        let mut columns = Vec::new(alloc);
-        if let Some(member) = key {
-            columns.push(Column::new(alloc, member)?)?;
-        }
+    ) -> Result<Self, AllocError>
+        ensures { IfOk result (λ faults. HasCounted
+            (option_to_list (option_map (λ key. key.now) key.entry)
+            ++ map string_bytes members.now) faults [] []) }
+    {
+        let mut columns = key_columns(alloc, key)?;
         for member in members {
             columns.push(Column::new(alloc, member)?)?;
         }
@@ -94,33 +46,30 @@ impl ToldFaults {
         })
     }
 
-    /// What is printed beside the lines of the faults.
-    pub(crate) fn columns(&self) -> &[Column] {
-        &self.columns
-    }
-
     /// Adds a fault that is told of the lines.
     pub(crate) fn add(
         &mut self,
         alloc: Global,
         printer: Printer<'_>,
-        fault: Fault,
-        place: u32,
-    ) -> Result<(), AllocError> {
+        found: Found,
+    ) -> Result<(), AllocError>
+        ensures { OnOk result ((members : List (List ℕ)) → (lines : List Line)
+            → (kinds : List Fault) → HasCounted members self.old lines kinds
+            → HasCounted members self.new
+            (lines ++ line_at (shown_in printer.entry).lines found.line ∷ [])
+            (kinds ++ found.fault ∷ [])) }
+    {
         let Ok(line) = u32::try_from(self.log.lines().len()) else {
             return Err(AllocError);
         };
-        if self.log.push(printer.line(place)).is_err() {
+        if self.log.push(printer.line(found.line)).is_err() {
             return Err(AllocError);
         }
-        self.found.push(Finding {
-            found: Found { fault, line },
-            reason: Reason::Unreported,
-            late: None,
+        self.found.push(Found {
+            line,
+            fault: found.fault,
         })?;
-        for (column, member) in self.columns.iter_mut().zip(printer.beside) {
-            column.add(alloc, member.text(place))?;
-        }
+        add_texts(alloc, &mut self.columns, printer.beside, found.line)?;
         Ok(())
     }
 
@@ -132,45 +81,47 @@ impl ToldFaults {
         json: bool,
         names: &[String],
     ) -> Result<(), AllocError>
-        ensures { OnOk result ((more : List ℕ) × (string_bytes out.new ≡ string_bytes out.old ++ more)) }
+        ensures { OnOk result ((members : List (List ℕ)) → (lines : List Line)
+            → (kinds : List Fault) → HasCounted members self lines kinds → (totals : List ℕ)
+            × AreTotals json (map string_bytes names.now) lines kinds totals
+            × (string_bytes out.new ≡ string_bytes out.old ++ totals)) }
     {
-        let (mut numbers, mut texts) = (Vec::new(alloc), Vec::new(alloc));
-        for column in self.columns {
-            numbers.push(column.numbers)?;
-            texts.push((column.member, column.texts))?;
-        }
-        let mut beside = Vec::new(alloc);
-        for (numbers, (member, texts)) in numbers.iter().zip(texts) {
-            beside.push(MemberBeside {
-                member,
-                texts,
-                numbers,
-            })?;
-        }
         let printer = Printer {
             log: &self.log,
             names,
             numbers: &[],
-            beside: &beside,
+            beside: &self.columns,
         };
         push_totals(alloc, out, json, printer, &self.found)?;
         Ok(())
     }
 }
 
-/// Writes how many faults of the lines there are, in all, of each kind, and of the groups with most.
-fn push_totals(
-    alloc: Global,
-    out: &mut String,
-    json: bool,
-    printer: Printer<'_>,
-    found: &[Finding],
-) -> Result<(), AllocError>
-    ensures { OnOk result ((groups : List ℕ)
-        × AreMostOfEach json (groupings (shown_in printer.entry)) found.now groups
-        × (string_bytes out.new
-        ≡ string_bytes out.old ++ line (faults_line json found.now) ++ groups)) }
+/// The column of the member that has the keys, if they are kept.
+fn key_columns(alloc: Global, key: Option<&str>) -> Result<Vec<Column>, AllocError>
+    ensures { IfOk result (λ columns. members_of columns.items
+        ≡ option_to_list (option_map (λ key. key.now) key.entry)) }
 {
-    push_faults(out, json, found)?;
-    push_most_of_each(alloc, out, json, printer, found)
+    let mut columns = Vec::new(alloc);
+    if let Some(member) = key {
+        columns.push(Column::new(alloc, member)?)?;
+    }
+    Ok(columns)
+}
+
+/// Adds what is printed beside the line at a place.
+fn add_texts(
+    alloc: Global,
+    columns: &mut [Column],
+    beside: &[Column],
+    place: u32,
+) -> Result<(), AllocError>
+    ensures { OnOk result (members_of columns.new ≡ members_of columns.old) }
+{
+    for column in 0..columns.len() {
+        if let Some(member) = beside.get(column) {
+            columns[column].add(alloc, member.text(place))?;
+        }
+    }
+    Ok(())
 }

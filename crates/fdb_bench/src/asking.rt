@@ -1,10 +1,9 @@
 //! Requests for commit versions by one thread, in the names of several commit proxies.
 
-use crate::measuring::{Checksum, Draws, Job, Measured, Stopwatch};
+use crate::measuring::{Checksum, Draws, Job, Measured};
 use anyhow::Result;
 use fdb_chain::RecentChain;
 use fdb_history::{Ask, Record};
-use std::alloc::Global;
 use std::time::CpuClock;
 
 /// The most commit proxies that a chain may have.
@@ -20,73 +19,61 @@ pub(crate) const START: Record = Record {
     min_known: 0,
 };
 
-/// A chain that nobody has asked yet, with so many commit proxies.
-fn empty_chain(alloc: Global, proxies: u32) -> Result<RecentChain> {
-    Ok(RecentChain::new(alloc, 0, START.version, proxies)?)
+/// Which numbers proxies ask for, each in its turn.
+#[derive(Clone, Copy)]
+pub(crate) enum Numbers {
+    /// The next one, and no answer is processed.
+    Next,
+    /// The next one, and each answer is processed at once.
+    Processed,
+    /// Without a pattern one of those that were asked for before.
+    Repeated,
 }
 
-/// Fresh requests by so many proxies in turn, which process each answer at once or none.
-pub(crate) fn fresh(
+/// Requests for such numbers by so many proxies in turn. Where numbers are repeated, each
+/// proxy has its share of as many answers.
+pub(crate) fn asks(
     clock: &impl CpuClock,
     job: Job,
     proxies: u32,
-    processes: bool,
+    numbers: Numbers,
 ) -> Result<Measured> {
-    let mut chain = empty_chain(job.alloc, proxies)?;
-    let watch = Stopwatch::start(clock)?;
-    let checksum = ask_fresh(&mut chain, job.size, proxies, processes)?;
-    watch.measured(clock, u64::from(job.size), checksum)
+    let mut chain = RecentChain::new(job.alloc, 0, START.version, proxies)?;
+    let mut checksum = Checksum::EMPTY;
+    if let Numbers::Repeated = numbers {
+        ask_each(&mut chain, job.size, proxies, Numbers::Next, &mut checksum)?;
+    }
+    let begun = clock.process_cpu_time()?;
+    ask_each(&mut chain, job.size, proxies, numbers, &mut checksum)?;
+    Measured::since(clock, begun, u64::from(job.size), checksum)
 }
 
-fn ask_fresh(
+/// Asks so often, each time three microseconds after the time before, and adds the answers.
+fn ask_each(
     chain: &mut RecentChain,
     size: u32,
     proxies: u32,
-    processes: bool,
-) -> Result<Checksum> {
-    let proxies = proxies.max(1);
-    let mut checksum = Checksum::EMPTY;
-    for place in 0..size {
-        let before = place / proxies;
-        let processed = if processes { before } else { 0 };
-        let who = place % proxies;
-        ask(chain, &mut checksum, place, who, before, processed)?;
-    }
-    Ok(checksum)
-}
-
-/// Repeats of numbers without a pattern, of a chain in which
-/// each of many proxies has its share of as many answers.
-pub(crate) fn repeats(clock: &impl CpuClock, job: Job) -> Result<Measured> {
-    let mut chain = empty_chain(job.alloc, MANY)?;
-    let mut checksum = ask_fresh(&mut chain, job.size, MANY, false)?;
-    let mut draws = Draws::START;
-    let share = (job.size / MANY).max(1);
-    let watch = Stopwatch::start(clock)?;
-    for place in 0..job.size {
-        let before = draws.next_number() % share;
-        ask(&mut chain, &mut checksum, place, place % MANY, before, 0)?;
-    }
-    watch.measured(clock, u64::from(job.size), checksum)
-}
-
-/// Asks for the number that comes after so many of the proxy, three microseconds
-/// after the place before, and adds the answer.
-fn ask(
-    chain: &mut RecentChain,
+    numbers: Numbers,
     checksum: &mut Checksum,
-    place: u32,
-    proxy: u32,
-    before: u32,
-    processed: u32,
 ) -> Result<()> {
-    let issued = chain.ask(Ask {
-        proxy,
-        num: u64::from(before) + 1,
-        processed: u64::from(processed),
-        at: u64::from(place) * 3,
-    })?;
-    let word = issued.version.wrapping_mul(3).wrapping_add(issued.prev);
-    checksum.add(word.wrapping_add(u64::from(issued.fresh)));
+    let proxies = proxies.max(1);
+    let share = (size / proxies).max(1);
+    let mut draws = Draws::START;
+    for place in 0..size {
+        let turn = place / proxies;
+        let (before, processed) = match numbers {
+            Numbers::Next => (turn, 0),
+            Numbers::Processed => (turn, turn),
+            Numbers::Repeated => (draws.next_number() % share, 0),
+        };
+        let issued = chain.ask(Ask {
+            proxy: place % proxies,
+            num: u64::from(before) + 1,
+            processed: u64::from(processed),
+            at: u64::from(place) * 3,
+        })?;
+        let word = issued.version.wrapping_mul(3).wrapping_add(issued.prev);
+        checksum.add(word.wrapping_add(u64::from(issued.fresh)));
+    }
     Ok(())
 }

@@ -2,64 +2,48 @@
 
 use crate::asking::{MANY, START};
 use crate::batching::plain_read;
-use crate::measuring::{Checksum, Job, Measured, Stopwatch};
+use crate::measuring::{Checksum, Job, Measured};
 use anyhow::{Result, ensure};
 use fdb_chain::ChainCore;
-use fdb_history::{
-    Ask, Call, CallAnswer, ClientLog, Event, Input, Issued, Record, Sequence, audit,
-};
+use fdb_history::{Ask, Call, CallAnswer, ClientLog, Event, Input, Record, Sequence, audit};
 use std::alloc::Global;
 use std::time::CpuClock;
 
 /// How many times the same logs are audited.
 const AUDITS: u32 = 10;
 
-/// Audits the logs of many clients with so many calls in all, a few times.
+/// Audits the logs of many clients with so many calls in all, a few times, and adds each event of
+/// the history: client, call and version, and whether it raised the record.
 pub(crate) fn audits(clock: &impl CpuClock, job: Job) -> Result<Measured> {
     let mut chain = ChainCore::new(job.alloc, 0, START.version, MANY)?;
     let logs = played(job, &mut chain)?;
-    let mut checksum = Checksum::EMPTY;
-    let watch = Stopwatch::start(clock)?;
-    for _ in 0..AUDITS {
-        audit_once(job.alloc, chain.answers(), logs.as_slice(), &mut checksum)?;
-    }
-    let operations = u64::from(job.size / 3) * u64::from(3 * AUDITS);
-    watch.measured(clock, operations, checksum)
-}
-
-/// Audits the logs, and adds each event of the history.
-fn audit_once(
-    alloc: Global,
-    chain: &[Issued],
-    logs: &[ClientLog],
-    checksum: &mut Checksum,
-) -> Result<()> {
     ensure!(logs.len() <= 64, "there are more than 64 logs");
     let opening = Record {
         version: 0,
         ..START
     };
-    let history = audit(alloc, opening, chain, logs)?;
-    for event in history.events.as_slice() {
-        checksum.add(event_word(event));
+    let mut checksum = Checksum::EMPTY;
+    let begun = clock.process_cpu_time()?;
+    for _ in 0..AUDITS {
+        let history = audit(job.alloc, opening, chain.answers(), logs.as_slice())?;
+        for event in history.events.as_slice() {
+            let (client, call, rec, raised) = match event {
+                Event::Report {
+                    client,
+                    call,
+                    rec,
+                    raised,
+                    ..
+                } => (*client, *call, rec, *raised),
+                Event::Read { client, call, rec } => (*client, *call, rec, false),
+            };
+            let word = rec.version.wrapping_mul(31).wrapping_add(call);
+            let word = word.wrapping_mul(31).wrapping_add(u64::from(client));
+            checksum.add(word ^ u64::from(raised));
+        }
     }
-    Ok(())
-}
-
-/// What is added of an event: client, call and version, and whether it raised the record.
-fn event_word(event: &Event) -> u64 {
-    let (client, call, rec, raised) = match event {
-        Event::Report {
-            client,
-            call,
-            rec,
-            raised,
-            ..
-        } => (*client, *call, rec, *raised),
-        Event::Read { client, call, rec } => (*client, *call, rec, false),
-    };
-    let word = rec.version.wrapping_mul(31).wrapping_add(call);
-    word.wrapping_mul(31).wrapping_add(u64::from(client)) ^ u64::from(raised)
+    let operations = u64::from(job.size / 3) * u64::from(3 * AUDITS);
+    Measured::since(clock, begun, operations, checksum)
 }
 
 /// The logs of a run with so many calls, whole turns of three.
@@ -80,6 +64,7 @@ fn played(job: Job, chain: &mut ChainCore) -> Result<Vec<ClientLog>> {
 
 /// A client's turn: it asks for a commit version, keeping its last eight
 /// answers, reports the version, which raises the record, and reads it.
+/// Each call is asked at the position that the client's log had come to.
 fn play(alloc: Global, chain: &mut ChainCore, turn: u32, log: &mut ClientLog) -> Result<()> {
     let (proxy, num) = (turn % MANY, u64::from(turn / MANY) + 1);
     let (before, processed) = (u64::from(turn), num.saturating_sub(8));
@@ -94,8 +79,6 @@ fn play(alloc: Global, chain: &mut ChainCore, turn: u32, log: &mut ClientLog) ->
         version: issued.version,
         ..START
     };
-    let ask = Input::Ask { num, processed, at };
-    add(log, before, ask, CallAnswer::Answered(issued))?;
     let report = Input::Report {
         num,
         locked: false,
@@ -107,23 +90,25 @@ fn play(alloc: Global, chain: &mut ChainCore, turn: u32, log: &mut ClientLog) ->
         raised: true,
         changed: true,
     };
-    add(log, before + 1, report, acked)?;
     let found = CallAnswer::Version {
         rec,
         limits: Sequence::new(alloc),
         locked_out: false,
     };
-    add(log, before + 1, Input::Grv(plain_read(alloc)), found)
-}
-
-/// Adds a call that was answered at a position, and asked at the one that the log had come to.
-fn add(log: &mut ClientLog, position: u64, input: Input, answer: CallAnswer) -> Result<()> {
-    let asked = log.calls.as_slice().last().map_or(0, |last| last.position);
-    log.calls.push(Call {
-        input,
-        asked,
-        position,
-        answer,
-    })?;
+    let ask = Input::Ask { num, processed, at };
+    let calls = [
+        (before, ask, CallAnswer::Answered(issued)),
+        (before + 1, report, acked),
+        (before + 1, Input::Grv(plain_read(alloc)), found),
+    ];
+    for (position, input, answer) in calls {
+        let asked = log.calls.as_slice().last().map_or(0, |last| last.position);
+        log.calls.push(Call {
+            input,
+            asked,
+            position,
+            answer,
+        })?;
+    }
     Ok(())
 }

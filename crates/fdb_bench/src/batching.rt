@@ -1,12 +1,13 @@
 //! Batches of requests for a read version, each served with one read.
 
-use crate::measuring::{Checksum, Job, Measured, Stopwatch};
+use crate::measuring::{Checksum, Job, Measured};
+use crate::queueing::empty_queue;
 use anyhow::{Result, anyhow};
 use crossbeam_channel::{Receiver, bounded};
 use fdb_history::{GrvOpts, Priority, Sequence};
 use fdb_live::{Live, LiveRecord, Seen};
-use fdb_proxy::{Addressed, Answer, Reply, Request, serve_batch};
-use fdb_queue::{GrvQueue, QueueConfig, Req};
+use fdb_proxy::{Addressed, Answer, Request, serve_batch};
+use fdb_queue::Req;
 use std::alloc::Global;
 use std::sync::Wait;
 use std::time::CpuClock;
@@ -15,7 +16,7 @@ use std::time::CpuClock;
 const REQUESTS: u32 = 20_000;
 
 /// The rates and the room of the queue, the greatest that it may have.
-const MOST: u64 = 100_000;
+const MOST: u32 = 100_000;
 
 /// A default request for one transaction.
 pub(crate) fn plain_read(alloc: Global) -> GrvOpts {
@@ -29,24 +30,8 @@ pub(crate) fn plain_read(alloc: Global) -> GrvOpts {
     }
 }
 
-/// A queue in which nobody waits for long.
-fn queue<J: Live>(alloc: Global) -> Result<GrvQueue<Request<J>>> {
-    let config = QueueConfig {
-        normal: MOST,
-        batch: MOST,
-        room: MOST,
-    };
-    Ok(GrvQueue::new(alloc, config)?)
-}
-
-/// What is added of a reply: version, position and serial.
-fn reply_word<J: Live>(reply: &Reply<J>) -> u64 {
-    let position = reply.position.wrapping_mul(31);
-    let word = reply.rec.version.wrapping_add(position);
-    word.wrapping_add(reply.serial.wrapping_mul(3))
-}
-
-/// Serves batches of so many requests each, which were made before.
+/// Serves batches of so many requests each, which were made before, and adds the replies: version,
+/// position and serial.
 pub(crate) fn batches<J: Live, R: CpuClock + Wait>(
     rt: &R,
     job: Job,
@@ -54,21 +39,26 @@ pub(crate) fn batches<J: Live, R: CpuClock + Wait>(
     seen: &mut Seen<J>,
 ) -> Result<Measured> {
     let times = (REQUESTS / job.size.max(1)).max(1);
-    let queue = queue(job.alloc)?;
+    let queue = empty_queue(job.alloc, u64::from(MOST), u64::from(MOST), MOST)?;
     let mut waiters = Vec::new(job.alloc);
     let mut batches = Vec::new(job.alloc);
     for _ in 0..times {
         batches.push(batch(job, live, seen, &mut waiters)?)?;
     }
     let mut checksum = Checksum::EMPTY;
-    let watch = Stopwatch::start(rt)?;
+    let begun = rt.process_cpu_time()?;
     for batch in batches {
         let Ok(replies) = serve_batch(rt, job.alloc, live, seen, &queue, batch) else {
             return Err(anyhow!("out of memory"));
         };
-        add(replies.as_slice(), &mut checksum);
+        for Addressed { reply, .. } in replies.as_slice() {
+            let position = reply.position.wrapping_mul(31);
+            let word = reply.rec.version.wrapping_add(position);
+            checksum.add(word.wrapping_add(reply.serial.wrapping_mul(3)));
+        }
     }
-    watch.measured(rt, u64::from(times) * u64::from(job.size), checksum)
+    let operations = u64::from(times) * u64::from(job.size);
+    Measured::since(rt, begun, operations, checksum)
 }
 
 /// A batch of requests by the client 0, whose replies would come to the waiters.
@@ -97,10 +87,4 @@ fn batch<J: Live>(
         })?;
     }
     Ok(batch)
-}
-
-fn add<J: Live>(replies: &[Addressed<J>], checksum: &mut Checksum) {
-    for addressed in replies {
-        checksum.add(reply_word(&addressed.reply));
-    }
 }

@@ -1,5 +1,6 @@
 //! The table of the benchmarks.
 
+use crate::asking::{FEW, MANY, Numbers};
 use crate::measuring::{Job, Measured};
 use crate::serving::Load;
 use crate::{asking, auditing, committing, queueing, serving, throttling};
@@ -16,6 +17,8 @@ pub(crate) struct Benchmark {
     pub(crate) threads: u32,
     /// The greatest size at which `bench/run` measures it; the command line may ask for more.
     pub(crate) size: u32,
+    /// A size at which it takes milliseconds at most.
+    pub(crate) small: u32,
     /// What its operations are, and what the size is where it is not their number.
     pub(crate) about: &'static str,
     work: Work,
@@ -23,9 +26,7 @@ pub(crate) struct Benchmark {
 
 #[derive(Clone, Copy)]
 enum Work {
-    Fresh,
-    Repeats,
-    Processed,
+    Asks(u32, Numbers),
     Queue,
     Waits,
     Throttles,
@@ -37,16 +38,16 @@ enum Work {
 
 macro_rules! table {
     ($($name:literal, $threads:literal, $size:literal, $work:expr => $about:literal;)*) => {
-        &[$(Benchmark { name: $name, threads: $threads, size: $size, about: $about, work: $work }),*]
+        &[$(Benchmark { name: $name, threads: $threads, size: $size, small: $size / 1_000, about: $about, work: $work }),*]
     };
 }
 
 impl Benchmark {
     /// Every benchmark once, in the order in which all are run.
     pub(crate) const ALL: &'static [Benchmark] = table! {
-        "fresh", 1, 1_000_000, Work::Fresh => "fresh asks in turn by 64 proxies, which process none";
-        "repeats", 1, 1_000_000, Work::Repeats => "repeats without a pattern of as many kept answers";
-        "processed", 1, 1_000_000, Work::Processed => "fresh asks in turn by 4 proxies, which process all";
+        "fresh", 1, 1_000_000, Work::Asks(MANY, Numbers::Next) => "fresh asks in turn by 64 proxies, which process none";
+        "repeats", 1, 1_000_000, Work::Asks(MANY, Numbers::Repeated) => "repeats without a pattern of as many kept answers";
+        "processed", 1, 1_000_000, Work::Asks(FEW, Numbers::Processed) => "fresh asks in turn by 4 proxies, which process all";
         "queue", 1, 100_000, Work::Queue => "20 offers or windows for each place of the room; a tenth are windows";
         "waits", 1, 1_000_000, Work::Waits => "questions how many windows the head of the row waits";
         "throttles", 1, 10_000, Work::Throttles => "a throttle that is set for each tag, and 10 look-ups";
@@ -60,19 +61,6 @@ impl Benchmark {
         "batches", 1, 10_000, Work::Live(Load::Batches) => "20,000 requests in batches of so many, each served by one read";
     };
 
-    /// The benchmark that an argument names, if there is one.
-    pub(crate) fn of_name(name: &str) -> Option<Benchmark> {
-        Self::ALL
-            .iter()
-            .copied()
-            .find(|benchmark| benchmark.name == name)
-    }
-
-    /// A size at which it takes milliseconds at most.
-    pub(crate) fn small_size(self) -> u32 {
-        self.size / 1_000
-    }
-
     /// Runs it, and gives what it computed and took.
     pub(crate) fn run<R: Clock + CpuClock + Threads + Wait + Sync>(
         self,
@@ -80,9 +68,7 @@ impl Benchmark {
         job: Job,
     ) -> Result<Measured> {
         match self.work {
-            Work::Fresh => asking::fresh(rt, job, asking::MANY, false),
-            Work::Repeats => asking::repeats(rt, job),
-            Work::Processed => asking::fresh(rt, job, asking::FEW, true),
+            Work::Asks(proxies, numbers) => asking::asks(rt, job, proxies, numbers),
             Work::Queue => queueing::mix(rt, job),
             Work::Waits => queueing::waits(rt, job),
             Work::Throttles => throttling::throttles(rt, job),

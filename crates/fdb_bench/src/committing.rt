@@ -74,7 +74,7 @@ where
     }
     let core = RecentChain::new(job.alloc, 0, 100, job.threads)?;
     let sequencer = Sequencer::<One>::new(core);
-    let all = side_by_side(rt, job.alloc, &sequencer, askers)?;
+    let all = side_by_side(rt, &sequencer, askers)?;
     Ok(all.measured(all.sum))
 }
 
@@ -90,25 +90,14 @@ impl<J: Live + Send + Sync> Work<Master<J>> for Drawer<J> {
         let Drawer { mut token, asks } = self;
         let mut tally = Tally::EMPTY;
         for before in 0..asks {
-            draw(rt, master, &mut token, before, &mut tally)?;
+            let Some(proxy) = token.reporter() else {
+                return Err(anyhow!("the token is nobody's"));
+            };
+            let issued = master.ask(rt, &OpenGate, &mut token, after(proxy, before))?;
+            tally.add(issued.version, issued.fresh);
         }
         Ok(tally)
     }
-}
-
-fn draw<J: Live, R: Wait>(
-    rt: &R,
-    master: &Master<J>,
-    token: &mut Seen<J>,
-    before: u32,
-    tally: &mut Tally,
-) -> Result<()> {
-    let Some(proxy) = token.reporter() else {
-        return Err(anyhow!("the token is nobody's"));
-    };
-    let issued = master.ask(rt, &OpenGate, token, after(proxy, before))?;
-    tally.add(issued.version, issued.fresh);
-    Ok(())
 }
 
 /// Requests to a master, shared by the threads.
@@ -145,6 +134,6 @@ fn draw_named<J: Live + Send + Sync, R: Clock + Threads + Wait + Sync>(
     for token in tokens {
         drawers.push(Drawer { token, asks })?;
     }
-    let all = side_by_side(rt, job.alloc, &master, drawers)?;
+    let all = side_by_side(rt, &master, drawers)?;
     Ok(all.measured(all.sum))
 }

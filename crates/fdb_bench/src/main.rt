@@ -1,5 +1,5 @@
 //! Benchmarks of the crates below: `fdb_bench NAME [SIZE [THREADS]]` runs one, `fdb_bench` each at
-//! a small size, and `fdb_bench --list` lists them.
+//! a small size by as many threads as may be, and `fdb_bench --list` lists them.
 //!
 //! For each run standard output has the benchmark, its size, its threads and the checksum of what
 //! was computed, which is the same every time; and standard error the number of operations and the
@@ -30,16 +30,21 @@ use std::time::{Clock, CpuClock};
 fn main(rt: HostRuntime) -> Result<()> {
     let mut arguments = env::args(&rt)?.skip(1);
     let Some(name) = arguments.next() else {
-        return run_each(&rt, rt.alloc());
+        for benchmark in Benchmark::ALL {
+            let (size, threads) = (benchmark.small, benchmark.threads);
+            run_one(&rt, rt.alloc(), *benchmark, size, threads)?;
+        }
+        return Ok(());
     };
     if name.as_str() == "--list" {
         return list(&rt);
     }
-    let Some(benchmark) = Benchmark::of_name(name.as_str()) else {
+    let mut benchmarks = Benchmark::ALL.iter().copied();
+    let Some(benchmark) = benchmarks.find(|benchmark| benchmark.name == name.as_str()) else {
         return Err(anyhow!("there is no benchmark {name}"));
     };
     let size = match arguments.next() {
-        None => benchmark.small_size(),
+        None => benchmark.small,
         Some(said) => number("size", said.as_str(), u32::MAX)?,
     };
     let threads = match arguments.next() {
@@ -74,18 +79,6 @@ fn list(rt: &impl Print) -> Result<()> {
             "{name}\t{}\t{}\t{about}",
             benchmark.threads, benchmark.size
         )?;
-    }
-    Ok(())
-}
-
-/// Runs each benchmark at its small size by as many threads as may be, until one of them fails.
-fn run_each<R>(rt: &R, alloc: Global) -> Result<()>
-where
-    R: Print + Eprint + Clock + CpuClock + Threads + Wait + Sync,
-{
-    for benchmark in Benchmark::ALL {
-        let (size, threads) = (benchmark.small_size(), benchmark.threads);
-        run_one(rt, alloc, *benchmark, size, threads)?;
     }
     Ok(())
 }

@@ -52,23 +52,16 @@ pub(crate) struct Measured {
     pub(crate) checksum: Checksum,
 }
 
-/// A moment, by the processor time that the process had used in all its threads.
-#[derive(Clone, Copy)]
-pub(crate) struct Stopwatch(Duration);
-
-impl Stopwatch {
-    pub(crate) fn start(clock: &impl CpuClock) -> Result<Stopwatch> {
-        Ok(Stopwatch(clock.process_cpu_time()?))
-    }
-
-    /// What so many operations computed, and the processor time since then.
-    pub(crate) fn measured(
-        self,
+impl Measured {
+    /// What so many operations computed, and the processor time that the process has used in all
+    /// its threads since it had used this.
+    pub(crate) fn since(
         clock: &impl CpuClock,
+        begun: Duration,
         operations: u64,
         checksum: Checksum,
     ) -> Result<Measured> {
-        let time = clock.process_cpu_time()?.saturating_sub(self.0);
+        let time = clock.process_cpu_time()?.saturating_sub(begun);
         Ok(Measured {
             operations,
             time,

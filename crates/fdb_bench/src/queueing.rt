@@ -1,6 +1,6 @@
 //! The queue of a GRV proxy: offers, windows and waits.
 
-use crate::measuring::{Checksum, Draws, Job, Measured, Stopwatch};
+use crate::measuring::{Checksum, Draws, Job, Measured};
 use anyhow::{Result, anyhow};
 use fdb_history::Priority;
 use fdb_queue::{GrvQueue, QueueConfig, QueueError, Req};
@@ -16,12 +16,12 @@ const STEPS_PER_WINDOW: u32 = 10;
 /// The microseconds between two windows, and the most that a question asks about.
 const ELAPSED: u32 = 10_000;
 
-pub(crate) fn empty_queue(
+pub(crate) fn empty_queue<T>(
     alloc: Global,
     normal: u64,
     batch: u64,
     room: u32,
-) -> Result<GrvQueue<u64>> {
+) -> Result<GrvQueue<T>> {
     let config = QueueConfig {
         normal,
         batch,
@@ -35,28 +35,42 @@ pub(crate) fn empty_queue(
 pub(crate) fn mix(clock: &impl CpuClock, job: Job) -> Result<Measured> {
     let mut queue = empty_queue(job.alloc, 13, 12, job.size)?;
     let mut checksum = Checksum::EMPTY;
-    fill(&mut queue, job.size, &mut checksum)?;
+    for place in 0..job.size {
+        let priority = if place % 2 == 0 {
+            Priority::Batch
+        } else {
+            Priority::Default
+        };
+        offer(&mut queue, priority, place % 4 + 1, place, &mut checksum)?;
+    }
     let mut draws = Draws::START;
     let steps = job.size.saturating_mul(STEPS_PER_ROOM);
-    let watch = Stopwatch::start(clock)?;
+    let begun = clock.process_cpu_time()?;
     for place in 0..steps {
         if place % STEPS_PER_WINDOW == 0 {
             start(&mut queue, ELAPSED, &mut checksum)?;
-        } else {
-            offer(&mut queue, mixed(&mut draws, place), &mut checksum)?;
+            continue;
         }
+        let drawn = draws.next_number();
+        // one in ten is a system request, six are default, three batch
+        let priority = match drawn % 10 {
+            0 => Priority::System,
+            1..=6 => Priority::Default,
+            _ => Priority::Batch,
+        };
+        let count = drawn / 10 % 4 + 1;
+        offer(&mut queue, priority, count, place, &mut checksum)?;
     }
-    watch.measured(clock, u64::from(steps), checksum)
+    Measured::since(clock, begun, u64::from(steps), checksum)
 }
 
 /// Questions how many windows the head of the row waits, with a short window after every few.
 pub(crate) fn waits(clock: &impl CpuClock, job: Job) -> Result<Measured> {
     let mut queue = empty_queue(job.alloc, 10, 10, 1)?;
     let mut checksum = Checksum::EMPTY;
-    let head = request(Priority::Default, 100_000, 0);
-    offer(&mut queue, head, &mut checksum)?;
+    offer(&mut queue, Priority::Default, 100_000, 0, &mut checksum)?;
     let mut draws = Draws::START;
-    let watch = Stopwatch::start(clock)?;
+    let begun = clock.process_cpu_time()?;
     for place in 0..job.size {
         let elapsed = u64::from(draws.next_number() % ELAPSED) + 1;
         checksum.add(queue.waits(elapsed).unwrap_or(0));
@@ -64,43 +78,23 @@ pub(crate) fn waits(clock: &impl CpuClock, job: Job) -> Result<Measured> {
             start(&mut queue, 1, &mut checksum)?;
         }
     }
-    watch.measured(clock, u64::from(job.size), checksum)
+    Measured::since(clock, begun, u64::from(job.size), checksum)
 }
 
-/// Offers so many batch and default requests in turn.
-fn fill(queue: &mut GrvQueue<u64>, offers: u32, checksum: &mut Checksum) -> Result<()> {
-    for place in 0..offers {
-        let priority = if place % 2 == 0 {
-            Priority::Batch
-        } else {
-            Priority::Default
-        };
-        offer(queue, request(priority, place % 4 + 1, place), checksum)?;
-    }
-    Ok(())
-}
-
-/// The request at a place of the mix: one in ten a system request, six default, three batch.
-fn mixed(draws: &mut Draws, place: u32) -> Req<u64> {
-    let drawn = draws.next_number();
-    let priority = match drawn % 10 {
-        0 => Priority::System,
-        1..=6 => Priority::Default,
-        _ => Priority::Batch,
-    };
-    request(priority, drawn / 10 % 4 + 1, place)
-}
-
-fn request(priority: Priority, count: u32, place: u32) -> Req<u64> {
-    Req {
+/// Offers a request for so many transactions, and adds what came of it: the request that was pushed
+/// out or refused.
+fn offer(
+    queue: &mut GrvQueue<u64>,
+    priority: Priority,
+    count: u32,
+    place: u32,
+    checksum: &mut Checksum,
+) -> Result<()> {
+    let request = Req {
         priority,
         count: u64::from(count),
         payload: u64::from(place),
-    }
-}
-
-/// Makes an offer, and adds what came of it: the request that was pushed out or refused.
-fn offer(queue: &mut GrvQueue<u64>, request: Req<u64>, checksum: &mut Checksum) -> Result<()> {
+    };
     match queue.offer(request) {
         Ok(None) => checksum.add(0),
         Ok(Some(out)) => checksum.add(request_word(&out).wrapping_add(1)),

@@ -5,9 +5,9 @@ ghost use Rattle.fdb_live.specs.Seen.{origin_of};
 
 use crate::asking::START;
 use crate::batching::batches;
-use crate::measuring::{Checksum, Job, Measured, Stopwatch};
+use crate::measuring::{Checksum, Job, Measured};
 use crate::team::{Tally, Work, side_by_side};
-use anyhow::{Result, anyhow};
+use anyhow::{Context, Result, anyhow};
 use fdb_history::{OpenGate, Record};
 use fdb_live::{Live, LiveRecord, Opened, Seen};
 use std::marker::Brand;
@@ -36,6 +36,9 @@ const REPORTERS: u32 = 4;
 /// How many reads each reader makes for each raise before.
 const READS_PER_RAISE: u64 = 100;
 
+/// Why a load is refused for which there are too few tokens.
+const NO_MORE: &str = "there are no more reporters";
+
 /// The version of the first report, just above that of the start.
 const FIRST: u64 = START.version + 1;
 
@@ -48,7 +51,8 @@ where
     measure_named::<Brand, R>(rt, job, load, opened)
 }
 
-/// Measures a live record under a name that stands for it.
+/// Measures a live record under a name that stands for it, which for reads and tokens is raised
+/// before, with the first reporter's token.
 fn measure_named<J: Live + Send + Sync, R: Clock + CpuClock + Threads + Wait + Sync>(
     rt: &R,
     job: Job,
@@ -59,11 +63,21 @@ fn measure_named<J: Live + Send + Sync, R: Clock + CpuClock + Threads + Wait + S
     requires opened { opened
         ≡ origin_of J.table J.start J.reporters J.chained J.epoch_end J.recovery }
 {
-    let (live, reader, reporters) = opened.parts::<J>()?;
+    let (live, reader, mut reporters) = opened.parts::<J>()?;
     let shared = Shared {
         live,
         reading: AtomicU64::new(u64::from(job.threads)),
     };
+    if let Load::Reads | Load::ReadsBeside | Load::Tokens = load {
+        let token = reporters.first_mut().context(NO_MORE)?;
+        let raises = Reports {
+            first: FIRST,
+            step: 1,
+            count: u64::from(job.size),
+            beside: false,
+        };
+        report_in_turn(rt, &shared, token, raises)?;
+    }
     let mut served = ServedRecord {
         shared,
         reader,
@@ -104,7 +118,6 @@ impl<J: Live + Send + Sync> ServedRecord<J> {
     where
         R: Clock + Threads + Wait + Sync,
     {
-        self.raise(rt, job.size)?;
         let reads = u64::from(job.size).saturating_mul(READS_PER_RAISE);
         let mut holders = Vec::new(job.alloc);
         for _ in 0..job.threads {
@@ -114,10 +127,16 @@ impl<J: Live + Send + Sync> ServedRecord<J> {
             holders.push(Holder { token, role })?;
         }
         if beside {
-            let first = FIRST + u64::from(job.size);
-            holders.push(self.reporter(Role::ReportsBeside { first })?)?;
+            let token = self.reporters.pop().context(NO_MORE)?;
+            let role = Role::Reports(Reports {
+                first: FIRST + u64::from(job.size),
+                step: 1,
+                count: u64::MAX,
+                beside: true,
+            });
+            holders.push(Holder { token, role })?;
         }
-        let all = side_by_side(rt, job.alloc, &self.shared, holders)?;
+        let all = side_by_side(rt, &self.shared, holders)?;
         Ok(all.measured(if beside { 0 } else { all.sum }))
     }
 
@@ -127,18 +146,18 @@ impl<J: Live + Send + Sync> ServedRecord<J> {
     where
         R: Clock + Threads + Wait + Sync,
     {
-        let (step, reports) = (u64::from(job.threads), job.size);
         let mut holders = Vec::new(job.alloc);
         for place in 0..job.threads {
-            let first = FIRST + u64::from(place);
-            let role = Role::Reports {
-                first,
-                step,
-                reports,
-            };
-            holders.push(self.reporter(role)?)?;
+            let token = self.reporters.pop().context(NO_MORE)?;
+            let role = Role::Reports(Reports {
+                first: FIRST + u64::from(place),
+                step: u64::from(job.threads),
+                count: u64::from(job.size),
+                beside: false,
+            });
+            holders.push(Holder { token, role })?;
         }
-        let mut all = side_by_side(rt, job.alloc, &self.shared, holders)?;
+        let mut all = side_by_side(rt, &self.shared, holders)?;
         let shared = &self.shared;
         let last = shared.live.read(rt, &mut self.reader);
         all.marked = u64::from(all.marked == last.position);
@@ -148,39 +167,19 @@ impl<J: Live + Send + Sync> ServedRecord<J> {
     /// One token's holder tells another's so many times what it has seen, as many raises: a token
     /// is split off the first one, learned by the second, and met.
     fn tokens<R: CpuClock + Wait>(&mut self, rt: &R, job: Job) -> Result<Measured> {
-        self.raise(rt, job.size)?;
         let shared = &self.shared;
         let (live, hearer) = (&shared.live, &mut self.reader);
-        let Some(teller) = self.reporters.last_mut() else {
-            return Err(anyhow!("there is no reporter"));
-        };
+        let teller = self.reporters.last_mut().context(NO_MORE)?;
         let _ = live.read(rt, teller);
         let mut checksum = Checksum::EMPTY;
-        let watch = Stopwatch::start(rt)?;
+        let begun = rt.process_cpu_time()?;
         for _ in 0..job.size {
             let told = live.split(teller);
             live.learn(rt, hearer, told);
             live.meet(rt, teller, hearer);
             checksum.add(hearer.position());
         }
-        watch.measured(rt, u64::from(job.size) * 3, checksum)
-    }
-
-    /// Raises the record so many times, with the first reporter's token.
-    fn raise<R: Wait>(&mut self, rt: &R, raises: u32) -> Result<()> {
-        let Some(token) = self.reporters.first_mut() else {
-            return Err(anyhow!("there is no reporter"));
-        };
-        report_in_turn(rt, &self.shared, token, FIRST, 1, raises)?;
-        Ok(())
-    }
-
-    /// One with the token of the last reporter that is left.
-    fn reporter(&mut self, role: Role) -> Result<Holder<J>> {
-        match self.reporters.pop() {
-            Some(token) => Ok(Holder { token, role }),
-            None => Err(anyhow!("there are no more reporters")),
-        }
+        Measured::since(rt, begun, u64::from(job.size) * 3, checksum)
     }
 }
 
@@ -188,11 +187,17 @@ impl<J: Live + Send + Sync> ServedRecord<J> {
 #[derive(Clone, Copy)]
 enum Role {
     Reads { reads: u64 },
-    /// It reports a version, and so many in all, each greater by so much.
-    Reports { first: u64, step: u64, reports: u32 },
-    /// It reports one version after another for as long as a
-    /// thread reads, which counts for nothing.
-    ReportsBeside { first: u64 },
+    Reports(Reports),
+}
+
+/// Versions to be reported: the first one, and so many in all, each greater by so much.
+#[derive(Clone, Copy)]
+struct Reports {
+    first: u64,
+    step: u64,
+    count: u64,
+    /// Whether they go on only for as long as a thread reads, and count for nothing.
+    beside: bool,
 }
 
 /// One that makes its calls in a thread of its own.
@@ -207,12 +212,7 @@ impl<J: Live + Send + Sync> Work<Shared<J>> for Holder<J> {
         let Holder { mut token, role } = self;
         match role {
             Role::Reads { reads } => Ok(read_in_turn(rt, shared, &mut token, reads)),
-            Role::Reports {
-                first,
-                step,
-                reports,
-            } => report_in_turn(rt, shared, &mut token, first, step, reports),
-            Role::ReportsBeside { first } => report_beside(rt, shared, &mut token, first),
+            Role::Reports(reports) => report_in_turn(rt, shared, &mut token, reports),
         }
     }
 }
@@ -228,67 +228,39 @@ fn read_in_turn<J: Live, R: Wait>(
     for _ in 0..reads {
         let before = seen.position();
         let fetched = shared.live.read(rt, seen);
-        tally.add(record_word(fetched.rec), fetched.position < before);
+        let rec = fetched.rec;
+        // each of its numbers, and the last byte of its metadata version
+        let word = rec
+            .version
+            .wrapping_add(u64::from(rec.locked))
+            .wrapping_add(rec.metadata.map_or(0, |bytes| u64::from(bytes[9])))
+            .wrapping_add(rec.min_known);
+        tally.add(word, fetched.position < before);
     }
     shared.reading.fetch_sub(1, Ordering::SeqCst);
     tally
 }
 
-/// What is added of a record: its numbers, and the last byte of its metadata version.
-fn record_word(rec: Record) -> u64 {
-    let last = rec.metadata.map_or(0, |bytes| bytes[9]);
-    rec.version
-        .wrapping_add(u64::from(rec.locked))
-        .wrapping_add(u64::from(last))
-        .wrapping_add(rec.min_known)
-}
-
-/// Reports a version, and so many times in all, each time one that
-/// is greater by so much. A report is marked that raises the record.
+/// Reports versions. A report is marked that raises the record.
 fn report_in_turn<J: Live, R: Wait>(
     rt: &R,
     shared: &Shared<J>,
     seen: &mut Seen<J>,
-    first: u64,
-    step: u64,
-    reports: u32,
+    reports: Reports,
 ) -> Result<Tally> {
     let mut tally = Tally::EMPTY;
-    let mut version = first;
-    for _ in 0..reports {
-        let raised = report(rt, shared, seen, version)?;
-        tally.add(version, raised);
-        version = version.wrapping_add(step);
+    let mut version = reports.first;
+    for _ in 0..reports.count {
+        if reports.beside && shared.reading.load(Ordering::SeqCst) == 0 {
+            return Ok(Tally::EMPTY);
+        }
+        let Some(who) = seen.reporter() else {
+            return Err(anyhow!("the token is nobody's"));
+        };
+        let rec = Record { version, ..START };
+        let ack = shared.live.report(rt, &OpenGate, who, seen, rec)?;
+        tally.add(version, ack.raised);
+        version = version.wrapping_add(reports.step);
     }
     Ok(tally)
-}
-
-/// Reports a version, and the next ones, for as long as a thread reads.
-fn report_beside<J: Live, R: Wait>(
-    rt: &R,
-    shared: &Shared<J>,
-    seen: &mut Seen<J>,
-    first: u64,
-) -> Result<Tally> {
-    for place in 0..u64::MAX {
-        if shared.reading.load(Ordering::SeqCst) == 0 {
-            break;
-        }
-        report(rt, shared, seen, first.wrapping_add(place))?;
-    }
-    Ok(Tally::EMPTY)
-}
-
-/// Reports a version, and answers whether it raised the record.
-fn report<J: Live, R: Wait>(
-    rt: &R,
-    shared: &Shared<J>,
-    seen: &mut Seen<J>,
-    version: u64,
-) -> Result<bool> {
-    let Some(who) = seen.reporter() else {
-        return Err(anyhow!("the token is nobody's"));
-    };
-    let rec = Record { version, ..START };
-    Ok(shared.live.report(rt, &OpenGate, who, seen, rec)?.raised)
 }

@@ -2,7 +2,6 @@
 
 use crate::measuring::{Checksum, Measured};
 use anyhow::Result;
-use std::alloc::Global;
 use std::sync::Wait;
 use std::thread;
 use std::thread::Threads;
@@ -37,17 +36,6 @@ impl Tally {
         self.marked = self.marked.wrapping_add(u64::from(marked));
     }
 
-    /// The calls of both, from when the first began until the last ended.
-    fn with(self, other: Tally) -> Tally {
-        Tally {
-            calls: self.calls.wrapping_add(other.calls),
-            sum: self.sum.wrapping_add(other.sum),
-            marked: self.marked.wrapping_add(other.marked),
-            begun: self.begun.min(other.begun),
-            ended: self.ended.max(other.ended),
-        }
-    }
-
     /// The outcome of a benchmark, with a checksum over the
     /// number of calls, how many were marked, and one more word.
     pub(crate) fn measured(self, word: u64) -> Measured {
@@ -69,52 +57,30 @@ pub(crate) trait Work<C> {
     fn work<R: Wait>(self, rt: &R, shared: &C) -> Result<Tally>;
 }
 
-/// Work that is to be done, and then what came of it.
-#[derive(Drop)]
-struct Worker<W> {
-    work: Option<W>,
-    done: Result<Tally>,
-}
-
-/// Has each do its work in a thread of its own, and answers all their calls.
-pub(crate) fn side_by_side<C, W, R>(
-    rt: &R,
-    alloc: Global,
-    shared: &C,
-    works: Vec<W>,
-) -> Result<Tally>
+/// Has each do its work in a thread of its own, and answers all their calls, from when the first
+/// began until the last ended.
+pub(crate) fn side_by_side<C, W, R>(rt: &R, shared: &C, works: Vec<W>) -> Result<Tally>
 where
     C: Sync,
     W: Work<C> + Send + Drop,
     R: Clock + Threads + Wait + Sync,
 {
-    let mut workers = Vec::new(alloc);
-    for work in works {
-        workers.push(Worker {
-            work: Some(work),
-            done: Ok(Tally::EMPTY),
-        })?;
-    }
-    let threads = workers.len().max(1);
-    thread::for_each_mut(
-        rt,
-        workers.as_mut_slice(),
-        threads,
-        &|_, worker| {
-            if let Some(work) = worker.work.take() {
-                worker.done = timed(rt, shared, work);
-            }
-        },
-    );
     let mut all = Tally::EMPTY;
-    for worker in workers {
-        all = all.with(worker.done?);
+    for done in thread::map_vec(rt, works, &|work| timed(rt, shared, work))? {
+        let done = done?;
+        all = Tally {
+            calls: all.calls.wrapping_add(done.calls),
+            sum: all.sum.wrapping_add(done.sum),
+            marked: all.marked.wrapping_add(done.marked),
+            begun: all.begun.min(done.begun),
+            ended: all.ended.max(done.ended),
+        };
     }
     Ok(all)
 }
 
-/// Does some work, which is moved to the thread's own stack, so that no two threads write to one
-/// cache line. Where it has no calls, its time is that of nothing.
+/// Does some work, on the thread's own stack, so that no two threads write to one cache line. Where
+/// it has no calls, its time is that of nothing.
 fn timed<C, W: Work<C> + Drop, R: Clock + Wait>(rt: &R, shared: &C, work: W) -> Result<Tally> {
     let begun = rt.monotonic()?;
     let done = work.work(rt, shared)?;

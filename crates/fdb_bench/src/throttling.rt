@@ -1,6 +1,6 @@
 //! Throttles of tags, set once and looked up in several passes.
 
-use crate::measuring::{Checksum, Draws, Job, Measured, Stopwatch};
+use crate::measuring::{Checksum, Draws, Job, Measured};
 use crate::queueing::empty_queue;
 use anyhow::Result;
 use fdb_history::{Priority, Sequence, Tag};
@@ -16,19 +16,24 @@ const TAGS_PER_REQUEST: usize = 4;
 /// The moments at which throttles expire are below this one.
 const LAST_MOMENT: u32 = 1_000;
 
-/// Sets so many throttles, and looks them up by requests of
+/// Sets so many throttles, each as a drawn number says, and looks them up by requests of
 /// four tags at other priorities and moments.
 pub(crate) fn throttles(clock: &impl CpuClock, job: Job) -> Result<Measured> {
     let mut queue = empty_queue(job.alloc, 1, 1, 1)?;
     let (given, tags) = (tags(job)?, tags(job)?);
     let mut checksum = Checksum::EMPTY;
-    let mut draws = Draws::START;
-    let watch = Stopwatch::start(clock)?;
-    set_each(&mut queue, given)?;
+    let (mut draws, mut rates) = (Draws::START, Draws::START);
+    let begun = clock.process_cpu_time()?;
+    for tag in given {
+        let drawn = rates.next_number();
+        let (priority, expires) = priority_and_moment(drawn);
+        queue.set_throttle(priority, tag, u64::from(drawn % 100), expires)?;
+    }
     for _ in 0..PASSES {
         look_up(&queue, tags.as_slice(), &mut draws, &mut checksum)?;
     }
-    watch.measured(clock, u64::from(job.size) * u64::from(PASSES + 1), checksum)
+    let operations = u64::from(job.size) * u64::from(PASSES + 1);
+    Measured::since(clock, begun, operations, checksum)
 }
 
 /// So many tags of eight bytes, without an order.
@@ -43,17 +48,6 @@ fn tags(job: Job) -> Result<Vec<Tag>> {
     Ok(tags)
 }
 
-/// Sets a throttle for each tag, as a drawn number says.
-fn set_each(queue: &mut GrvQueue<u64>, tags: Vec<Tag>) -> Result<()> {
-    let mut draws = Draws::START;
-    for tag in tags {
-        let drawn = draws.next_number();
-        let (rate, expires) = (u64::from(drawn % 100), moment_of(drawn));
-        queue.set_throttle(priority_of(drawn), tag, rate, expires)?;
-    }
-    Ok(())
-}
-
 /// Looks up all tags, some at a time and each time as a drawn
 /// number says, and adds the limits: expiry, rate and the tag's last byte.
 fn look_up(
@@ -63,8 +57,8 @@ fn look_up(
     checksum: &mut Checksum,
 ) -> Result<()> {
     for some in tags.chunks(TAGS_PER_REQUEST) {
-        let drawn = draws.next_number();
-        let limits = queue.throttles(priority_of(drawn), some, moment_of(drawn))?;
+        let (priority, at) = priority_and_moment(draws.next_number());
+        let limits = queue.throttles(priority, some, at)?;
         for limit in limits.as_slice() {
             let last = limit.tag.as_slice().last().copied().unwrap_or(0);
             let word = limit.expires.wrapping_mul(31).wrapping_add(limit.rate);
@@ -74,16 +68,12 @@ fn look_up(
     Ok(())
 }
 
-/// The priority that a drawn number stands for.
-fn priority_of(drawn: u32) -> Priority {
-    match drawn % 3 {
+/// The priority and the moment that a drawn number stands for.
+fn priority_and_moment(drawn: u32) -> (Priority, u64) {
+    let priority = match drawn % 3 {
         0 => Priority::System,
         1 => Priority::Default,
         _ => Priority::Batch,
-    }
-}
-
-/// The moment that a drawn number stands for.
-fn moment_of(drawn: u32) -> u64 {
-    u64::from(drawn / 100 % LAST_MOMENT)
+    };
+    (priority, u64::from(drawn / 100 % LAST_MOMENT))
 }

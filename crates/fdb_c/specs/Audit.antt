@@ -25,7 +25,7 @@ use Rattle.fdb_log_reader.specs.declared.error.Why.{Why}
 use Rattle.fdb_log_reader.specs.declared.error.Why.TheVariants as why
 use Rattle.fdb_log_reader.specs.declared.member.Member.{Member}
 use Rattle.fdb_log_reader.specs.declared.member.Member.TheVariants as member
-use Rattle.fdb_audit.specs.Judged.{AreAll}
+use Rattle.fdb_lines.specs.Judged.{AreAll}
 use Rattle.fdb_audit.specs.Program.{members_named}
 use Rattle.fdb_audit.specs.declared.arguments.AuditArguments.{AuditArguments}
 use Rattle.fdb_audit.specs.declared.judged.Wanted.{Wanted}

@@ -1,8 +1,9 @@
 -- What C asks of a watch, what a watch is, and what it has told. (this product's own)
 use Rattle.std.specs.Prelude.{◌≡◌, ℕ, ◌++◌, Bool, true, false, List, [], Option, None, Some}
 use Rattle.fdb_lines.specs.declared.opts.AuditOpts.{AuditOpts}
-use Rattle.fdb_audit.specs.Following.{none_kept}
-use Rattle.fdb_audit.specs.Watched.{AreAllTaken, AreLeftOut, HasFollowed, IsFollowed}
+use Rattle.fdb_log_reader.specs.declared.error.ReadError.{ReadError}
+use Rattle.fdb_audit.specs.Following.{fresh, left_out, none_kept}
+use Rattle.fdb_audit.specs.Watched.{HasFollowed, IsFollowed, lines_asked}
 use Rattle.fdb_audit.specs.declared.arguments.AuditArguments.{AuditArguments}
 use Rattle.fdb_audit.specs.declared.fault.LogFault.{LogFault}
 use Rattle.fdb_audit.specs.declared.follower.Follower.{Follower}
@@ -21,19 +22,21 @@ wanted_in options = record { history = false; all = true; totals = options.total
 
 -- ---- what a watch is
 
--- What it was asked for, the bytes that have come, the text that was told of them, what was said last with its warnings, and
--- whether it is over: its log has ended, or memory was refused.
+-- What it was asked for, how far behind the newest end a line may begin, the bytes that have come, the text that was told of
+-- them, what was said last with its warnings, and whether it is over: its log has ended, or memory was refused.
 pub record Watch : Type 0 where
   pub asked : Asked
+  pub behind : ℕ
   pub bytes : List ℕ
   pub told : List ℕ
   pub text : List ℕ
   pub warnings : List ℕ
   pub is_over : Bool
 
-abbrev pub new_watch : Asked → Watch
-new_watch asked = record {
+abbrev pub new_watch : Asked → ℕ → Watch
+new_watch asked behind = record {
   asked = asked;
+  behind = behind;
   bytes = [];
   told = [];
   text = [];
@@ -56,26 +59,22 @@ IsTold before after =
 
 -- ---- what it has told
 
--- a follower that began with no line has followed these bytes, and this was told of them
-abbrev pub Follows : AuditArguments → Follower → List ℕ → List ℕ → Type 0
-Follows arguments follower bytes told = HasFollowed arguments none_kept follower bytes told
-
--- this is told of a text by its end, with this first fault
-abbrev pub Tells : AuditArguments → List ℕ → List ℕ → Option LogFault → Type 0
-Tells arguments bytes told first = IsFollowed arguments none_kept bytes told first
+-- why a part of a text is refused, if it is: the last line that is, or that there is none
+abbrev pub refused_in : AuditArguments → List ℕ → Option ReadError
+refused_in arguments bytes = left_out none_kept (lines_asked arguments bytes)
 
 -- This was told of the bytes that have come, as by an audit that follows the log.
 pub record HasTold (watch : Watch) : Type 0 where
   pub arguments : AuditArguments
   pub are : asked_in arguments ≡ watch.asked
   pub follower : Follower
-  pub followed : Follows arguments follower watch.bytes watch.told
+  pub followed : HasFollowed arguments (fresh watch.behind) follower watch.bytes watch.told
 
 -- It was told of all of them, where the log ends there, with this first fault.
 pub record HasToldAll (watch : Watch) (first : Option LogFault) : Type 0 where
   pub arguments : AuditArguments
   pub are : asked_in arguments ≡ watch.asked
-  pub followed : Tells arguments watch.bytes watch.told first
+  pub followed : IsFollowed arguments (fresh watch.behind) true watch.bytes watch.told first
 
 -- A fault was told among that.
 pub record HasToldFault (watch : Watch) : Type 0 where
@@ -86,10 +85,10 @@ pub record HasToldFault (watch : Watch) : Type 0 where
 pub record HasTakenAll (watch : Watch) : Type 0 where
   pub arguments : AuditArguments
   pub are : asked_in arguments ≡ watch.asked
-  pub taken : AreAllTaken arguments watch.bytes
+  pub taken : refused_in arguments watch.bytes ≡ None
 
--- Lines were left out, or there was none.
-pub record HasLeftOut (watch : Watch) : Type 0 where
+-- Lines were left out, the last of them for this, or there was none.
+pub record HasLeftOut (watch : Watch) (error : ReadError) : Type 0 where
   pub arguments : AuditArguments
   pub are : asked_in arguments ≡ watch.asked
-  pub left_out : AreLeftOut arguments watch.bytes
+  pub refused : refused_in arguments watch.bytes ≡ Some error

@@ -154,6 +154,7 @@ pub(crate) fn refuse(error: ReadError, refused: &mut FdbRefused) -> u8
     ensures status { result ≡ status_of error.why }
     ensures told { ((error.why ≡ Why.Memory) × (refused.new ≡ refused.old))
         ⊎ (IsRefusal result × (refused.new ≡ refused_of error)) }
+    ensures statuses { (result ≡ FDB_MEMORY) ⊎ IsRefusal result }
     ensures known { result ≢ FDB_OVER }
 {
     let status = status_of(error.why);

@@ -68,7 +68,7 @@ fn list(
         (λ status. (status ≡ FDB_OK) ⊎ (status ≡ FDB_FAULT) ⊎ (status ≡ FDB_ROOM)) }
     ensures memory { OnErr result ((faults.new ≡ faults.old) × (size.new ≡ size.old)) }
 {
-    let found = findings(alloc, log, &opts_of(options))?;
+    let found = findings(alloc, log, None, &opts_of(options))?;
     *size = found.len() as u64;
     if found.is_empty() {
         return Ok(FDB_OK);

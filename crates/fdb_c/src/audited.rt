@@ -1,13 +1,12 @@
 //! A log that is audited piece by piece, and what was found.
 
-ghost use Rattle.std.specs.Prelude.{◌≡◌, ◌≢◌, ◌↔◌, ◌⊎◌, ◌++◌, All, Err, IfOk, None, Some};
+ghost use Rattle.std.specs.Prelude.{◌≡◌, ◌≢◌, ◌↔◌, ◌⊎◌, ◌++◌, Err, IfOk, None, Some};
 ghost use Rattle.std.specs.Prelude.{false, map, string_bytes, true};
 ghost use Rattle.fdb_lines.specs.declared.fault.Found.{Found};
 ghost use Rattle.fdb_log_reader.specs.Reading.{reading_of};
 ghost use Rattle.fdb_log_reader.specs.declared.error.ReadError.{ReadError};
-ghost use Rattle.fdb_lines.specs.Reasons.{found_of};
-ghost use Rattle.fdb_audit.specs.Judged.{faults_in, keys_of_lines, HasLateIn, HasOwnKeys};
-ghost use Rattle.fdb_audit.specs.Judged.{HasReasonIn};
+ghost use Rattle.fdb_lines.specs.Judged.{AreAll};
+ghost use Rattle.fdb_audit.specs.Judged.{keys_of_lines, HasOwnKeys};
 ghost use Rattle.fdb_c.specs.Audit.{IsRefusal, asked_by, asked_in, refused_of, status_of, told};
 ghost use Rattle.fdb_c.specs.Audited.{HasFound, HasFoundFault, IsEnded, IsFoundOf, IsRefusedFor};
 ghost use Rattle.fdb_c.specs.Audited.{fed, new_audit, over, reading_by};
@@ -17,7 +16,7 @@ use crate::audit::{FdbAuditOptions, FdbRefused, opts_of, refuse, wanted_of};
 use crate::status::{FDB_FAULT, FDB_MEMORY, FDB_OK, FDB_OVER};
 use crate::story::Story;
 use fdb_audit::{AuditArguments, judge_named};
-use fdb_lines::{AuditOpts, Finding, Found, findings, findings_by_key};
+use fdb_lines::{AuditOpts, Finding, Found, findings};
 use fdb_log_reader::{LogReader, NamedLog};
 use std::alloc::{AllocError, Global};
 use std::marker::Model;
@@ -80,17 +79,12 @@ fn found_of(alloc: Global, named: &NamedLog, asked: &AuditArguments) -> Result<F
 /// All faults of a log that was read, or of the lines of each key where their keys were kept.
 fn faults_of(alloc: Global, named: &NamedLog, opts: &AuditOpts) -> Result<Vec<Finding>, AllocError>
     requires { HasOwnKeys (reading_of named.now) }
-    ensures listed { IfOk result (λ found. map found_of found.items
-        ≡ faults_in (reading_of named.now).log (keys_of_lines (reading_of named.now).keys)
-        opts.now) }
-    ensures reasons { IfOk result (λ found. All (HasReasonIn (reading_of named.now).log
-        (keys_of_lines (reading_of named.now).keys) opts.now) found.items) }
-    ensures late { IfOk result (λ found. All (HasLateIn (reading_of named.now).log
-        (keys_of_lines (reading_of named.now).keys) opts.now) found.items) }
+    ensures { IfOk result (λ found. AreAll (reading_of named.now).log
+        (keys_of_lines (reading_of named.now).keys) opts.now found.items) }
 {
     match &named.keys {
-        Some(keys) => findings_by_key(alloc, &named.log, keys.numbers(), opts),
-        None => findings(alloc, &named.log, opts),
+        Some(keys) => findings(alloc, &named.log, Some(keys.numbers()), opts),
+        None => findings(alloc, &named.log, None, opts),
     }
 }
 
@@ -159,6 +153,7 @@ impl Audited {
         ensures over { (result ≡ FDB_OVER) ↔ (self.old.is_over ≡ true) }
         ensures not_told { (result ≡ FDB_OVER) → refused.new ≡ refused.old }
         ensures ends { (result ≢ FDB_OK) → self.new ≡ over self.old }
+        ensures statuses { (result ≡ FDB_OK) ⊎ (result ≡ FDB_MEMORY) ⊎ IsRefusal result }
     {
         let Some(reader) = mem::replace(&mut self.reader, None) else {
             return FDB_OVER;
@@ -185,6 +180,8 @@ impl Audited {
         ensures over { (result ≡ FDB_OVER) ↔ (self.old.is_over ≡ true) }
         ensures not_told { (result ≡ FDB_OVER) → refused.new ≡ refused.old }
         ensures ends { (result ≢ FDB_OK) → (result ≢ FDB_FAULT) → self.new ≡ over self.old }
+        ensures statuses { (result ≡ FDB_OK) ⊎ (result ≡ FDB_FAULT) ⊎ (result ≡ FDB_MEMORY)
+            ⊎ IsRefusal result }
     {
         let Some(reader) = mem::replace(&mut self.reader, None) else {
             return FDB_OVER;

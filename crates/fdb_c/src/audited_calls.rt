@@ -87,6 +87,7 @@ pub extern "C" fn fdb_audit_push(
     ensures not_told { (result ≡ FDB_OVER) → refused.new ≡ refused.old }
     ensures ends { (result ≢ FDB_OK) → IfSome audit.old.audit
         (λ before. audit.new.audit ≡ Some (over before)) }
+    ensures statuses { (result ≡ FDB_OK) ⊎ (result ≡ FDB_MEMORY) ⊎ IsRefusal result }
     ensures held { IsSome audit.new.audit }
 {
     let mut core = audit.swap(Held::none()).into_box(alloc).unwrap();
@@ -112,6 +113,8 @@ pub extern "C" fn fdb_audit_end(alloc: Global, audit: &mut FdbAudit, refused: &m
     ensures not_told { (result ≡ FDB_OVER) → refused.new ≡ refused.old }
     ensures ends { (result ≢ FDB_OK) → (result ≢ FDB_FAULT) → IfSome audit.old.audit
         (λ before. audit.new.audit ≡ Some (over before)) }
+    ensures statuses { (result ≡ FDB_OK) ⊎ (result ≡ FDB_FAULT) ⊎ (result ≡ FDB_MEMORY)
+        ⊎ IsRefusal result }
     ensures held { IsSome audit.new.audit }
 {
     let mut core = audit.swap(Held::none()).into_box(alloc).unwrap();

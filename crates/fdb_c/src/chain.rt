@@ -154,6 +154,8 @@ pub extern "C" fn fdb_chain_answers(
         × ((recovery ≤ epoch_end) ⊎ (MAX_VERSION < recovery))) }
     ensures no_proxy { (result ≡ FDB_NO_PROXY) ↔ ((length asks.now ≤ length answers.old)
         × IsEpoch epoch_end recovery × ((proxies ≡ 0) ⊎ (MAX_PROXIES < proxies))) }
+    ensures statuses { (result ≡ FDB_OK) ⊎ (result ≡ FDB_ROOM) ⊎ (result ≡ FDB_BAD_EPOCH)
+        ⊎ (result ≡ FDB_NO_PROXY) ⊎ (result ≡ FDB_MEMORY) }
 {
     if answers.len() < asks.len() {
         return FDB_ROOM;

@@ -33,6 +33,8 @@ pub extern "C" fn fdb_chain_new(
         ↔ ((recovery ≤ epoch_end) ⊎ (MAX_VERSION < recovery)) }
     ensures no_proxy { (result ≡ FDB_NO_PROXY)
         ↔ (IsEpoch epoch_end recovery × ((proxies ≡ 0) ⊎ (MAX_PROXIES < proxies))) }
+    ensures statuses { (result ≡ FDB_OK) ⊎ (result ≡ FDB_BAD_EPOCH) ⊎ (result ≡ FDB_NO_PROXY)
+        ⊎ (result ≡ FDB_MEMORY) }
 {
     match RecentChain::new(alloc, epoch_end, recovery, proxies) {
         Ok(core) => match boxed(alloc, core) {

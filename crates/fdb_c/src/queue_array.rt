@@ -1,6 +1,6 @@
 //! The queue of a GRV proxy, all operations in and all outcomes out.
 
-ghost use Rattle.std.specs.Prelude.{◌≡◌, ◌+◌, ◌<◌, ◌≤◌, ◌++◌, ◌↔◌, map, length, drop, Some};
+ghost use Rattle.std.specs.Prelude.{◌≡◌, ◌+◌, ◌<◌, ◌≤◌, ◌⊎◌, ◌++◌, ◌↔◌, map, length, drop, Some};
 ghost use Rattle.std.specs.Prelude.{IfSome, IsSome, IfOk, Ok, OnOk};
 ghost use Rattle.std.specs.Bool.{OnTrue};
 ghost use Rattle.fdb_queue.specs.Config.{IsConfig};
@@ -127,7 +127,12 @@ pub extern "C" fn fdb_queue_outcomes(
         → ((result ≡ FDB_BAD_CONFIG) ↔ ¬ IsConfig (config_of config.now)) }
     ensures no_room { (length outcomes.old < length ops.now)
         → (result ≡ FDB_ROOM) × (outcomes.new ≡ outcomes.old) × (size.new ≡ size.old) }
+    ensures room { (length ops.now ≤ length outcomes.old) → (result ≡ FDB_ROOM)
+        → (size.new ≡ length (started_each (new_queue (config_of config.now)) ops.now))
+        × (length started.old < size.new) }
     ensures untouched { (result ≡ FDB_OK → ⊥) → started.new ≡ started.old }
+    ensures statuses { (result ≡ FDB_OK) ⊎ (result ≡ FDB_ROOM) ⊎ (result ≡ FDB_BAD_CONFIG)
+        ⊎ (result ≡ FDB_MEMORY) }
 {
     if outcomes.len() < ops.len() {
         return FDB_ROOM;

@@ -25,6 +25,7 @@ pub extern "C" fn fdb_queue_new(alloc: Global, config: &FdbQueueConfig, queue: &
     ensures ok { (result ≡ FDB_OK) → queue.new.queue ≡ Some (new_queue (config_of config.now)) }
     ensures refused { (result ≡ FDB_OK → ⊥) → queue.new.queue ≡ None }
     ensures bad_config { (result ≡ FDB_BAD_CONFIG) ↔ ¬ IsConfig (config_of config.now) }
+    ensures statuses { (result ≡ FDB_OK) ⊎ (result ≡ FDB_BAD_CONFIG) ⊎ (result ≡ FDB_MEMORY) }
 {
     let config = QueueConfig {
         normal: config.normal,

@@ -114,6 +114,8 @@ pub extern "C" fn fdb_queue_set_throttle(
     ensures too_long { (result ≡ FDB_TAG_TOO_LONG)
         ↔ (IsSome (priority_of priority) × (MAX_TAG < length tag.now)) }
     ensures unchanged { (result ≡ FDB_OK → ⊥) → queue.new.queue ≡ queue.old.queue }
+    ensures statuses { (result ≡ FDB_OK) ⊎ (result ≡ FDB_BAD_OP) ⊎ (result ≡ FDB_TAG_TOO_LONG)
+        ⊎ (result ≡ FDB_MEMORY) }
     ensures held { IsSome queue.new.queue }
 {
     let Some(priority) = priority_of(priority) else {
@@ -174,6 +176,7 @@ pub extern "C" fn fdb_queue_throttle(
         (λ it. limit.new ≡ limit_shown (limits_of before.throttles it at (tag.now ∷ [])))) }
     ensures bad_op { (result ≡ FDB_BAD_OP) ↔ IsNone (priority_of priority) }
     ensures untouched { (result ≡ FDB_OK → ⊥) → limit.new ≡ limit.old }
+    ensures statuses { (result ≡ FDB_OK) ⊎ (result ≡ FDB_BAD_OP) ⊎ (result ≡ FDB_MEMORY) }
     ensures kept { queue.new.queue ≡ queue.old.queue }
 {
     let Some(priority) = priority_of(priority) else {

@@ -30,7 +30,7 @@ fn opened(
     shown: &str,
 ) -> Result<Box<Watched>, AllocError>
     ensures { IfOk result (λ made. made.value ≡ new_watch
-        (asked_with (opts_in options) (wanted_in options) key.now shown.now)) }
+        (asked_with (opts_in options) (wanted_in options) key.now shown.now) options.behind) }
 {
     let made = Watched::new(alloc, options, key, shown)?;
     boxed(alloc, made)
@@ -49,7 +49,8 @@ pub extern "C" fn fdb_watch_new(
 ) -> u8
     requires { IsNone watch.old.watch }
     ensures ok { (result ≡ FDB_OK) → watch.new.watch ≡ Some (new_watch
-        (asked_with (opts_in options.now) (wanted_in options.now) key.now shown.now)) }
+        (asked_with (opts_in options.now) (wanted_in options.now) key.now shown.now)
+        options.now.behind) }
     ensures refused { (result ≢ FDB_OK) → watch.new.watch ≡ None }
     ensures bad_member { (result ≡ FDB_BAD_MEMBER) ↔ ¬ (IsUtf8 key.now × IsUtf8 shown.now) }
     ensures statuses { (result ≡ FDB_OK) ⊎ (result ≡ FDB_BAD_MEMBER) ⊎ (result ≡ FDB_MEMORY) }
@@ -116,9 +117,11 @@ pub extern "C" fn fdb_watch_end(alloc: Global, watch: &mut FdbWatch, refused: &m
         → IfSome watch.new.watch (λ it. HasToldAll it None × HasTakenAll it) }
     ensures fault { (result ≡ FDB_FAULT) → IfSome watch.new.watch HasToldFault }
     ensures left_out { IsRefusal result → (result ≢ FDB_OVER)
-        → IfSome watch.new.watch (λ it. HasToldAll it None × HasLeftOut it) }
-    ensures refused { IsRefusal result → (result ≢ FDB_OVER) → (error : ReadError)
-        × (result ≡ status_of error.why) × (refused.new ≡ refused_of error) }
+        → IfSome watch.new.watch (λ it. HasToldAll it None × (error : ReadError)
+        × HasLeftOut it error × (result ≡ status_of error.why)
+        × (refused.new ≡ refused_of error)) }
+    ensures statuses { (result ≡ FDB_OK) ⊎ (result ≡ FDB_FAULT) ⊎ (result ≡ FDB_MEMORY)
+        ⊎ IsRefusal result }
     ensures untold { ¬ IsRefusal result → refused.new ≡ refused.old }
     ensures over { (result ≡ FDB_OVER)
         ↔ IfSome watch.old.watch (λ before. before.is_over ≡ true) }

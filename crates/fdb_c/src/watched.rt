@@ -21,6 +21,8 @@ use std::mem;
 #[derive(Drop)]
 pub struct Watched {
     asked: AuditArguments,
+    /// How far behind the newest end a line may begin.
+    behind: u64,
     /// None once the log has ended, or memory was refused.
     follower: Option<Follower>,
     /// What was said last.
@@ -33,13 +35,16 @@ pub struct Watched {
 impl Model for Watched {
     ghost use Rattle.std.specs.Prelude.{IfSome, is_none, string_bytes};
     ghost use Rattle.fdb_c.specs.Audit.{asked_in};
-    ghost use Rattle.fdb_c.specs.Watch.{Follows, Watch};
+    ghost use Rattle.fdb_audit.specs.Following.{fresh};
+    ghost use Rattle.fdb_audit.specs.Watched.{HasFollowed};
+    ghost use Rattle.fdb_c.specs.Watch.{Watch};
 
     ghost Value = { Watch };
 
     ghost view = { λ it.
         record {
           asked = asked_in it.asked;
+          behind = it.behind;
           bytes = it.story.bytes;
           told = it.story.told;
           text = string_bytes it.text;
@@ -48,7 +53,8 @@ impl Model for Watched {
         } };
 
     ghost invariant = { λ it. IfSome it.follower
-        (λ follower. Follows it.asked follower it.story.bytes it.story.told) };
+        (λ follower. HasFollowed it.asked (fresh it.behind) follower
+        it.story.bytes it.story.told) };
 }
 
 impl Watched {
@@ -62,12 +68,14 @@ impl Watched {
         shown: &str,
     ) -> Result<Self, AllocError>
         ensures { IfOk result (λ watched. watched ≡ new_watch
-            (asked_with (opts_in options) (wanted_in options) key.now shown.now)) }
+            (asked_with (opts_in options) (wanted_in options) key.now shown.now)
+            options.behind) }
     {
         let asked = asked_of(alloc, options, key, shown)?;
         let follower = Follower::new(alloc, &asked, options.behind)?;
         Ok(Watched {
             asked,
+            behind: options.behind,
             follower: Some(follower),
             text: String::new(alloc),
             warnings: String::new(alloc),
@@ -139,10 +147,11 @@ impl Watched {
         ensures said { (result ≢ FDB_OVER) → (result ≢ FDB_MEMORY) → IsTold self.old self.new }
         ensures ok { (result ≡ FDB_OK) → HasToldAll self.new None × HasTakenAll self.new }
         ensures fault { (result ≡ FDB_FAULT) → HasToldFault self.new }
-        ensures left_out { IsRefusal result → (result ≢ FDB_OVER)
-            → HasToldAll self.new None × HasLeftOut self.new }
-        ensures refused { IsRefusal result → (result ≢ FDB_OVER) → (error : ReadError)
+        ensures left_out { IsRefusal result → (result ≢ FDB_OVER) → HasToldAll self.new None
+            × (error : ReadError) × HasLeftOut self.new error
             × (result ≡ status_of error.why) × (refused.new ≡ refused_of error) }
+        ensures statuses { (result ≡ FDB_OK) ⊎ (result ≡ FDB_FAULT) ⊎ (result ≡ FDB_MEMORY)
+            ⊎ IsRefusal result }
         ensures untold { ¬ IsRefusal result → refused.new ≡ refused.old }
         ensures over { (result ≡ FDB_OVER) ↔ (self.old.is_over ≡ true) }
         ensures not_told { (result ≡ FDB_OVER) → refused.new ≡ refused.old }
@@ -177,6 +186,8 @@ fn status_at_end(
         × (left_out ≡ Some error) × (result ≡ status_of error.why)
         × (refused.new ≡ refused_of error) }
     ensures untold { ¬ IsRefusal result → refused.new ≡ refused.old }
+    ensures statuses { (result ≡ FDB_OK) ⊎ (result ≡ FDB_FAULT) ⊎ (result ≡ FDB_MEMORY)
+        ⊎ IsRefusal result }
     ensures not_over { result ≢ FDB_OVER }
 {
     if found.is_some() {

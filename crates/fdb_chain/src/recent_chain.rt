@@ -113,6 +113,8 @@ impl RecentChain {
             → IsChain chain.epoch_end chain.recovery (with_answer chain issued).answers) }
         ensures prev { IfOk result (λ issued. issued.fresh ≡ true
             → issued.prev ≡ prev_after self.old.epoch_end self.old.last) }
+        ensures above { IfOk result (λ issued. issued.fresh ≡ true
+            → IfSome self.old.last (λ last. last.version < issued.version)) }
         ensures request { IfOk result (IsFor ask) }
         ensures in_range { IfOk result (λ issued. issued.version ≤ MAX_VERSION) }
         ensures refused { IfErr result (MayRefuse ask) }

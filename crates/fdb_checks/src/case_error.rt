@@ -2,7 +2,6 @@
 
 use std::alloc::{AllocError, AllocFailed};
 use std::test::Fail;
-use std::thread::SpawnError;
 
 /// Why a case of a test ends early. A failure cannot be let go by mistake, so neither can this.
 pub enum CaseError {
@@ -30,12 +29,6 @@ impl From<AllocError> for CaseError {
 
 impl<T: Drop> From<AllocFailed<T>> for CaseError {
     fn from(_error: AllocFailed<T>) -> CaseError {
-        CaseError::Memory
-    }
-}
-
-impl<F: Drop> From<SpawnError<F>> for CaseError {
-    fn from(_error: SpawnError<F>) -> CaseError {
         CaseError::Memory
     }
 }

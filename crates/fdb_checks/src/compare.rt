@@ -39,12 +39,7 @@ pub fn holds(condition: bool, case: &impl Display) -> Result<(), Fail>
     }
 }
 
-/// Fails where a value is not shown as wanted. Where memory is refused to the text, it is asked for
-/// once more.
+/// Fails where a value is not shown as wanted.
 pub fn says(alloc: Global, shown: &impl Display, wanted: &str) -> Result<(), Fail> {
-    let text = match format!(in alloc; "{shown}") {
-        Ok(text) => text,
-        Err(_) => format!(in alloc; "{shown}")?,
-    };
-    same_text(text.as_str(), wanted, wanted)
+    same_text(&format!(in alloc; "{shown}")?, wanted, wanted)
 }

@@ -4,9 +4,6 @@ use crate::waiting::{comes, stays_away};
 use fdb_history::{Gate, Place};
 use std::sync::atomic::{AtomicBool, AtomicU64, Ordering};
 
-/// How often who is held looks whether the other passes meanwhile.
-const LOOKS: u32 = 100;
-
 /// Whoever passes first is held until what is done beside it is done, and a little longer. A second
 /// one passes only once the call of the first is answered.
 #[derive(Drop)]
@@ -68,39 +65,26 @@ impl HoldsFirst {
 
     /// Waits for a flag of its own, and notes a failure where it does not come.
     fn waits_for(&self, flag: &AtomicBool) {
-        if !comes(|| flag.load(Ordering::SeqCst)) {
-            self.fails();
-        }
-    }
-
-    fn fails(&self) {
-        self.failed.store(true, Ordering::SeqCst);
-    }
-
-    /// Holds the first, and looks whether the second passes meanwhile.
-    fn holds_first(&self, second: &AtomicU64) {
-        self.held.store(true, Ordering::SeqCst);
-        self.waits_for(&self.beside);
-        if !stays_away(LOOKS, || second.load(Ordering::SeqCst) > 0) {
-            self.fails();
-        }
+        let in_vain = !comes(|| flag.load(Ordering::SeqCst));
+        self.failed.fetch_or(in_vain, Ordering::SeqCst);
     }
 }
 
 impl Gate for HoldsFirst {
+    /// Holds the first, who looks a hundred times whether the second passes meanwhile.
     fn pass(&self, place: Place, who: u32) {
         let [first, second] = &self.passes;
-        if place != self.place {
-            self.fails();
-        }
+        let mut right = place == self.place;
         if who == self.first {
             first.fetch_add(1, Ordering::SeqCst);
-            self.holds_first(second);
-        } else if who == self.second {
+            self.held.store(true, Ordering::SeqCst);
+            self.waits_for(&self.beside);
+            right &= stays_away(100, || second.load(Ordering::SeqCst) > 0);
+        } else {
             second.fetch_add(1, Ordering::SeqCst);
             self.waits_for(&self.answered);
-        } else {
-            self.fails();
+            right &= who == self.second;
         }
+        self.failed.fetch_or(!right, Ordering::SeqCst);
     }
 }

@@ -15,5 +15,5 @@ pub use compare::{holds, same, same_text, says};
 pub use holding::HoldsFirst;
 pub use player::{Player, bears, lines_of, plays, plays_all, plays_cases};
 pub use table::{Case, cases};
-pub use table_line::{TableLine, tag};
+pub use table_line::TableLine;
 pub use waiting::{comes, stays_away};

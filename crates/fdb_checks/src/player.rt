@@ -13,7 +13,7 @@ pub trait Player {
 }
 
 /// Plays the calls of a text, one of which wants something. They stand in lines or between
-/// semicolons; a `#` begins a comment.
+/// semicolons; a `#` begins a comment, in which none stands.
 pub fn plays<P: Player>(alloc: Global, player: &mut P, text: &str) -> Result<(), CaseError> {
     plays_at(alloc, player, text, 0)
 }
@@ -40,27 +40,14 @@ pub fn lines_of(alloc: Global, text: &str, number: u64) -> Result<Vec<TableLine<
     if !text.contains("=>") {
         return Err(CaseError::Failed(Fail::new("a text that wants nothing")));
     }
-    for line in text.lines() {
-        if !line.starts_with('#') {
-            add_line(&mut lines, alloc, line, number)?;
+    for part in text.split(['\n', ';']) {
+        match part.trim_start().strip_prefix('*') {
+            Some(each) => add_each(&mut lines, alloc, each, number)?,
+            None if part.starts_with('#') => {}
+            None => add_part(&mut lines, alloc, part, number)?,
         }
     }
     Ok(lines)
-}
-
-fn add_line<'t>(
-    lines: &mut Vec<TableLine<'t>>,
-    alloc: Global,
-    line: &'t str,
-    number: u64,
-) -> Result<(), AllocError> {
-    for part in line.split(';') {
-        match part.trim_start().strip_prefix('*') {
-            None => add_part(lines, alloc, part, number)?,
-            Some(each) => add_each(lines, alloc, each, number)?,
-        }
-    }
-    Ok(())
 }
 
 fn add_each<'t>(
@@ -83,7 +70,9 @@ fn add_part<'t>(
 ) -> Result<(), AllocError> {
     for call in part.split(',') {
         if !call.trim().is_empty() {
-            lines.push(TableLine::at(alloc, call, place))?;
+            let mut line = TableLine::new(alloc, call);
+            line.place = place;
+            lines.push(line)?;
         }
     }
     Ok(())

@@ -1,21 +1,12 @@
 //! Tables of cases. Each line has some calls, what there is of something or how great it is, and
-//! the numbers of that at which the calls are made:
-//!
-//! ```text
-//! Sequence::clone | items | 0 few many
-//! ```
+//! the numbers of that at which the calls are made, between bars. `few` stands for numbers up to 101,
+//! and `many` for those beside 2^16.
 
-ghost use Rattle.std.specs.Prelude.{◌↔◌, ◌≡◌, Some, true, IsTrue, is_ok};
+ghost use Rattle.std.specs.Prelude.{◌≡◌, is_ok};
 
 use crate::case_error::CaseError;
 use std::alloc::Global;
 use std::test::Fail;
-
-/// What `few` stands for in a table: numbers up to 101.
-const FEW: &str = "1 2 5 6 64 101";
-
-/// What `many` stands for: numbers beside 2^16.
-const MANY: &str = "65535 65536 65537";
 
 /// Some calls, and a number at which they are made.
 #[derive(Clone, Copy)]
@@ -29,25 +20,16 @@ pub struct Case<'a> {
 }
 
 impl Case<'_> {
-    /// Fails where a call was refused memory, or the case failed.
-    pub fn ends(self, played: Result<(), CaseError>) -> Result<(), Fail> {
-        match played {
-            Err(CaseError::Memory) => self.came_to(None),
-            played => Ok(played?),
-        }
-    }
-
-    /// Fails where a call was refused, or something came of it that should not.
-    pub fn came_to(self, found: Option<bool>) -> Result<(), Fail>
-        ensures { IsTrue (is_ok result) ↔ (found ≡ Some true) }
+    /// Fails where the case failed, or a call was refused memory.
+    pub fn ends(self, played: Result<(), CaseError>) -> Result<(), Fail>
+        ensures { is_ok result ≡ is_ok played }
     {
-        let why = match found {
-            Some(true) => return Ok(()),
-            Some(false) => "wrong",
-            None => "refused",
-        };
         let Case { calls, number, .. } = self;
-        Err(Fail::new(format_args!("{why}: {calls}: {number}")))
+        match played {
+            Ok(()) => Ok(()),
+            Err(CaseError::Memory) => Err(Fail::new(format_args!("refused: {calls}: {number}"))),
+            Err(CaseError::Failed(fail)) => Err(fail),
+        }
     }
 }
 
@@ -56,7 +38,7 @@ pub fn cases<'a>(alloc: Global, table: &'a str) -> Result<Vec<Case<'a>>, Fail> {
     let mut cases = Vec::new(alloc);
     for line in table.lines() {
         if let Some((calls, numbers)) = line.rsplit_once('|') {
-            add_line(&mut cases, calls.trim(), numbers)?;
+            add_line(alloc, &mut cases, calls.trim(), numbers)?;
         }
     }
     if cases.is_empty() {
@@ -65,21 +47,17 @@ pub fn cases<'a>(alloc: Global, table: &'a str) -> Result<Vec<Case<'a>>, Fail> {
     Ok(cases)
 }
 
-/// Adds the cases of a line, among whose numbers `few` and `many` may stand.
-fn add_line<'a>(cases: &mut Vec<Case<'a>>, calls: &'a str, numbers: &str) -> Result<(), Fail> {
-    for word in numbers.split_whitespace() {
-        match word {
-            "few" => add_each(cases, calls, FEW)?,
-            "many" => add_each(cases, calls, MANY)?,
-            _ => add_each(cases, calls, word)?,
-        }
-    }
-    Ok(())
-}
-
-/// Adds a case for each number, and fails at a word that is none.
-fn add_each<'a>(cases: &mut Vec<Case<'a>>, calls: &'a str, numbers: &str) -> Result<(), Fail> {
+/// Adds a case for each number of a line, among which `few` and `many` may stand. Fails at a word that is
+/// none.
+fn add_line<'a>(
+    alloc: Global,
+    cases: &mut Vec<Case<'a>>,
+    calls: &'a str,
+    numbers: &str,
+) -> Result<(), Fail> {
     let of = calls.rsplit_once('|').map_or("", |parts| parts.1.trim());
+    let numbers = numbers.replace(alloc, "few", "1 2 5 6 64 101")?;
+    let numbers = numbers.replace(alloc, "many", "65535 65536 65537")?;
     for word in numbers.split_whitespace() {
         match word.parse() {
             Ok(number) => cases.push(Case { calls, of, number })?,

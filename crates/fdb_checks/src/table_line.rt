@@ -4,7 +4,7 @@
 
 use crate::case_error::CaseError;
 use fdb_history::{Priority, Tag};
-use std::alloc::{AllocError, Global};
+use std::alloc::Global;
 use std::fmt::Display;
 use std::str::SplitWhitespace;
 use std::test::Fail;
@@ -19,7 +19,7 @@ pub struct TableLine<'a> {
     /// The next word, where it was looked at already.
     ahead: Option<&'a str>,
     /// What `@0` stands for.
-    place: u64,
+    pub(crate) place: u64,
     /// What was said, with a blank behind each part.
     said: String,
     /// Whether the call was refused memory, and whether the test itself was.
@@ -30,19 +30,14 @@ pub struct TableLine<'a> {
 }
 
 impl<'a> TableLine<'a> {
-    /// A line of which no word is read.
+    /// A line of which no word is read, at place 0.
     pub fn new(alloc: Global, text: &'a str) -> TableLine<'a> {
-        TableLine::at(alloc, text, 0)
-    }
-
-    /// The same at a place, which is the number for `@0`.
-    pub fn at(alloc: Global, text: &'a str, place: u64) -> TableLine<'a> {
         TableLine {
             alloc,
             text,
             words: text.split_whitespace(),
             ahead: None,
-            place,
+            place: 0,
             said: String::new(alloc),
             refused: false,
             lacking: false,
@@ -60,25 +55,17 @@ impl<'a> TableLine<'a> {
 
     /// The next word, which there has to be.
     pub fn word(&mut self) -> &'a str {
-        match self.next_word() {
-            Some(word) => word,
-            None => {
-                self.fails("a word is missing");
-                ""
-            }
-        }
+        let word = self.next_word();
+        self.holds(word.is_some(), "a word is missing");
+        word.unwrap_or_default()
     }
 
     /// The next word, which has to be a whole number below 2^64.
     pub fn number(&mut self) -> u64 {
         let word = self.next_word().unwrap_or_default();
-        match self.value(word) {
-            Some(number) => number,
-            None => {
-                self.fails("no number");
-                0
-            }
-        }
+        let number = self.value(word);
+        self.holds(number.is_some(), "no number");
+        number.unwrap_or_default()
     }
 
     /// The number that a word stands for.
@@ -102,13 +89,9 @@ impl<'a> TableLine<'a> {
 
     /// The next word as the number of a client or a proxy, which fits 32 bits.
     pub fn who(&mut self) -> u32 {
-        match u32::try_from(self.number()) {
-            Ok(who) => who,
-            Err(_) => {
-                self.fails("no client's number");
-                0
-            }
-        }
+        let who = u32::try_from(self.number());
+        self.holds(who.is_ok(), "no client's number");
+        who.unwrap_or_default()
     }
 
     /// Whether the next word is the first of two, one of which it has to be.
@@ -132,8 +115,8 @@ impl<'a> TableLine<'a> {
 
     /// A tag of just the bytes of a word, or one of none where the test is refused memory.
     pub fn tag(&mut self, word: &str) -> Tag {
-        match tag(self.alloc, word) {
-            Ok(tag) => tag,
+        match Vec::from_slice(self.alloc, word.as_bytes()) {
+            Ok(bytes) => Tag::from(bytes),
             Err(_) => {
                 self.lacks();
                 Tag::new(self.alloc)
@@ -148,14 +131,9 @@ impl<'a> TableLine<'a> {
         }
     }
 
-    /// Forgets what was said.
-    pub fn hush(&mut self) {
-        self.said = String::new(self.alloc);
-    }
-
     /// Forgets what was said and that the call was refused memory. Its words are to be read anew.
     pub fn again(&mut self) {
-        self.hush();
+        self.said = String::new(self.alloc);
         self.refused = false;
         self.words = self.text.split_whitespace();
         self.ahead = None;
@@ -180,9 +158,7 @@ impl<'a> TableLine<'a> {
 
     /// Notes that the call was refused memory, if it was.
     pub fn takes<T: Drop, E: Drop>(&mut self, taken: Result<T, E>) {
-        if taken.is_err() {
-            self.refuse();
-        }
+        self.refused |= taken.is_err();
     }
 
     /// Notes that the test itself was refused memory.
@@ -195,64 +171,31 @@ impl<'a> TableLine<'a> {
         self.refused && !self.lacking && self.why.is_empty()
     }
 
-    /// Answers what was noted, if anything.
-    pub fn noted(&self) -> Result<(), CaseError> {
-        if !self.why.is_empty() {
-            return Err(CaseError::Failed(self.fail(self.why)));
-        }
-        match self.refused || self.lacking {
-            true => Err(CaseError::Memory),
-            false => Ok(()),
-        }
-    }
-
     /// Answers what was noted. Else it compares what was said, word by word, with what the line wants
     /// behind its `=>`. A line without an arrow wants nothing.
     pub fn ends(&self) -> Result<(), CaseError> {
-        self.noted()?;
-        if self.is_wanted() {
-            Ok(())
-        } else {
-            Err(CaseError::Failed(self.fail("said")))
+        if self.why.is_empty() && (self.refused || self.lacking) {
+            return Err(CaseError::Memory);
         }
-    }
-
-    /// Whether what was said is what the line wants.
-    fn is_wanted(&self) -> bool {
         let wanted = self.text.split_once("=>").map_or("", |parts| parts.1);
-        let mut words = wanted.split_whitespace();
+        let mut wanted = wanted.split_whitespace();
+        let mut is_wanted = self.why.is_empty();
         for word in self.said.split_whitespace() {
-            if !self.stands_for(words.next().unwrap_or_default(), word) {
-                return false;
-            }
+            is_wanted &= self.stands_for(wanted.next().unwrap_or_default(), word);
         }
-        words.next().is_none()
+        if is_wanted && wanted.next().is_none() {
+            return Ok(());
+        }
+        let (text, place, said, why) = (self.text, self.place, &self.said, self.why);
+        let fail = Fail::new(format_args!("{why} said {said}: {text} at {place}"));
+        Err(CaseError::Failed(fail))
     }
 
     /// Whether a word is another one, or stands for its number.
     fn stands_for(&self, wanted: &str, word: &str) -> bool {
-        if !wanted.starts_with('@') {
-            return word == wanted;
-        }
-        match (self.value(wanted), word.parse::<u64>()) {
-            (Some(number), Ok(found)) => number == found,
-            _ => false,
+        match self.value(wanted) {
+            Some(number) if wanted.starts_with('@') => word.parse() == Ok(number),
+            _ => word == wanted,
         }
     }
-
-    /// A failure for this reason, which shows the line, its place and what was said.
-    fn fail(&self, why: &str) -> Fail {
-        let TableLine {
-            text,
-            place,
-            said,
-            ..
-        } = self;
-        Fail::new(format_args!("{why}: {said}: {text} at {place}"))
-    }
-}
-
-/// A tag of just the bytes of a word.
-pub fn tag(alloc: Global, word: &str) -> Result<Tag, AllocError> {
-    Ok(Tag::from(Vec::from_slice(alloc, word.as_bytes())?))
 }

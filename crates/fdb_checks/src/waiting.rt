@@ -2,20 +2,11 @@
 
 use std::thread;
 
-/// How often a thread looks whether another has come so far.
-const LOOKS: u32 = 1_000_000;
-
-/// Waits for what another thread does. Answers whether it was seen before the looks ran out.
+/// Waits for what another thread does, for a million looks. Answers whether it was seen.
 pub fn comes<F: Fn() -> bool>(has_come: F) -> bool
     requires { F.IsAlwaysCallable has_come }
 {
-    for _ in 0..LOOKS {
-        if has_come() {
-            return true;
-        }
-        thread::yield_now();
-    }
-    false
+    !stays_away(1_000_000, has_come)
 }
 
 /// Looks so often whether another thread does something meanwhile. Answers whether it did not.

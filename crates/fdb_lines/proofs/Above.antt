@@ -9,7 +9,7 @@ use Rattle.fdb_lines.specs.declared.line.Line.{Line}
 use Rattle.fdb_lines.specs.declared.opts.AuditOpts.{AuditOpts}
 use Rattle.fdb_lines.specs.Carried.{AreLeftBelow}
 use Rattle.fdb_lines.specs.Faults.{is_drawn, is_raised, is_reported, knows, last, some_below, stands}
-use Rattle.fdb_lines.specs.Lines.{Case, Kind, client_at, draws, is_commit, is_read, is_report, kind_at, kind_of, line_at, reports, same_client, shows, version_at, version_of, lines_in}
+use Rattle.fdb_lines.specs.Lines.{Case, Kind, client_at, draws, is_commit, is_read, is_report, kind_at, kind_of, line_at, reports, may_be_same_client, shows, version_at, version_of, lines_in}
 use Rattle.fdb_lines.specs.Reasons.{shows_or_draws}
 use Rattle.fdb_lines.proofs.Carried.{at_part, before_part, drawn_is, known, lets, here, version_in, Rising}
 use Rattle.fdb_lines.proofs.Numbers.{greatest_bound, greatest_least, some_at, some_find}
@@ -135,13 +135,13 @@ module _ (lines : List Line) (places : List ℕ) (within : (i : ℕ) → i < len
         (λ j lj passes. grind (arith, nat_tests))
 
     abbrev own_by : Case → Line → Bool
-    own_by c line = some_below (λ j. draws (kind_at c j) && (version_at c j == version_of line.call && same_client (client_at c j) line.client)) (length c.lines)
+    own_by c line = some_below (λ j. draws (kind_at c j) && (version_at c j == version_of line.call && may_be_same_client (client_at c j) line.client)) (length c.lines)
 
     own : own_by one (line_at lines k) ≡ own_by all (line_at lines k)
     own =
         let line = line_at lines k in
-        some_same v left (λ j. draws (kind_at one j) && (version_at one j == v && same_client (client_at one j) line.client)) (λ j. draws (kind_at all j) && (version_at all j == v && same_client (client_at all j) line.client))
-        (λ j lj. ap (λ (l : Line). draws (kind_of l.call) && (version_of l.call == v && same_client l.client line.client)) (at_part lines places j lj))
+        some_same v left (λ j. draws (kind_at one j) && (version_at one j == v && may_be_same_client (client_at one j) line.client)) (λ j. draws (kind_at all j) && (version_at all j == v && may_be_same_client (client_at all j) line.client))
+        (λ j lj. ap (λ (l : Line). draws (kind_of l.call) && (version_of l.call == v && may_be_same_client l.client line.client)) (at_part lines places j lj))
         (λ j lj passes. grind (arith, nat_tests))
 
     abbrev twice_by : Case → Line → ℕ → Bool

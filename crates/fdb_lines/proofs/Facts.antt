@@ -2,7 +2,7 @@
 use Rattle.std.proofs.Common.{◌≡◌, ◌⊎◌, ℕ, ◌<◌, ◌≤◌, ◌==◌, nat_lt, Bool, true, false, ◌&&◌, length, arith}
 use Rattle.std.proofs.lemmas.Bool.{and_parts, and_from}
 use Rattle.std.proofs.lemmas.Bool.Decides.{nat_tests}
-use Rattle.fdb_lines.specs.Lines.{Read, Report, Case, kind_at, version_at, client_at, same_client, draws, reports, shows}
+use Rattle.fdb_lines.specs.Lines.{Read, Report, Case, kind_at, version_at, client_at, may_be_same_client, draws, reports, shows}
 use Rattle.fdb_lines.specs.declared.fault.Fault.TheVariants.{Order, Wrong, NotAbove, Stray}
 use Rattle.fdb_lines.specs.Faults.{IsFaultless, knows, last, is_reported, is_drawn}
 use Rattle.fdb_lines.specs.Order.{needs_ask, needs_report, IsRanked}
@@ -15,7 +15,7 @@ raises_it c v j = reports (kind_at c j) && (version_at c j == v && nat_lt (knows
 
 -- whether a line of a call's client draws its version
 abbrev pub draws_own : Case → ℕ → ℕ → Bool
-draws_own c k j = draws (kind_at c j) && (version_at c j == version_at c k && same_client (client_at c j) (client_at c k))
+draws_own c k j = draws (kind_at c j) && (version_at c j == version_at c k && may_be_same_client (client_at c j) (client_at c k))
 
 -- ---- what is known
 
@@ -49,7 +49,7 @@ no_wrong c none k lk is =
 
 pub no_stray : (c : Case) → IsFaultless c → (k : ℕ) → k < length c.lines → kind_at c k ≡ Report
     → ((is_drawn c (version_at c k) ≡ true)
-    × ((i : ℕ) × (i < length c.lines) × (draws (kind_at c i) ≡ true) × (version_at c i ≡ version_at c k) × (client_at c i ≡ client_at c k)))
+    × ((i : ℕ) × (i < length c.lines) × (draws (kind_at c i) ≡ true) × (version_at c i ≡ version_at c k) × (may_be_same_client (client_at c i) (client_at c k) ≡ true)))
     ⊎ ((c.complete ≡ false) × (is_drawn c (version_at c k) ≡ false) × (c.start < version_at c k))
 no_stray c none k lk is =
     let f = none Stray k lk in

@@ -43,3 +43,6 @@ pub mod SettledByKey
 pub mod KeptByKey
 pub mod Windows
 pub mod StillReasoned
+pub mod Permuted
+pub mod OnceTold
+pub mod GoneOn

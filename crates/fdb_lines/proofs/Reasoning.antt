@@ -1,5 +1,5 @@
 -- What the tables of a log say, and why a fault stands.
-use Rattle.std.proofs.Common.{◌≡◌, ℕ, max, ◌-◌, ◌<◌, ◌≤◌, ◌==◌, nat_lt, Bool, true, false, ◌&&◌, List, length, Option, None, Some, is_some, refl, ap, subst, sym, arith}
+use Rattle.std.proofs.Common.{◌≡◌, ℕ, zero, suc, max, ◌-◌, ◌<◌, ◌≤◌, ◌==◌, nat_lt, Bool, true, false, ◌&&◌, ◌||◌, List, length, Option, None, Some, is_some, refl, ap, subst, sym, arith}
 use Rattle.std.proofs.lemmas.Bool.Decides.{nat_tests}
 use Rattle.std.proofs.lemmas.List.Folds.{list_any_at}
 use Rattle.fdb_lines.specs.declared.fault.Fault.TheVariants.{Order, Wrong, NotAbove, Twice, Stray}
@@ -15,7 +15,7 @@ use Rattle.fdb_lines.specs.declared.tables.Made.{Made}
 use Rattle.fdb_lines.specs.Audit.{case_of, start_of}
 use Rattle.fdb_lines.specs.Before.{comes_before}
 use Rattle.fdb_lines.specs.Faults.{is_drawn, is_own, is_raised, knows, some_below, last, stands}
-use Rattle.fdb_lines.specs.Lines.{Case, Kind, Lines, Read, Commit, Ask, Report, Learn, client_at, draws, is_ask, is_commit, kind_at, kind_of, line_at, nobody, reports, shows, version_at}
+use Rattle.fdb_lines.specs.Lines.{Case, Kind, Lines, Read, Commit, Ask, Report, Learn, client_at, draws, is_ask, is_commit, kind_at, kind_of, line_at, may_be_same_client, nobody, reports, same_client, shows, version_at}
 use Rattle.fdb_lines.specs.Log.{lines_of}
 use Rattle.fdb_lines.specs.Reasons.{IsFirst, IsKnown, IsReason, draws_again, draws_it, reports_it, shows_or_draws}
 use Rattle.fdb_lines.specs.private.Entries.{other, IsFirstFrom}
@@ -91,15 +91,36 @@ raised_is log opts shown v first are =
     answered _ _ (length log.lines) first (λ j l. let knows = knows_is log opts shown j are l in grind (arith, nat_tests))
 
 -- who drew a version
-pub owned_is : (log : Lines) (opts : AuditOpts) (shown : List (Option Witness)) (k a : ℕ) (first : Option ℕ) → client_at (case_of log opts) k ≡ Some a
-    → IsFirstFrom (is_located_at Owned (start_of opts.complete) log.lines shown (name (version_at (case_of log opts) k) a)) 0 (length log.lines) first
-    → is_some first ≡ is_own (case_of log opts) k
-owned_is log opts shown k a first whose = answered _ _ (length log.lines) first (λ j l. grind (arith, nat_tests))
 
-pub nameless_is : (log : Lines) (opts : AuditOpts) (shown : List (Option Witness)) (k : ℕ) (first : Option ℕ) → client_at (case_of log opts) k ≡ None
-    → IsFirstFrom (is_located_at Nameless (start_of opts.complete) log.lines shown (name (version_at (case_of log opts) k) 0)) 0 (length log.lines) first
+-- some pass one test or another
+pub some_either : (one another either : ℕ → Bool) (n : ℕ) → ((j : ℕ) → j < n → (one j || another j) ≡ either j)
+    → (some_below one n || some_below another n) ≡ some_below either n
+some_either one another either zero same = refl
+some_either one another either (suc n) same =
+    let rest = some_either one another either n (λ j l. same j (omega (arith, l))) in
+    let here = same n (omega arith) in
+    grind arith
+
+-- a known client's version was drawn by it, or by one that is not known
+pub owned_is : (log : Lines) (opts : AuditOpts) (shown : List (Option Witness)) (k a : ℕ) (own nameless : Option ℕ) → client_at (case_of log opts) k ≡ Some a
+    → IsFirstFrom (is_located_at Owned (start_of opts.complete) log.lines shown (name (version_at (case_of log opts) k) a)) 0 (length log.lines) own
+    → IsFirstFrom (is_located_at Nameless (start_of opts.complete) log.lines shown (name (version_at (case_of log opts) k) 0)) 0 (length log.lines) nameless
+    → (is_some own || is_some nameless) ≡ is_own (case_of log opts) k
+owned_is log opts shown k a own nameless whose first other =
+    let c = case_of log opts in
+    let of_it : ℕ → Bool = λ j. draws (kind_at c j) && (version_at c j == version_at c k && same_client (client_at c j) (Some a)) in
+    let of_nobody : ℕ → Bool = λ j. draws (kind_at c j) && (version_at c j == version_at c k && same_client (client_at c j) None) in
+    let one = answered _ of_it (length log.lines) own (λ j l. grind (arith, nat_tests)) first in
+    let two = answered _ of_nobody (length log.lines) nameless (λ j l. grind (arith, nat_tests)) other in
+    let either = some_either of_it of_nobody (λ j. draws (kind_at c j) && (version_at c j == version_at c k && may_be_same_client (client_at c j) (client_at c k)))
+    (length log.lines) (λ j l. grind (arith, nat_tests)) in
+    grind arith
+
+-- the version of a client that is not known was drawn by anybody
+pub anybody_is : (log : Lines) (opts : AuditOpts) (k : ℕ) (first : Option ℕ) → client_at (case_of log opts) k ≡ None
+    → IsFirstFrom (draws_it (case_of log opts) (version_at (case_of log opts) k)) 0 (length log.lines) first
     → is_some first ≡ is_own (case_of log opts) k
-nameless_is log opts shown k first whose = answered _ _ (length log.lines) first (λ j l. grind (arith, nat_tests))
+anybody_is log opts k first whose = answered _ _ (length log.lines) first (λ j l. grind (arith, nat_tests))
 
 -- ---- drawn twice
 

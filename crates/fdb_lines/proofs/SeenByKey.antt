@@ -1,12 +1,11 @@
 -- What the watch of each key has seen, as lines come.
-use Rattle.std.proofs.Common.{◌≡◌, ◌≢◌, ◌==◌, ◌-◌, ℕ, zero, suc, ◌<◌, ◌≤◌, true, false, cond, List, [], ◌∷◌, ◌++◌, Option, None, length, map, set, get_or, slice_index, take, refl, ap, sym, subst, ◌∙◌, inl, inr, add-one, arith, append-nil, length-append}
+use Rattle.std.proofs.Common.{◌≡◌, ◌≢◌, ◌==◌, ℕ, zero, suc, ◌<◌, ◌≤◌, true, false, cond, List, [], ◌∷◌, ◌++◌, Option, None, length, map, set, get_or, slice_index, refl, ap, sym, subst, ◌∙◌, inl, inr, add-one, arith, append-nil, length-append}
 use Rattle.std.specs.List.{All}
 use Rattle.std.proofs.lemmas.Bool.{cases_eq, cases_lt, false_from_ne_true}
 use Rattle.std.proofs.lemmas.Bool.Decides.{nat_tests}
 use Rattle.std.proofs.lemmas.List.{get_or_append_left, get_or_default, get_or_push, get_or-map, get_or-set_other, get_or-set_same, length_push, length-map, length-set, map-append, map-set, map_push, set-get_or}
 use Rattle.std.proofs.lemmas.List.Elements.{All-append, All-cons, All-from_get_or, All-get_or, All-nil, All-set}
 use Rattle.std.proofs.lemmas.Simd.{map-map}
-use Rattle.std.proofs.Math.Seq.{take-append_seam}
 use Rattle.fdb_lines.specs.declared.key_part.KeyPart.{KeyPart}
 use Rattle.fdb_lines.specs.declared.line.Line.{Line}
 use Rattle.fdb_lines.specs.declared.reason.Finding.{Finding}
@@ -55,7 +54,7 @@ names_more keys key =
 
 -- ---- the lines of a key, with one line more
 
-in_more : (lines : List Line) (line : Line) (places : List ℕ) → ((i : ℕ) → i < length places → slice_index places i < length lines)
+pub in_more : (lines : List Line) (line : Line) (places : List ℕ) → ((i : ℕ) → i < length places → slice_index places i < length lines)
     → lines_in (lines ++ line ∷ []) places ≡ lines_in lines places
 in_more lines line [] within = refl
 in_more lines line (k ∷ places) within =
@@ -84,7 +83,7 @@ module _ (lines : List Line) (keys : List (Option ℕ)) (as_many : length keys �
   inside q i lt = let is = (place_is keys q (length keys) i lt).0 in omega arith
 
   -- of another key there are none
-  other_places : (q : Option ℕ) → same_key key q ≡ false → places_of names q ≡ places_of keys q
+  pub other_places : (q : Option ℕ) → same_key key q ≡ false → places_of names q ≡ places_of keys q
   other_places q other = places_more keys key q ∙ (ap (λ b. places_of keys q ++ cond {A = List ℕ} b (length keys ∷ []) []) other ∙ append-nil (places_of keys q))
 
   pub seen_other : (part : KeyPart) → same_key key part.key ≡ false → HasSeenOne lines keys part → HasSeenOne all names part
@@ -99,7 +98,7 @@ module _ (lines : List Line) (keys : List (Option ℕ)) (as_many : length keys �
       places_more keys key key
       ∙ (ap (λ b. places_of keys key ++ cond {A = List ℕ} b (length keys ∷ []) []) (same_self key) ∙ ap (λ n. places_of keys key ++ n ∷ []) as_many)
 
-  its_lines : lines_of_one all names key ≡ lines_of_one lines keys key ++ line ∷ []
+  pub its_lines : lines_of_one all names key ≡ lines_of_one lines keys key ++ line ∷ []
   its_lines = ap (lines_in all) its_places ∙ in_push lines line (places_of keys key) (inside key)
 
   its_numbers : (old new : KeyPart) → HasSeen old.watch (lines_of_one lines keys key) → old.numbers.items ≡ map (slice_index (places_of keys key)) old.watch.numbers.items
@@ -287,13 +286,7 @@ alike_first name margin horizon from line number old part each first =
     (All-cons (IsAlike margin horizon from) part [] (record { its_margin = first.alike.its_margin; its_horizon = first.alike.its_horizon; its_from = omega arith })
     (All-nil (IsAlike margin horizon from)))
 
--- ---- what was put at the end is taken away again
-
-pub popped : {X : Type 0} (xs : List X) (x : X) (ys zs : List X) (n : ℕ) → ys ≡ xs ++ x ∷ [] → n ≡ length ys → zs ≡ take (n - 1) ys → zs ≡ xs
-popped {X} xs x ys zs n pushed size is =
-    let one = length-append xs (x ∷ []) in
-    let last : n - 1 ≡ length xs = omega (arith, ap length pushed) in
-    is ∙ (ap (λ m. take m ys) last ∙ (ap (λ (l : List X). take (length xs) l) pushed ∙ take-append_seam xs (x ∷ [])))
+-- ---- a table that is the same
 
 pub numbered_same : (old new : ℕ → Option ℕ) (list : List (Option ℕ)) → AreNumbered old list → ((q : ℕ) → new q ≡ old q) → AreNumbered new list
 numbered_same old new list are same = record {
@@ -302,9 +295,6 @@ numbered_same old new list are same = record {
 }
 
 -- ---- each has settled as far as it had
-
-pub stay_same : (old new : List KeyPart) → new ≡ old → HaveStayed old new
-stay_same old new is = subst (HaveStayed old) (sym is) (λ i d lt. inl (lt, record { key = refl; from = refl; settled = refl }))
 
 pub stay_at : (place : ℕ) (old new : List KeyPart) → place < length old → StaysAt place old new → HaveStayed old new
 stay_at place old new lt (part, stay, same, is) = subst (HaveStayed old) (sym is) (λ i d less.

@@ -15,7 +15,7 @@ use Rattle.fdb_lines.specs.declared.watch.Watch.{Watch}
 use Rattle.fdb_lines.specs.Before.{began}
 use Rattle.fdb_lines.specs.KeyParts.{lines_of_one, names_of, HasSeenOne}
 use Rattle.fdb_lines.specs.Keys.{key_at, keys_of, places_of}
-use Rattle.fdb_lines.specs.KeyWatch.{AreTold, GoesOn, HasEntry, HasNothingToTell, IsToldOf}
+use Rattle.fdb_lines.specs.KeyWatch.{AreTold, GoesOn, HasEntry, HasNothingToTell, IsToldOf, KeepsOn}
 use Rattle.fdb_lines.specs.Lines.{Case, line_at, lines_in, nobody}
 use Rattle.fdb_lines.specs.Log.{lines_of}
 use Rattle.fdb_lines.specs.Watch.{due, judged_from, HasSeen, IsTold}
@@ -258,6 +258,28 @@ module _ (at : ℕ) (old : List KeyPart) (places : List ℕ) (nexts : List KeyPa
           numbers = g.numbers;
         };
   }
+
+  pub keeps_on : All (KeepsOn new) given
+  keeps_on j e lt =
+      let one = put.entries_too in
+      let two = next.entries_too in
+      let less : j < length places = omega arith in
+      let within = open_within old places open_are j 0 less in
+      let many = put.as_many in (
+        slice_index places j,
+        omega arith,
+        λ d.
+            let part = get_or old (slice_index places j) d in
+            let entry = get_or given j e in
+            let it = gone j d e less in
+            let numbers : entry.settled.numbers.items ≡ part.numbers.items = ap (λ (v : Vec ℕ Global). v.items) (put.its j d e less).numbers in
+            let size : length entry.settled.numbers.items ≡ length part.watch.numbers.items = ap length numbers ∙ part.as_many in
+            record {
+              key = it.0.key ∙ sym it.1;
+              numbers = it.0.numbers ∙ ap (λ (ns : List ℕ). map (slice_index ns) entry.settled.kept.items) (sym numbers);
+              within = λ k f here. let low = it.0.within k f here in omega arith;
+            },
+      )
 
   pub goes_on : (margin horizon from : ℕ) → from ≤ at → All (IsAlike margin horizon from) old
       → (lines : List Line) (keys : List (Option ℕ))

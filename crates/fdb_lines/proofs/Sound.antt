@@ -1,8 +1,8 @@
 -- No fault is invented: where some history explains the lines, none stands.
-use Rattle.std.proofs.Common.{◌≡◌, ◌≢◌, ◌⊎◌, ℕ, zero, suc, ◌<◌, true, false, ◌&&◌, List, length, Option, refl, ap, inl, inr, arith}
+use Rattle.std.proofs.Common.{◌≡◌, ◌≢◌, ◌⊎◌, ℕ, zero, suc, ◌<◌, true, false, ◌&&◌, List, length, refl, ap, inl, inr, arith}
 use Rattle.std.proofs.lemmas.Bool.{and_parts, false_from_ne_true}
 use Rattle.std.proofs.lemmas.Bool.Decides.{nat_tests}
-use Rattle.fdb_lines.specs.Lines.{Read, Report, Case, kind_at, version_at, client_at, draws, shows, same_client}
+use Rattle.fdb_lines.specs.Lines.{Read, Report, Case, kind_at, version_at, draws, shows}
 use Rattle.fdb_lines.specs.declared.effect.Effect.{Effect}
 use Rattle.fdb_lines.specs.declared.effect.Effect.TheVariants.{Asks, Reports, Reads}
 use Rattle.fdb_lines.specs.Explained.{Happens, ReportedBefore, IsMoment, Explains}
@@ -11,9 +11,6 @@ use Rattle.fdb_lines.specs.Faults.{stands, IsFaultless, knows, last, is_drawn, i
 use Rattle.fdb_lines.specs.Reasons.{draws_it, reports_it, draws_again}
 use Rattle.fdb_lines.proofs.Numbers.{greatest_among, some_at, some_find}
 use Rattle.fdb_lines.proofs.Facts.{raises_it, draws_own}
-
-same_client_from : (a b : Option ℕ) → a ≡ b → same_client a b ≡ true
-same_client_from a b e = grind (arith, nat_tests)
 
 module _ (c : Case) (history : List Effect) (e : Explains c history) where
   -- what a call knows was reported before it
@@ -110,7 +107,7 @@ module _ (c : Case) (history : List Effect) (e : Explains c history) where
       let own : is_drawn c (version_at c k) ≡ true → is_own c k ≡ true = λ drawn.
       let some = some_find (draws_it c (version_at c k)) (length c.lines) drawn in
       let by = e.owned some.0 k some.1 lk is (grind (arith, nat_tests)) (grind (arith, nat_tests)) in
-      let same = same_client_from (client_at c by.0) (client_at c k) by.4 in
+      let same = by.4 in
       some_at (draws_own c k) (length c.lines) by.0 by.1 (grind (arith, nat_tests)) in
       grind (arith, nat_tests))
   invented Wrong k lk = false_from_ne_true (stands c Wrong k) (λ f.

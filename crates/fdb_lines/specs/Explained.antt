@@ -3,7 +3,7 @@
 use Rattle.std.specs.Prelude.{◌≡◌, ◌≢◌, ◌⊎◌, ℕ, ◌<◌, ◌≤◌, ◌&&◌, ◌||◌, Bool, false, List, Some, slice_get, length, IsTrue}
 use Rattle.fdb_lines.specs.declared.effect.Effect.{Effect}
 use Rattle.fdb_lines.specs.declared.effect.Effect.TheVariants.{Asks, Reports, Reads}
-use Rattle.fdb_lines.specs.Lines.{Kind, Read, Commit, Ask, Report, Learn, Case, kind_at, version_at, client_at, draws, reports, shows, is_commit}
+use Rattle.fdb_lines.specs.Lines.{Kind, Read, Commit, Ask, Report, Learn, Case, kind_at, version_at, client_at, draws, reports, shows, is_commit, may_be_same_client}
 
 -- what happens at a moment of a history, counted from 0
 abbrev pub Happens : List Effect → ℕ → Effect → Type 0
@@ -67,11 +67,11 @@ pub record Explains (c : Case) (history : List Effect) : Type 0 where
   -- where a line precedes another, each of its moments comes before each of the other's
   pub ordered : (j k m n : ℕ) → j < length c.lines → k < length c.lines → IsTrue (precedes c j k)
       → IsMoment c asked took j m → IsMoment c asked took k n → m < n
-  -- a version is reported by who asked for it, where a line did
+  -- a version is reported by who asked for it, where a line did; who is not known may be anybody
   pub owned : (j k : ℕ) → j < length c.lines → k < length c.lines → kind_at c k ≡ Report → IsTrue (draws (kind_at c j))
       → version_at c j ≡ version_at c k
       → (i : ℕ) × (i < length c.lines) × IsTrue (draws (kind_at c i)) × (version_at c i ≡ version_at c k)
-      × (client_at c i ≡ client_at c k)
+      × IsTrue (may_be_same_client (client_at c i) (client_at c k))
   -- every other effect was done by callers who logged nothing, if the log may lack calls
   pub others : (m : ℕ) (effect : Effect) → Happens history m effect
       → ((k : ℕ) × (k < length c.lines) × IsMoment c asked took k m) ⊎ ((c.complete ≡ false) × OthersMay c effect)

@@ -2,7 +2,7 @@
 use Rattle.std.specs.Prelude.{◌≡◌, ℕ, zero, suc, max, ◌<◌, ◌==◌, ◌&&◌, ◌||◌, not, nat_lt, nat_le, Bool, false, cond, length}
 use Rattle.fdb_lines.specs.declared.fault.Fault.{Fault}
 use Rattle.fdb_lines.specs.declared.fault.Fault.TheVariants.{Order, Wrong, NotAbove, Twice, Stray}
-use Rattle.fdb_lines.specs.Lines.{Case, kind_at, version_at, client_at, is_read, is_commit, is_report, draws, reports, shows, same_client}
+use Rattle.fdb_lines.specs.Lines.{Case, kind_at, version_at, client_at, is_read, is_commit, is_report, draws, reports, shows, may_be_same_client}
 
 -- the greatest of the numbers below n that a test passes, and 0
 abbrev pub greatest_of : (ℕ → Bool) → (ℕ → ℕ) → ℕ → ℕ
@@ -20,7 +20,7 @@ knows c k = max c.start (greatest_of (λ j. c.before j k && shows (kind_at c j))
 abbrev pub last : Case → ℕ → ℕ
 last c k = greatest_of (λ j. c.before j k && draws (kind_at c j)) (version_at c) (length c.lines)
 
--- Whether a line reports a version, draws it, raises the register to it, or drew it and is of a call's client.
+-- Whether a line reports a version, draws it, raises the register to it, or drew it and may be of a call's client.
 abbrev pub is_reported : Case → ℕ → Bool
 is_reported c v = some_below (λ j. reports (kind_at c j) && version_at c j == v) (length c.lines)
 
@@ -31,7 +31,7 @@ abbrev pub is_raised : Case → ℕ → Bool
 is_raised c v = some_below (λ j. reports (kind_at c j) && (version_at c j == v && nat_lt (knows c j) v)) (length c.lines)
 
 abbrev pub is_own : Case → ℕ → Bool
-is_own c k = some_below (λ j. draws (kind_at c j) && (version_at c j == version_at c k && same_client (client_at c j) (client_at c k))) (length c.lines)
+is_own c k = some_below (λ j. draws (kind_at c j) && (version_at c j == version_at c k && may_be_same_client (client_at c j) (client_at c k))) (length c.lines)
 
 -- Whether another line drew a call's version, and not both are commits, which may share one.
 abbrev pub is_twice : Case → ℕ → Bool

@@ -8,6 +8,7 @@ pub mod Steps
 pub mod Audit
 pub mod Keys
 pub mod KeyOrders
+pub mod Judged
 pub mod Late
 pub mod Listing
 pub mod OrderSteps
@@ -19,4 +20,5 @@ pub mod Watching
 pub mod Watch
 pub mod KeyParts
 pub mod KeyWatch
+pub mod ToldByKey
 pub mod private

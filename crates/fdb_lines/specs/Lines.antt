@@ -99,6 +99,12 @@ same_client None (Some b) = false
 same_client (Some a) None = false
 same_client (Some a) (Some b) = a == b
 
+-- whether two callers may be one: who is not known may be anybody
+abbrev pub may_be_same_client : Option ℕ → Option ℕ → Bool
+may_be_same_client None b = true
+may_be_same_client (Some a) None = true
+may_be_same_client (Some a) (Some b) = a == b
+
 -- what stands past the last line: nothing
 abbrev pub nobody : Line
 nobody = record { client = None; call = LearnFrom 0; times = None }

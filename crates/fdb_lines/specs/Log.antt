@@ -20,6 +20,9 @@ abbrev pub is_nobody : Option ℕ → Bool
 is_nobody None = true
 is_nobody (Some a) = false
 
+abbrev pub no_lines : Lines
+no_lines = record { timed = false; lines = [] }
+
 -- Why a line is not taken, if it is not: the first that holds.
 abbrev pub refusal_of : Lines → Line → Option LineError
 refusal_of log line =

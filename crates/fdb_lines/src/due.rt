@@ -5,7 +5,6 @@ ghost use Rattle.fdb_lines.specs.Audit.{case_of};
 ghost use Rattle.fdb_lines.specs.Late.{HasLate};
 ghost use Rattle.fdb_lines.specs.Log.{lines_of};
 ghost use Rattle.fdb_lines.specs.Reasons.{found_of, HasReason};
-ghost use Rattle.fdb_lines.specs.Watching.{begins_before};
 ghost use Rattle.fdb_lines.specs.private.Due.{due_at, is_due_by, told_below};
 
 use crate::fault::Fault;
@@ -35,18 +34,8 @@ impl Due {
         ensures { result ≡ is_due_by self.now number line.now }
     {
         let began = line.began();
-        self.begins_before(line)
+        self.to.is_none_or(|to| began < to)
             && (self.from <= began || self.since <= number && self.early <= began)
-    }
-
-    /// Whether a call began before the last moment, if there is one.
-    fn begins_before(&self, line: &Line) -> bool
-        ensures { result ≡ begins_before self.now.to line.now }
-    {
-        match self.to {
-            Some(to) => line.began() < to,
-            None => true,
-        }
     }
 }
 

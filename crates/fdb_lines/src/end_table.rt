@@ -9,7 +9,7 @@ ghost use Rattle.fdb_lines.specs.Lines.{line_at};
 ghost use Rattle.fdb_lines.specs.declared.line.Line.{Line};
 ghost use Rattle.fdb_lines.specs.declared.exposure.Exposure.{Exposure};
 ghost use Rattle.fdb_lines.specs.private.EndTable.{comes_by, end_at, end_key, AreNewest};
-ghost use Rattle.fdb_lines.specs.private.EndTable.{AreSettled, IsFront, IsNewestAt};
+ghost use Rattle.fdb_lines.specs.private.EndTable.{IsFront, IsNewestAt};
 ghost use Rattle.fdb_lines.specs.private.Entries.{IsNewest};
 ghost use Rattle.fdb_lines.specs.private.Late.{outdates_by, sooner, IsFirstEnd};
 ghost use Rattle.fdb_lines.specs.private.Known.{moment, stands_in, version_in, AreEnds};
@@ -30,14 +30,15 @@ const NEAR: usize = 1_024;
 pub(crate) struct EndTable {
     ends: Vec<End>,
     newest: Vec<u32>,
+    ghost in_order: { IsNonDecreasingBy end_key ends.items },
+    ghost are_newest: { AreNewest ends.items newest.items },
 }
 
 impl EndTable {
     /// A table of these. `n log n` in how many there are.
     pub(crate) fn new(alloc: Global, mut ends: Vec<End>) -> Result<EndTable, AllocError>
         requires { length ends.items ≤ 4294967295 }
-        ensures settled { IfOk result (λ table. AreSettled table) }
-        ensures same { IfOk result (λ table. IsPermutation ends.items table.ends.items) }
+        ensures { IfOk result (λ table. IsPermutation ends.items table.ends.items) }
     {
         ends.sort_unstable_by(|a, b| order(a, b));
         let newest = newest_of(alloc, &ends)?;
@@ -52,7 +53,6 @@ impl EndTable {
         place: u32,
         near: &mut usize,
     ) -> Option<u32>
-        requires { AreSettled self.now }
         ensures { (by_client : Bool) (seen : Exposure) (lines : List Line)
             → AreEnds by_client seen lines (length lines) self.now.ends.items
             → IsNewest (λ j. stands_in by_client seen (line_at lines j) j (moment group time place))
@@ -65,7 +65,6 @@ impl EndTable {
     /// The first end of a table of one group that outdates a version, if any does. The newest up to
     /// each end rises, so that it is a search. Logarithmic.
     pub(crate) fn first_that(&self, fault: Fault, version: u64) -> Option<End>
-        requires { AreSettled self.now }
         ensures { (seen : Exposure) (lines : List Line)
             → AreEnds false seen lines (length lines) self.now.ends.items
             → IsFirstEnd (outdates_by fault seen lines version) lines result }
@@ -85,7 +84,6 @@ impl EndTable {
     /// Where the newest of a group before a moment stands in the table. It is looked for first near
     /// the place that the last search left there.
     fn newest_end(&self, group: u32, time: u64, place: u32, near: &mut usize) -> Option<usize>
-        requires { AreSettled self.now }
         ensures { IsNewest (λ i. comes_by (moment group time place) (end_at self.now.ends.items i))
             (λ i. (end_at self.now.ends.items i).version) (length self.now.ends.items) result }
     {

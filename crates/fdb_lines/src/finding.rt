@@ -1,113 +1,85 @@
 //! Which faults stand at the lines of a log, listed line by line, and why.
 
-ghost use Rattle.std.specs.Prelude.{◌≡◌, ◌<◌, ◌≤◌, ◌↔◌, All, None, IfOk, IfSome, OnOk};
-ghost use Rattle.std.specs.Prelude.{length, map, option_map, slice_get};
+ghost use Rattle.std.specs.Prelude.{◌≡◌, ◌<◌, ◌≤◌, ◌↔◌, None, IfOk, OnOk, length, option_copied};
 ghost use Rattle.fdb_lines.specs.Audit.{case_of, AreExplained};
-ghost use Rattle.fdb_lines.specs.Listing.{faults_at, faults_of, found_if};
-ghost use Rattle.fdb_lines.specs.Late.{HasLate};
+ghost use Rattle.fdb_lines.specs.Judged.{AreAll, AreExplainedIn, HaveKeys, IsFirstFound};
+ghost use Rattle.fdb_lines.specs.Listing.{faults_at, found_if};
 ghost use Rattle.fdb_lines.specs.Log.{lines_of};
-ghost use Rattle.fdb_lines.specs.Reasons.{found_of, HasReason};
-ghost use Rattle.fdb_lines.specs.private.Tables.{case_in, AreTables, IsFirstBetween, ListsMore};
+ghost use Rattle.fdb_lines.specs.private.Tables.{case_in, AreTables, IsFirstIn, ListsMore};
 
 use crate::fault::{Fault, Found};
+use crate::keys::findings_by_key;
 use crate::log::Log;
 use crate::opts::AuditOpts;
 use crate::reason::Finding;
 use crate::reasons::{late_of, reason_of};
-use crate::tables::{Made, Tables};
+use crate::tables::Tables;
 use crate::tables_of::{tables_by, tables_of};
 use std::alloc::{AllocError, Global};
 use std::thread::{Threads, join};
 
-/// The faults of a log: each once, by line, and at a line in the order of [`Fault`]. There is
-/// none exactly where some history explains the lines. An error only where memory is refused.
+/// The faults of a log: each once, by line, and at a line in the order of [`Fault`], with why it
+/// stands, and of a stale read or a version that is not above others by how much it is late. There
+/// is none exactly where some history explains the lines. An error only where memory is refused.
 ///
-/// `n log n` in how many lines there are.
-pub fn faults(alloc: Global, log: &Log, opts: &AuditOpts) -> Result<Vec<Found>, AllocError>
-    ensures listed { IfOk result
-        (λ found. found.items ≡ faults_of (case_of (lines_of log.now) opts.now)) }
-    ensures explained { IfOk result
-        (λ found. length found.items ≡ 0 ↔ AreExplained (case_of (lines_of log.now) opts.now)) }
-{
-    let findings = findings(alloc, log, opts)?;
-    let mut found = Vec::with_capacity(alloc, findings.len())?;
-    for finding in &findings {
-        found.push(finding.found)?;
-    }
-    Ok(found)
-}
-
-/// The first fault of a log, if there is one. There is none exactly where some history explains
-/// the lines. An error only where memory is refused.
+/// Where lines have keys, or none, each key is a register of its own, and lines without one are of
+/// one register too: the lines of each are judged as a log of their own, and told of the whole log.
+/// In a log without times what is learnt counts within each key alone.
 ///
-/// `n log n` in how many lines there are.
-pub fn first_fault(alloc: Global, log: &Log, opts: &AuditOpts) -> Result<Option<Found>, AllocError>
-    ensures first { IfOk result
-        (λ first. first ≡ slice_get (faults_of (case_of (lines_of log.now) opts.now)) 0) }
-    ensures explained { IfOk result
-        (λ first. first ≡ None ↔ AreExplained (case_of (lines_of log.now) opts.now)) }
+/// `n log n` in how many lines there are, whatever the keys, and however many faults.
+pub fn findings(
+    alloc: Global,
+    log: &Log,
+    keys: Option<&[Option<u32>]>,
+    opts: &AuditOpts,
+) -> Result<Vec<Finding>, AllocError>
+    requires { HaveKeys (lines_of log.now) (option_copied keys) }
+    ensures all { IfOk result
+        (λ found. AreAll (lines_of log.now) (option_copied keys.entry) opts.now found.items) }
+    ensures explained { IfOk result (λ found. length found.items ≡ 0
+        ↔ AreExplainedIn (lines_of log.now) (option_copied keys.entry) opts.now) }
 {
-    match first_finding(alloc, log, opts)? {
-        Some(first) => Ok(Some(first.found)),
-        None => Ok(None),
+    match keys {
+        Some(keys) => findings_by_key(alloc, log, keys, opts),
+        None => findings_of(alloc, log, opts),
     }
 }
 
-/// The faults of a log, as [`faults`] lists them, each with why it stands, and of a stale read or a
-/// version that is not above others by how much it is late. An error only where memory is refused.
-///
-/// `n log n` in how many lines there are, however many faults.
-pub fn findings(alloc: Global, log: &Log, opts: &AuditOpts) -> Result<Vec<Finding>, AllocError>
-    ensures listed { IfOk result (λ findings. map found_of findings.items
-        ≡ faults_of (case_of (lines_of log.now) opts.now)) }
-    ensures explained { IfOk result (λ findings. length findings.items ≡ 0
-        ↔ AreExplained (case_of (lines_of log.now) opts.now)) }
-    ensures reasons { IfOk result
-        (λ findings. All (HasReason (lines_of log.now) opts.now) findings.items) }
-    ensures late { IfOk result
-        (λ findings. All (HasLate (lines_of log.now) opts.now) findings.items) }
-{
-    let made = tables_of(alloc, log, opts)?;
-    let tables = Tables::new(log, opts, &made);
-    findings_in(alloc, &tables)
-}
-
-/// The first fault of a log, if there is one, with why it stands. An error only where memory is
+/// The first fault of a log, if there is one, as [`findings`] has it. An error only where memory is
 /// refused.
 ///
-/// `n log n` in how many lines there are.
+/// `n log n` in how many lines there are, whatever the keys.
 pub fn first_finding(
     alloc: Global,
     log: &Log,
+    keys: Option<&[Option<u32>]>,
     opts: &AuditOpts,
 ) -> Result<Option<Finding>, AllocError>
-    ensures first { IfOk result (λ first. option_map found_of first
-        ≡ slice_get (faults_of (case_of (lines_of log.now) opts.now)) 0) }
-    ensures explained { IfOk result
-        (λ first. first ≡ None ↔ AreExplained (case_of (lines_of log.now) opts.now)) }
-    ensures reason { IfOk result
-        (λ first. IfSome first (HasReason (lines_of log.now) opts.now)) }
-    ensures late { IfOk result (λ first. IfSome first (HasLate (lines_of log.now) opts.now)) }
+    requires { HaveKeys (lines_of log.now) (option_copied keys) }
+    ensures first { IfOk result
+        (IsFirstFound (lines_of log.now) (option_copied keys.entry) opts.now) }
+    ensures explained { IfOk result (λ first. first ≡ None
+        ↔ AreExplainedIn (lines_of log.now) (option_copied keys.entry) opts.now) }
 {
-    let made = tables_of(alloc, log, opts)?;
-    let tables = Tables::new(log, opts, &made);
-    first_between(alloc, &tables, 0, log.lines().len())
+    match keys {
+        Some(_) => {
+            let found = findings(alloc, log, keys, opts)?;
+            Ok(found.first().copied())
+        }
+        None => first_of(alloc, log, opts),
+    }
 }
 
-/// The first fault of a log, as [`first_finding`] finds it, by threads.
+/// The first fault of a log without keys, by threads.
 pub fn first_finding_by<R: Threads + Sync>(
     rt: &R,
     alloc: Global,
     log: &Log,
     opts: &AuditOpts,
 ) -> Result<Option<Finding>, AllocError>
-    ensures first { IfOk result (λ first. option_map found_of first
-        ≡ slice_get (faults_of (case_of (lines_of log.now) opts.now)) 0) }
+    ensures first { IfOk result (IsFirstFound (lines_of log.now) None opts.now) }
     ensures explained { IfOk result
         (λ first. first ≡ None ↔ AreExplained (case_of (lines_of log.now) opts.now)) }
-    ensures reason { IfOk result
-        (λ first. IfSome first (HasReason (lines_of log.now) opts.now)) }
-    ensures late { IfOk result (λ first. IfSome first (HasLate (lines_of log.now) opts.now)) }
 {
     let tables = tables_by(rt, alloc, log, opts)?;
     let made = &tables;
@@ -118,24 +90,12 @@ pub fn first_finding_by<R: Threads + Sync>(
         || -> Result<Option<Finding>, AllocError>
             requires { AreTables (lines_of log.now) opts.now made.now
                 × (half ≤ length (lines_of log.now).lines) }
-            ensures first { IfOk result
-                (λ first. IsFirstBetween (case_of (lines_of log.entry.now) opts.entry.now)
-                0 half (option_map found_of first)) }
-            ensures reason { IfOk result
-                (λ first. IfSome first (HasReason (lines_of log.entry.now) opts.entry.now)) }
-            ensures late { IfOk result
-                (λ first. IfSome first (HasLate (lines_of log.entry.now) opts.entry.now)) }
+            ensures { IfOk result (IsFirstIn (lines_of log.entry.now) opts.entry.now 0 half) }
         { first_between(alloc, &Tables::new(log, opts, made), 0, half) },
         || -> Result<Option<Finding>, AllocError>
             requires { AreTables (lines_of log.now) opts.now made.now
                 × (half ≤ all) × (all ≡ length (lines_of log.now).lines) }
-            ensures first { IfOk result
-                (λ first. IsFirstBetween (case_of (lines_of log.entry.now) opts.entry.now)
-                half all (option_map found_of first)) }
-            ensures reason { IfOk result
-                (λ first. IfSome first (HasReason (lines_of log.entry.now) opts.entry.now)) }
-            ensures late { IfOk result
-                (λ first. IfSome first (HasLate (lines_of log.entry.now) opts.entry.now)) }
+            ensures { IfOk result (IsFirstIn (lines_of log.entry.now) opts.entry.now half all) }
         { first_between(alloc, &Tables::new(log, opts, made), half, all) },
     );
     let above = above?;
@@ -146,16 +106,38 @@ pub fn first_finding_by<R: Threads + Sync>(
     }
 }
 
+/// The faults of a log as of one register.
+pub(crate) fn findings_of(
+    alloc: Global,
+    log: &Log,
+    opts: &AuditOpts,
+) -> Result<Vec<Finding>, AllocError>
+    ensures all { IfOk result (λ found. AreAll (lines_of log.now) None opts.now found.items) }
+    ensures explained { IfOk result (λ found. length found.items ≡ 0
+        ↔ AreExplained (case_of (lines_of log.now) opts.now)) }
+{
+    let made = tables_of(alloc, log, opts)?;
+    let tables = Tables::new(log, opts, &made);
+    findings_in(alloc, &tables)
+}
+
+/// The first fault of a log as of one register.
+fn first_of(alloc: Global, log: &Log, opts: &AuditOpts) -> Result<Option<Finding>, AllocError>
+    ensures first { IfOk result (IsFirstFound (lines_of log.now) None opts.now) }
+    ensures explained { IfOk result
+        (λ first. first ≡ None ↔ AreExplained (case_of (lines_of log.now) opts.now)) }
+{
+    let made = tables_of(alloc, log, opts)?;
+    let tables = Tables::new(log, opts, &made);
+    first_between(alloc, &tables, 0, log.lines().len())
+}
+
 /// The faults of a log, by its tables.
 pub(crate) fn findings_in(alloc: Global, tables: &Tables<'_>) -> Result<Vec<Finding>, AllocError>
-    ensures listed { IfOk result (λ findings. map found_of findings.items
-        ≡ faults_of (case_in tables.now)) }
+    ensures all { IfOk result (λ findings. AreAll (lines_of tables.now.log) None
+        tables.now.opts findings.items) }
     ensures explained { IfOk result (λ findings. length findings.items ≡ 0
         ↔ AreExplained (case_in tables.now)) }
-    ensures reasons { IfOk result (λ findings. All (HasReason (lines_of tables.now.log)
-        tables.now.opts) findings.items) }
-    ensures late { IfOk result (λ findings. All (HasLate (lines_of tables.now.log)
-        tables.now.opts) findings.items) }
 {
     let mut findings = Vec::new(alloc);
     for place in 0..tables.lines().len() {
@@ -172,12 +154,7 @@ fn first_between(
     to: usize,
 ) -> Result<Option<Finding>, AllocError>
     requires range { (from ≤ to) × (to ≤ length (case_in tables.now).lines) }
-    ensures first { IfOk result (λ first. IsFirstBetween (case_in tables.now)
-        from to (option_map found_of first)) }
-    ensures reason { IfOk result
-        (λ first. IfSome first (HasReason (lines_of tables.now.log) tables.now.opts)) }
-    ensures late { IfOk result
-        (λ first. IfSome first (HasLate (lines_of tables.now.log) tables.now.opts)) }
+    ensures { IfOk result (IsFirstIn (lines_of tables.now.log) tables.now.opts from to) }
 {
     let mut findings = Vec::new(alloc);
     for place in from..to {

@@ -1,4 +1,4 @@
-//! The order that explains the lines of a key.
+//! Orders that explain lines.
 
 use crate::step::OrderStep;
 
@@ -9,4 +9,13 @@ pub struct KeyOrder {
     pub key: Option<u32>,
     /// Each step's line is told at its place in the whole log.
     pub steps: Vec<OrderStep>,
+}
+
+/// An order that explains all lines of a log, or one for each key.
+#[derive(Debug, Drop)]
+pub enum Order {
+    /// Of lines without keys.
+    One(Vec<OrderStep>),
+    /// In the order of the first lines of the keys.
+    ByKey(Vec<KeyOrder>),
 }

@@ -1,49 +1,39 @@
 //! For each key of a log, an order that explains its lines.
 
-ghost use Rattle.std.specs.Prelude.{◌≡◌, ◌≢◌, All, IfErr, IfOk, OnErr, OnOk, length, map};
-ghost use Rattle.fdb_lines.specs.Keys.{faults_by_key, keys_of, AreExplainedByKey};
-ghost use Rattle.fdb_lines.specs.Keys.{HasLateByKey, HasReasonByKey};
-ghost use Rattle.fdb_lines.specs.KeyOrders.{placed_step, IsOrderOfKey};
+ghost use Rattle.std.specs.Prelude.{◌≡◌, ◌≢◌, IfErr, IfOk, OnErr, OnOk, Some, length, map};
+ghost use Rattle.fdb_lines.specs.Judged.{AreAll, AreOrders};
+ghost use Rattle.fdb_lines.specs.Keys.{AreExplainedByKey};
+ghost use Rattle.fdb_lines.specs.KeyOrders.{placed_step};
 ghost use Rattle.fdb_lines.specs.Log.{lines_of};
-ghost use Rattle.fdb_lines.specs.Reasons.{found_of};
 
 use crate::key_order::KeyOrder;
 use crate::keys::{add_placed, place_in, sort_by_line};
 use crate::log::Log;
 use crate::opts::AuditOpts;
-use crate::ordering::order_or_findings;
+use crate::ordering::order_of;
 use crate::parts::parts_of;
 use crate::reason::Finding;
 use crate::step::OrderStep;
 use std::alloc::{AllocError, Global};
 
-/// For each key of a log, in the order of its first line, an order of the effects of its lines that
-/// explains them; where the lines of some key have none, all faults, as
-/// [`findings_by_key`](crate::findings_by_key) tells them. An error only where memory is refused.
-///
-/// `n log n` in how many lines there are, whatever the keys.
-pub fn orders_by_key(
+/// For each key of a log, in the order of its first line, an order that explains its lines; where
+/// the lines of some key have none, all faults.
+pub(crate) fn orders_by_key(
     alloc: Global,
     log: &Log,
     keys: &[Option<u32>],
     opts: &AuditOpts,
 ) -> Result<Result<Vec<KeyOrder>, Vec<Finding>>, AllocError>
     requires as_many { length keys.now ≡ length (lines_of log.now).lines }
-    ensures keys { IfOk result
-        (λ it. IfOk it (λ orders. map (λ order. order.key) orders.items ≡ keys_of keys.now)) }
-    ensures explains { IfOk result (λ it. IfOk it
-        (λ orders. All (IsOrderOfKey (lines_of log.now) keys.now opts.now) orders.items)) }
+    ensures orders { IfOk result (λ it. IfOk it
+        (λ orders. AreOrders (lines_of log.now) keys.now opts.now orders.items)) }
     ensures explained { IfOk result
         (λ it. OnOk it (AreExplainedByKey (lines_of log.now) keys.now opts.now)) }
     ensures unexplained { IfOk result
         (λ it. OnErr it (¬ (AreExplainedByKey (lines_of log.now) keys.now opts.now))) }
-    ensures listed { IfOk result (λ it. IfErr it (λ found. map found_of found.items
-        ≡ faults_by_key (lines_of log.now) keys.now opts.now)) }
+    ensures all { IfOk result (λ it. IfErr it
+        (λ found. AreAll (lines_of log.now) (Some keys.now) opts.now found.items)) }
     ensures some { IfOk result (λ it. IfErr it (λ found. length found.items ≢ 0)) }
-    ensures reasons { IfOk result (λ it. IfErr it
-        (λ found. All (HasReasonByKey (lines_of log.now) keys.now opts.now) found.items)) }
-    ensures late { IfOk result (λ it. IfErr it
-        (λ found. All (HasLateByKey (lines_of log.now) keys.now opts.now) found.items)) }
 {
     let parts = parts_of(alloc, keys)?;
     let mut orders = Vec::with_capacity(alloc, parts.len())?;
@@ -51,7 +41,7 @@ pub fn orders_by_key(
     for part in 0..parts.len() {
         let places = &parts[part].places;
         let lines = log.part(alloc, places)?;
-        match order_or_findings(alloc, &lines, opts)? {
+        match order_of(alloc, &lines, opts)? {
             Ok(steps) => {
                 let steps = placed_steps(alloc, places, &steps)?;
                 let key = parts[part].key;

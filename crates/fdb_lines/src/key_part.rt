@@ -55,9 +55,7 @@ pub(crate) struct NextPart {
 }
 
 impl KeyPart {
-    ghost use Rattle.fdb_lines.specs.declared.watch.WatchError.TheVariants.{NoTimes};
     ghost use Rattle.fdb_lines.specs.KeyParts.{HasStayed};
-    ghost use Rattle.fdb_lines.specs.Lines.{has_times};
     ghost use Rattle.fdb_lines.specs.private.KeyParts.{kept_of, HasNoMore, HasOneMore, IsAlike};
     ghost use Rattle.fdb_lines.specs.private.KeyParts.{IsNext};
 
@@ -80,20 +78,19 @@ impl KeyPart {
     pub(crate) fn push(&mut self, line: Line, number: u64) -> Result<(), WatchError>
         ensures ok { OnOk result (HasOneMore line number self.old self.new) }
         ensures err { OnErr result (HasNoMore self.old self.new) }
-        ensures untimed { IfErr result (λ error. error ≡ NoTimes → has_times line ≡ false) }
         ensures opened { self.new.is_open ≡ true }
         ensures stays { HasStayed self.old self.new }
         ensures alike { let was = self.old.watch in
             IsAlike was.margin was.horizon was.from self.new }
     {
         self.is_open = true;
-        if let Err(_refused) = self.numbers.push(number) {
+        if self.numbers.reserve(1).is_err() {
             return Err(WatchError::Line(LineError::Memory));
         }
         if let Err(error) = self.watch.push(line) {
-            self.numbers.pop();
             return Err(error);
         }
+        self.numbers.push_reserved(number);
         Ok(())
     }
 
@@ -101,7 +98,7 @@ impl KeyPart {
     pub(crate) fn add_kept(&self, kept: &mut Vec<KeptLine>) -> Result<(), AllocError>
         ensures { OnOk result (kept.new.items ≡ kept.old.items ++ kept_of self.now) }
     {
-        let lines = self.watch.lines();
+        let lines = self.watch.log.lines();
         for (place, number) in self.numbers.iter().enumerate() {
             kept.push(KeptLine {
                 number: *number,
@@ -153,6 +150,7 @@ impl KeyPart {
             → IsTold self.watch None lines self.watch.numbers.items it.settled.found.items) }
         ensures log { IfOk result (λ it. it.settled.log ≡ self.watch.log) }
         ensures numbers { IfOk result (λ it. it.settled.numbers ≡ self.numbers) }
+        ensures kept { IfOk result (λ it. it.settled.kept.items ≡ []) }
     {
         let mut settled = self.watch.finish(alloc)?;
         settled.numbers = self.numbers;

@@ -2,12 +2,10 @@
 //! settle.
 
 ghost use Rattle.std.specs.Prelude.{◌≡◌, ◌≢◌, ◌<◌, All, IfErr, IfOk, OnErr, OnOk};
-ghost use Rattle.std.specs.Prelude.{None, false, length};
+ghost use Rattle.std.specs.Prelude.{None, [], false, length};
 ghost use Rattle.std.specs.List.{AllPairs, filter, flat_map};
-ghost use Rattle.fdb_lines.specs.declared.watch.WatchError.TheVariants.{NoTimes};
-ghost use Rattle.fdb_lines.specs.Lines.{has_times};
 ghost use Rattle.fdb_lines.specs.private.KeyParts.{flag_at, flags_of, AreEntries, AreNext, AreOpen};
-ghost use Rattle.fdb_lines.specs.private.KeyParts.{ArePut, HasNoMoreAt, HasOneMoreAt, IsFirst};
+ghost use Rattle.fdb_lines.specs.private.KeyParts.{ArePut, HasNoMoreAt, HasOneMoreAt};
 ghost use Rattle.fdb_lines.specs.private.KeyParts.{kept_of, StaysAt};
 
 use crate::key_part::{KeptLine, KeyPart, SettledKey};
@@ -36,7 +34,6 @@ pub(crate) fn add_line(
     requires opened { AreOpen (flags_of parts.old.items) open_parts.old.items }
     ensures opened { AreOpen (flags_of parts.new.items) open_parts.new.items }
     ensures stays { StaysAt place parts.old.items parts.new.items }
-    ensures untimed { IfErr result (λ error. error ≡ NoTimes → has_times line ≡ false) }
     ensures ok { OnOk result (HasOneMoreAt place line number parts.old.items parts.new.items) }
     ensures err { OnErr result (HasNoMoreAt place parts.old.items parts.new.items) }
 {
@@ -46,25 +43,6 @@ pub(crate) fn add_line(
         }
     }
     parts[place].push(line, number)
-}
-
-/// The part of a key with its first line.
-pub(crate) fn first_part(
-    alloc: Global,
-    key: Option<u32>,
-    margin: u64,
-    horizon: u64,
-    line: Line,
-    number: u64,
-) -> Result<KeyPart, WatchError>
-    ensures first { IfOk result (IsFirst key margin horizon line number) }
-    ensures untimed { IfErr result (λ error. error ≡ NoTimes → has_times line ≡ false) }
-{
-    let mut part = KeyPart::new(alloc, key, margin, horizon);
-    if let Err(error) = part.push(line, number) {
-        return Err(error);
-    }
-    Ok(part)
 }
 
 /// How the parts at some places go on once they have settled up to a moment, and what they tell.
@@ -128,7 +106,9 @@ pub(crate) fn finish_parts(
 ) -> Result<Vec<SettledKey>, AllocError>
     requires within { All (λ i. i < length parts.items) places.now }
     requires once { AllPairs (λ i j. i ≢ j) places.now }
-    ensures { IfOk result (λ told. AreEntries None parts.items places.now told.items) }
+    ensures entries { IfOk result (λ told. AreEntries None parts.items places.now told.items) }
+    ensures kept { IfOk result (λ told.
+        All (λ entry. entry.settled.kept.items ≡ []) told.items) }
 {
     let mut told = Vec::with_capacity(alloc, places.len())?;
     for place in places {

@@ -1,24 +1,26 @@
 //! An audit that watches a log with keys: each key is watched by itself.
 
 ghost use Rattle.std.specs.Prelude.{◌≡◌, ◌⊎◌, ◌<◌, ◌≤◌, ◌++◌, ◌∷◌, ℕ, All, List, IfErr, IfOk};
-ghost use Rattle.std.specs.Prelude.{[], None, OnErr, OnOk, Option, Some, false, true};
+ghost use Rattle.std.specs.Prelude.{[], IfSome, None, OnErr, OnOk, Option, Some, false, true};
 ghost use Rattle.std.specs.Prelude.{◌↔◌, ◌==◌, cond, length, max, slice_index_or};
+ghost use Rattle.std.specs.Prelude.{IsPermutation};
 ghost use Rattle.std.specs.BTreeMap.{get};
 ghost use Rattle.std.specs.Ordering.{nat_cmp};
+ghost use Rattle.fdb_lines.specs.declared.fault.Found.{Found};
 ghost use Rattle.fdb_lines.specs.declared.key_part.KeyPart.{KeyPart};
 ghost use Rattle.fdb_lines.specs.declared.line.Line.{Line};
+ghost use Rattle.fdb_lines.specs.Before.{began};
 ghost use Rattle.fdb_lines.specs.KeyParts.{names_of, HaveStayed};
 ghost use Rattle.fdb_lines.specs.Keys.{key_at};
-ghost use Rattle.fdb_lines.specs.Lines.{has_times};
+ghost use Rattle.fdb_lines.specs.Lines.{has_times, Lines};
+ghost use Rattle.fdb_lines.specs.Log.{refusal_of};
 ghost use Rattle.fdb_lines.specs.private.Keys.{number_of, AreNumbered};
 ghost use Rattle.fdb_lines.specs.private.KeyParts.{flags_of, AreOpen, IsAlike};
 
 use crate::key_part::{KeptLine, KeyPart, SettledKey};
-use crate::key_parts::{
-    add_line, finish_parts, first_part, keep_open, kept_lines, next_parts, put_parts,
-};
+use crate::key_parts::{add_line, finish_parts, keep_open, kept_lines, next_parts, put_parts};
 use crate::line::Line;
-use crate::log::LineError;
+use crate::log::{LineError, Log};
 use crate::parts::number_of;
 use crate::watch::WatchError;
 use std::alloc::{AllocError, Global};
@@ -49,11 +51,14 @@ pub struct KeyWatch {
 impl KeyWatch {
     ghost use Rattle.fdb_lines.specs.declared.watch.WatchError.TheVariants.{NoTimes};
     ghost use Rattle.fdb_lines.specs.KeyWatch.{AreKept, AreTold, GoesOn, HasEntry};
-    ghost use Rattle.fdb_lines.specs.KeyWatch.{HasNothingToTell, HasSeenByKey};
+    ghost use Rattle.fdb_lines.specs.KeyWatch.{HasNothingToTell, HasSeenByKey, IsLogOf, KeepsOn};
+    ghost use Rattle.fdb_lines.specs.KeyWatch.{refusal_in, IsRefusedFor};
+    ghost use Rattle.fdb_lines.specs.ToldByKey.{audited, told_by_all, HasTold};
 
     /// A watch that has seen no line.
     pub fn new(alloc: Global, margin: u64, horizon: u64) -> Self
         ensures seen { HasSeenByKey result [] [] }
+        ensures told { HasTold result [] [] [] }
         ensures from { result.from ≡ 0 }
         ensures margin { result.margin ≡ margin }
         ensures horizon { result.horizon ≡ horizon }
@@ -91,8 +96,15 @@ impl KeyWatch {
         ensures ok { OnOk result ((lines : List Line) → (keys : List (Option ℕ))
             → HasSeenByKey self.old lines keys
             → HasSeenByKey self.new (lines ++ line ∷ []) (keys ++ key ∷ [])) }
+        ensures told { OnOk result ((lines : List Line) → (keys : List (Option ℕ))
+            → (told : List Found) → HasSeenByKey self.old lines keys
+            → HasTold self.old lines keys told → self.old.from ≤ began line
+            → HasTold self.new (lines ++ line ∷ []) (keys ++ key ∷ []) told) }
         ensures taken { OnOk result (has_times line ≡ true) }
         ensures untimed { IfErr result (λ error. error ≡ NoTimes ↔ (has_times line ≡ false)) }
+        ensures refused { (log : Lines) × IsLogOf self.old.parts.items key log
+            × OnOk result (refusal_in self.old.count log line ≡ None)
+            × IfErr result (IsRefusedFor (refusal_in self.old.count log line)) }
         ensures err { OnErr result ((lines : List Line) → (keys : List (Option ℕ))
             → HasSeenByKey self.old lines keys → HasSeenByKey self.new lines keys) }
         ensures stays { HaveStayed self.old.parts.items self.new.parts.items }
@@ -100,44 +112,55 @@ impl KeyWatch {
         ensures margin { (self.new.margin ≡ self.old.margin)
             × (self.new.horizon ≡ self.old.horizon) }
     {
-        if line.times.is_none() {
-            return Err(WatchError::NoTimes);
-        }
-        if self.count == u64::MAX {
-            return Err(WatchError::Line(LineError::TooMany));
+        if let Some(error) = self.refusal(key, &line) {
+            return Err(error);
         }
         if let Some(place) = self.numbers.get(&number_of(key)).copied() {
-            return self.push_to(place, line);
+            if let Err(_refused) = add_line(
+                &mut self.parts,
+                &mut self.open_parts,
+                place,
+                line,
+                self.count,
+            ) {
+                return Err(WatchError::Line(LineError::Memory));
+            }
+            self.count += 1;
+            return Ok(());
         }
         self.push_first(alloc, key, line)
     }
 
-    /// Adds a line of a key that has a part.
-    fn push_to(&mut self, place: usize, line: Line) -> Result<(), WatchError>
-        requires within { place < length self.old.parts.items }
-        requires room { self.old.count < 18446744073709551615 }
-        ensures ok { OnOk result ((lines : List Line) → (keys : List (Option ℕ))
-            → HasSeenByKey self.old lines keys → HasSeenByKey self.new (lines ++ line ∷ [])
-            (keys ++ key_at (names_of self.old.parts.items) place ∷ [])) }
-        ensures err { OnErr result ((lines : List Line) → (keys : List (Option ℕ))
-            → HasSeenByKey self.old lines keys → HasSeenByKey self.new lines keys) }
-        ensures untimed { IfErr result (λ error. error ≡ NoTimes → has_times line ≡ false) }
-        ensures stays { HaveStayed self.old.parts.items self.new.parts.items }
-        ensures settled { self.new.from ≡ self.old.from }
-        ensures margin { (self.new.margin ≡ self.old.margin)
-            × (self.new.horizon ≡ self.old.horizon) }
+    /// Why a line of a key is not taken, if it is not, but for want of memory.
+    fn refusal(&self, key: Option<u32>, line: &Line) -> Option<WatchError>
+        ensures why { (log : Lines) × IsLogOf self.now.parts.items key log
+            × (result ≡ refusal_in self.now.count log line.now) }
+        ensures untimed { IfSome result (λ error. error ≡ NoTimes ↔ (has_times line.now ≡ false)) }
+        ensures taken { result ≡ None → (has_times line.now ≡ true)
+            × (self.now.count < 18446744073709551615) }
     {
-        if let Err(error) = add_line(
-            &mut self.parts,
-            &mut self.open_parts,
-            place,
-            line,
-            self.count,
-        ) {
-            return Err(error);
+        let why = self.refusal_of_key(key, line);
+        if line.times.is_none() {
+            return Some(WatchError::NoTimes);
         }
-        self.count += 1;
-        Ok(())
+        if self.count == u64::MAX {
+            return Some(WatchError::Line(LineError::TooMany));
+        }
+        match why {
+            Some(error) => Some(WatchError::Line(error)),
+            None => None,
+        }
+    }
+
+    /// Why the lines that are kept of a key do not take a line, if they do not.
+    fn refusal_of_key(&self, key: Option<u32>, line: &Line) -> Option<LineError>
+        ensures { (log : Lines) × IsLogOf self.now.parts.items key log
+            × (result ≡ refusal_of log line.now) }
+    {
+        match self.numbers.get(&number_of(key)) {
+            Some(place) => self.parts[*place].watch.log.refusal(line),
+            None => Log::refusal_alone(line),
+        }
     }
 
     /// Adds the first line of a key.
@@ -149,36 +172,36 @@ impl KeyWatch {
             → HasSeenByKey self.new (lines ++ line ∷ []) (keys ++ key ∷ [])) }
         ensures err { OnErr result ((lines : List Line) → (keys : List (Option ℕ))
             → HasSeenByKey self.old lines keys → HasSeenByKey self.new lines keys) }
-        ensures untimed { IfErr result (λ error. error ≡ NoTimes → has_times line ≡ false) }
+        ensures memory { IfErr result (λ error. error ≡ WatchError.Line LineError.Memory) }
         ensures stays { HaveStayed self.old.parts.items self.new.parts.items }
         ensures settled { self.new.from ≡ self.old.from }
         ensures margin { (self.new.margin ≡ self.old.margin)
             × (self.new.horizon ≡ self.old.horizon) }
     {
-        let part = match first_part(alloc, key, self.margin, self.horizon, line, self.count) {
-            Ok(part) => part,
-            Err(error) => return Err(error),
-        };
+        let mut part = KeyPart::new(alloc, key, self.margin, self.horizon);
+        if let Err(_refused) = part.push(line, self.count) {
+            return Err(WatchError::Line(LineError::Memory));
+        }
+        if self.open_parts.reserve(1).is_err() {
+            return Err(WatchError::Line(LineError::Memory));
+        }
+        if self.parts.reserve(1).is_err() {
+            return Err(WatchError::Line(LineError::Memory));
+        }
         let place = self.parts.len();
-        if let Err(_refused) = self.open_parts.push(place) {
-            return Err(WatchError::Line(LineError::Memory));
-        }
-        if let Err(_refused) = self.parts.push(part) {
-            self.open_parts.pop();
-            return Err(WatchError::Line(LineError::Memory));
-        }
         if let Err(_refused) = give_number(&mut self.numbers, number_of(key), place) {
-            self.open_parts.pop();
-            self.parts.pop();
             return Err(WatchError::Line(LineError::Memory));
         }
+        self.open_parts.push_reserved(place);
+        self.parts.push_reserved(part);
         self.count += 1;
         Ok(())
     }
 
     /// Settles each key up to a moment, or up to where all have settled, if that is later. What is
     /// told of a key is what its watch tells. Of a key that has no entry there is nothing to tell.
-    /// An error only where memory is refused; all is as it was then.
+    /// Where no line began before what had been settled, each fault of the lines that began before
+    /// the moment has been told once. An error only where memory is refused; all is as it was then.
     pub fn settle(&mut self, alloc: Global, at: u64) -> Result<Vec<SettledKey>, AllocError>
         ensures told { IfOk result (λ told. (lines : List Line) → (keys : List (Option ℕ))
             → HasSeenByKey self.old lines keys
@@ -188,6 +211,11 @@ impl KeyWatch {
             → (i : ℕ) → (d : KeyPart) → i < length self.old.parts.items
             → GoesOn (max self.old.from at) lines keys told.items
             (slice_index_or self.old.parts.items i d) (slice_index_or self.new.parts.items i d)) }
+        ensures once { IfOk result (λ entries. (lines : List Line) → (keys : List (Option ℕ))
+            → (told : List Found) → HasSeenByKey self.old lines keys
+            → HasTold self.old lines keys told
+            → HasTold self.new lines keys (told ++ told_by_all entries.items)) }
+        ensures kept { IfOk result (λ entries. All (KeepsOn self.new.parts.items) entries.items) }
         ensures seen { (lines : List Line) → (keys : List (Option ℕ))
             → HasSeenByKey self.old lines keys → HasSeenByKey self.new lines keys }
         ensures settled { OnOk result (self.new.from ≡ max self.old.from at) }
@@ -208,7 +236,9 @@ impl KeyWatch {
         Ok(next.told)
     }
 
-    /// Tells of all lines that it has not told of. An error only where memory is refused.
+    /// Tells of all lines that it has not told of. Where no line began before what had been settled,
+    /// what was told in all is what an audit of all lines finds, each fault once. An error only where
+    /// memory is refused.
     pub fn finish(self, alloc: Global) -> Result<Vec<SettledKey>, AllocError>
         ensures told { IfOk result (λ told. (lines : List Line) → (keys : List (Option ℕ))
             → HasSeenByKey self lines keys
@@ -217,6 +247,12 @@ impl KeyWatch {
             → HasSeenByKey self lines keys
             → All (λ part. HasEntry told.items part.key
             ⊎ HasNothingToTell None lines keys part) self.parts.items) }
+        ensures once { IfOk result (λ entries. (lines : List Line) → (keys : List (Option ℕ))
+            → (told : List Found) → HasSeenByKey self lines keys → HasTold self lines keys told
+            → IsPermutation (told ++ told_by_all entries.items)
+            (audited self.margin lines keys)) }
+        ensures kept { IfOk result (λ entries.
+            All (λ entry. entry.settled.kept.items ≡ []) entries.items) }
     {
         let told = finish_parts(alloc, self.parts, &self.open_parts)?;
         Ok(told)

@@ -1,15 +1,15 @@
 //! Logs with keys: each key is a register of its own, and its lines are judged by themselves.
 
-ghost use Rattle.std.specs.Prelude.{◌≡◌, ◌↔◌, ◌++◌, All, IfOk, OnOk, length, map};
-ghost use Rattle.fdb_lines.specs.Keys.{faults_by_key, place_in, placed_by, placed_finding};
+ghost use Rattle.std.specs.Prelude.{◌≡◌, ◌↔◌, ◌++◌, IfOk, OnOk, Some, length, map};
+ghost use Rattle.fdb_lines.specs.Judged.{AreAll};
+ghost use Rattle.fdb_lines.specs.Keys.{place_in, placed_by, placed_finding};
 ghost use Rattle.fdb_lines.specs.Keys.{placed_late, placed_means, placed_reason};
-ghost use Rattle.fdb_lines.specs.Keys.{AreExplainedByKey, HasLateByKey, HasReasonByKey};
+ghost use Rattle.fdb_lines.specs.Keys.{AreExplainedByKey};
 ghost use Rattle.fdb_lines.specs.Log.{lines_of};
-ghost use Rattle.fdb_lines.specs.Reasons.{found_of};
 ghost use Rattle.fdb_lines.specs.private.Keys.{AreByLine};
 
 use crate::fault::Found;
-use crate::finding::findings;
+use crate::finding::findings_of;
 use crate::late::Late;
 use crate::log::Log;
 use crate::opts::AuditOpts;
@@ -17,35 +17,25 @@ use crate::parts::parts_of;
 use crate::reason::{Finding, Means, Reason, Witness};
 use std::alloc::{AllocError, Global};
 
-/// The faults of a log whose lines have keys, or none. Each key is a register of its own, and lines
-/// without one are of one register too: the lines of each are judged as a log of their own. In a
-/// log without times what is learnt counts within each key alone. The faults are told of the whole
-/// log, line by line, each with why it stands. There is none exactly where the lines of each key
-/// are explained. An error only where memory is refused.
-///
-/// `n log n` in how many lines there are, whatever the keys.
-pub fn findings_by_key(
+/// The faults of a log whose lines have keys.
+pub(crate) fn findings_by_key(
     alloc: Global,
     log: &Log,
     keys: &[Option<u32>],
     opts: &AuditOpts,
 ) -> Result<Vec<Finding>, AllocError>
     requires as_many { length keys.now ≡ length (lines_of log.now).lines }
-    ensures listed { IfOk result (λ findings. map found_of findings.items
-        ≡ faults_by_key (lines_of log.now) keys.now opts.now) }
-    ensures explained { IfOk result (λ findings. length findings.items ≡ 0
+    ensures all { IfOk result
+        (λ found. AreAll (lines_of log.now) (Some keys.now) opts.now found.items) }
+    ensures explained { IfOk result (λ found. length found.items ≡ 0
         ↔ AreExplainedByKey (lines_of log.now) keys.now opts.now) }
-    ensures reasons { IfOk result
-        (λ findings. All (HasReasonByKey (lines_of log.now) keys.now opts.now) findings.items) }
-    ensures late { IfOk result
-        (λ findings. All (HasLateByKey (lines_of log.now) keys.now opts.now) findings.items) }
 {
     let parts = parts_of(alloc, keys)?;
     let mut found = Vec::new(alloc);
     for part in 0..parts.len() {
         let places = &parts[part].places;
         let lines = log.part(alloc, places)?;
-        let here = findings(alloc, &lines, opts)?;
+        let here = findings_of(alloc, &lines, opts)?;
         add_placed(&mut found, &here, places)?;
     }
     sort_by_line(&mut found)?;

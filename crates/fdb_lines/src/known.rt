@@ -5,7 +5,6 @@ ghost use Rattle.fdb_lines.specs.declared.line.Line.{Line};
 ghost use Rattle.fdb_lines.specs.declared.exposure.Exposure.{Exposure};
 ghost use Rattle.fdb_lines.specs.Before.{by_time};
 ghost use Rattle.fdb_lines.specs.Lines.{line_at};
-ghost use Rattle.fdb_lines.specs.private.EndTable.{AreSettled};
 ghost use Rattle.fdb_lines.specs.private.Entries.{IsNewest};
 ghost use Rattle.fdb_lines.specs.private.Known.{by_at, newer, of_all, of_own, version_by};
 ghost use Rattle.fdb_lines.specs.private.Known.{version_in, witness, AreEnds, AreKnown};
@@ -19,38 +18,15 @@ use crate::line::Line;
 use crate::reason::{Means, Witness};
 use std::alloc::{AllocError, Global};
 
-/// By time: for each line the newest of the lines before it that let their versions be known, if
-/// there are some, by the table of all and that of each client's own. Each search is logarithmic.
-pub(crate) fn known_by_time(
-    alloc: Global,
-    lines: &[Line],
-    margin: u64,
-    seen: Exposure,
-    ends: &EndTable,
-    own: &EndTable,
-) -> Result<Vec<Option<Witness>>, AllocError>
-    requires few { length lines.now ≤ 4294967295 }
-    requires settled { AreSettled ends.now × AreSettled own.now }
-    requires ends { AreEnds false seen lines.now (length lines.now) ends.now.ends.items }
-    requires own { AreEnds true seen lines.now (length lines.now) own.now.ends.items }
-    ensures { IfOk result
-        (λ known. AreKnown (by_time margin lines.now) margin seen lines.now known.items) }
-{
-    let mut known = known_of_all(alloc, lines, margin, seen, ends)?;
-    add_own(alloc, own, lines, margin, seen, &mut known)?;
-    Ok(known)
-}
-
 /// For each line the newest of all that had ended by more than the margin before.
-fn known_of_all(
+pub(crate) fn known_of_all(
     alloc: Global,
     lines: &[Line],
     margin: u64,
     seen: Exposure,
     ends: &EndTable,
 ) -> Result<Vec<Option<Witness>>, AllocError>
-    requires settled { AreSettled ends.now }
-    requires ends { AreEnds false seen lines.now (length lines.now) ends.now.ends.items }
+    requires { AreEnds false seen lines.now (length lines.now) ends.now.ends.items }
     ensures { IfOk result (λ known. AreKnownOf (of_all margin seen lines.now) margin lines.now
         (length lines.now) known.items) }
 {
@@ -65,7 +41,7 @@ fn known_of_all(
 }
 
 /// Adds to each the newest of the client's own lines that had ended, by the table of those.
-fn add_own(
+pub(crate) fn add_own(
     alloc: Global,
     table: &EndTable,
     lines: &[Line],
@@ -74,7 +50,6 @@ fn add_own(
     known: &mut Vec<Option<Witness>>,
 ) -> Result<(), AllocError>
     requires few { length lines.now ≤ 4294967295 }
-    requires settled { AreSettled table.now }
     requires ends { AreEnds true seen lines.now (length lines.now) table.now.ends.items }
     requires known { AreKnownOf (of_all margin seen lines.now) margin lines.now
         (length lines.now) known.old.items }
@@ -91,7 +66,6 @@ fn add_own(
 
 /// The newest of the client's own lines that had ended when its line at a place began.
 fn own_before(table: &EndTable, line: &Line, place: u32, hints: &mut Hints) -> Option<u32>
-    requires { AreSettled table.now }
     ensures { (seen : Exposure) (lines : List Line) → line.now ≡ line_at lines place
         → AreEnds true seen lines (length lines) table.now.ends.items
         → IsNewest (of_own seen lines place) (version_in lines) (length lines) result }
@@ -108,8 +82,7 @@ pub(crate) fn table_of(
     by_client: bool,
 ) -> Result<EndTable, AllocError>
     requires { length lines.now ≤ 4294967295 }
-    ensures settled { IfOk result (λ table. AreSettled table) }
-    ensures ends { IfOk result
+    ensures { IfOk result
         (λ table. AreEnds by_client seen lines.now (length lines.now) table.ends.items) }
 {
     let mut ends = Vec::with_capacity(alloc, lines.len())?;

@@ -1,18 +1,21 @@
 //! Laws of the definitions. The functions do nothing: each stands for its contract.
 
 ghost use Rattle.std.specs.Prelude.{ℕ, ◌<◌, ◌≤◌, ◌≡◌, ◌≢◌, ◌↔◌, ◌++◌, ◌∷◌, [], List, Option};
-ghost use Rattle.std.specs.Prelude.{length, map, not, slice_index, true, IfSome, IsTrue, Some};
-ghost use Rattle.std.specs.List.{filter};
+ghost use Rattle.std.specs.Prelude.{length, map, not, slice_index, true, IfSome, IsTrue, None};
+ghost use Rattle.std.specs.Prelude.{IsPermutation, Some};
+ghost use Rattle.std.specs.List.{filter, range_with_len};
 ghost use Rattle.fdb_lines.specs.declared.effect.Effect.{Effect};
 ghost use Rattle.fdb_lines.specs.declared.fault.Fault.{Fault};
 ghost use Rattle.fdb_lines.specs.declared.fault.Fault.TheVariants.{Order, NotAbove, Twice};
 ghost use Rattle.fdb_lines.specs.declared.fault.Found.{Found};
+ghost use Rattle.fdb_lines.specs.declared.key_watch.KeyWatch.{KeyWatch};
 ghost use Rattle.fdb_lines.specs.declared.line.Line.{Line};
 ghost use Rattle.fdb_lines.specs.declared.opts.AuditOpts.{AuditOpts};
 ghost use Rattle.fdb_lines.specs.declared.reason.Finding.{Finding};
 ghost use Rattle.fdb_lines.specs.Audit.{AreExplained, case_of};
 ghost use Rattle.fdb_lines.specs.Before.{began};
 ghost use Rattle.fdb_lines.specs.Carried.{with_times, AreLeftBelow, StandFor};
+ghost use Rattle.fdb_lines.specs.KeyWatch.{HasSeenByKey};
 ghost use Rattle.fdb_lines.specs.Keys.{case_of_key, faults_by_key, key_at, placed_found};
 ghost use Rattle.fdb_lines.specs.Keys.{places_of, same_key};
 ghost use Rattle.fdb_lines.specs.Listing.{faults_of};
@@ -23,8 +26,9 @@ ghost use Rattle.fdb_lines.specs.Steps.{runs, fresh};
 ghost use Rattle.fdb_lines.specs.Faults.{stands, IsFaultless};
 ghost use Rattle.fdb_lines.specs.Order.{IsRanked, history};
 ghost use Rattle.fdb_lines.specs.Reasons.{HasReason};
+ghost use Rattle.fdb_lines.specs.ToldByKey.{audited_to, HasTold};
 ghost use Rattle.fdb_lines.specs.Watching.{begins_before, is_due, is_watched, opts_of};
-ghost use Rattle.fdb_lines.specs.Watching.{told_of};
+ghost use Rattle.fdb_lines.specs.Watching.{told_of, watched};
 
 /// No fault is invented: where some history explains the lines, none stands.
 pub fn nothing_is_invented()
@@ -156,4 +160,37 @@ pub fn faults_by_key_are_those_of_each_key()
         → length keys ≡ length log.lines
         → filter (λ (found : Found). same_key (key_at keys found.line) key) (faults_by_key log keys opts)
         ≡ map (placed_found (places_of keys key)) (faults_of (case_of_key log keys opts key)) }
+{}
+
+/// What a watch has told is all that there is to tell of the lines that began before the moment up to
+/// which it has settled, each fault once, if none of them came late; so it may as well be said to have
+/// told that.
+pub fn all_is_told_up_to_where_it_settled()
+    ensures each_once { (watch : KeyWatch) (lines : List Line) (keys : List (Option ℕ))
+        (told : List Found) → HasSeenByKey watch lines keys → HasTold watch lines keys told
+        → IsPermutation told (audited_to watch.margin watch.from lines keys) }
+    ensures as_well { (watch : KeyWatch) (lines : List Line) (keys : List (Option ℕ))
+        (told : List Found) → HasSeenByKey watch lines keys → HasTold watch lines keys told
+        → HasTold watch lines keys (audited_to watch.margin watch.from lines keys) }
+{}
+
+/// Lines that stand for all do so for whoever goes on from them: of the lines that begin from a moment
+/// on they tell, with all lines that come since, what all lines tell. Where none of those began before
+/// the moment, what was told up to it and what is told then are, together, what an audit of all lines
+/// finds, each fault once.
+pub fn who_goes_on_from_them_tells_the_rest()
+    ensures rest { (margin at from : ℕ) (lines : List Line) (places : List ℕ) (more : List Line)
+        → at ≤ from → StandFor margin at lines places
+        → let beyond = places ++ range_with_len (length lines) (length more) in
+        told_of margin (is_due from from 0 None) (lines ++ more) ≡ map (placed_found beyond)
+        (told_of margin (is_due from from 0 None) (lines_in lines places ++ more)) }
+    ensures all { (margin at from : ℕ) (lines : List Line) (places : List ℕ) (more : List Line)
+        → at ≤ from → StandFor margin at lines places
+        → ((j : ℕ) → j < length more → from ≤ began (line_at more j))
+        → let beyond = places ++ range_with_len (length lines) (length more) in
+        IsPermutation (told_of margin (is_due 0 0 0 (Some from)) lines
+        ++ map (placed_found beyond) (told_of margin (is_due from from 0 None)
+        (lines_in lines places ++ more)))
+        (filter (λ (found : Found). is_watched found.fault)
+        (faults_of (watched margin (lines ++ more)))) }
 {}

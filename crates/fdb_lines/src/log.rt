@@ -58,7 +58,7 @@ pub struct Log {
 impl Log {
     ghost use Rattle.fdb_lines.specs.declared.log.LineError.TheVariants.{Memory};
     ghost use Rattle.fdb_lines.specs.Lines.{part_of};
-    ghost use Rattle.fdb_lines.specs.Log.{added, lines_of, refusal_of};
+    ghost use Rattle.fdb_lines.specs.Log.{added, lines_of, no_lines, refusal_of};
 
     /// A log without lines: the first that is added decides whether all have times.
     pub fn new(alloc: Global) -> Self
@@ -126,12 +126,21 @@ impl Log {
     pub(crate) fn refusal(&self, line: &Line) -> Option<LineError>
         ensures { result ≡ refusal_of (lines_of self.now) line.now }
     {
-        let timed = line.times.is_some();
         if self.lines.len() >= MAX_LINES {
             Some(LineError::TooMany)
-        } else if !self.lines.is_empty() && self.timed != timed {
+        } else if !self.lines.is_empty() && self.timed != line.times.is_some() {
             Some(LineError::SomeTimes)
-        } else if timed && matches!(line.call, Operation::Learn(_)) {
+        } else {
+            Log::refusal_alone(line)
+        }
+    }
+
+    /// Why a line may not be the first of a log, if it may not.
+    pub(crate) fn refusal_alone(line: &Line) -> Option<LineError>
+        ensures { result ≡ refusal_of no_lines line.now }
+    {
+        let timed = line.times.is_some();
+        if timed && matches!(line.call, Operation::Learn(_)) {
             Some(LineError::TimedLearn)
         } else if !timed && line.client.is_none() {
             Some(LineError::NoClient)

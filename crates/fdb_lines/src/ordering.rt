@@ -1,18 +1,17 @@
 //! An order that explains the lines of a log.
 
-ghost use Rattle.std.specs.Prelude.{◌≡◌, ◌≢◌, ◌++◌, All, None, IfErr, IfOk};
-ghost use Rattle.std.specs.Prelude.{MatchOption, OnErr, OnOk, length, map, option_map};
-ghost use Rattle.std.specs.Prelude.{option_to_list};
+ghost use Rattle.std.specs.Prelude.{◌≡◌, ◌≢◌, ◌++◌, None, IfErr, IfOk, OnErr, OnOk, length, map};
+ghost use Rattle.std.specs.Prelude.{option_copied, option_map, option_to_list};
 ghost use Rattle.fdb_lines.specs.Audit.{AreExplained, case_of};
-ghost use Rattle.fdb_lines.specs.Late.{HasLate};
-ghost use Rattle.fdb_lines.specs.Listing.{faults_of};
+ghost use Rattle.fdb_lines.specs.Judged.{AreAll, AreExplainedIn, HasOrders, HaveKeys};
 ghost use Rattle.fdb_lines.specs.Log.{lines_of};
-ghost use Rattle.fdb_lines.specs.Reasons.{found_of, HasReason};
 ghost use Rattle.fdb_lines.specs.OrderSteps.{IsOrderOf};
 ghost use Rattle.fdb_lines.specs.private.Slots.{entries_below, entry_of, steps_from};
 ghost use Rattle.fdb_lines.specs.private.Tables.{case_in};
 
 use crate::finding::findings_in;
+use crate::key_order::Order;
+use crate::key_orders::orders_by_key;
 use crate::log::Log;
 use crate::opts::AuditOpts;
 use crate::reason::Finding;
@@ -22,30 +21,42 @@ use crate::tables::Tables;
 use crate::tables_of::tables_of;
 use std::alloc::{AllocError, Global};
 
-/// An order of the effects of a log that explains its lines; none where no order does. An error only
-/// where memory is refused.
+/// An order of the effects of a log that explains its lines, or, where lines have keys, one for each
+/// key, in the order of its first line; where the lines, or those of some key, have none, all faults,
+/// as [`findings`](crate::findings) tells them. An error only where memory is refused.
 ///
-/// `n log n` in how many lines there are.
-pub fn order(
+/// `n log n` in how many lines there are, whatever the keys.
+pub fn order_or_findings(
     alloc: Global,
     log: &Log,
+    keys: Option<&[Option<u32>]>,
     opts: &AuditOpts,
-) -> Result<Option<Vec<OrderStep>>, AllocError>
-    ensures explains { IfOk result (λ found. MatchOption found
-        (¬ (AreExplained (case_of (lines_of log.now) opts.now)))
-        (λ steps. IsOrderOf (case_of (lines_of log.now) opts.now) steps.items)) }
+) -> Result<Result<Order, Vec<Finding>>, AllocError>
+    requires { HaveKeys (lines_of log.now) (option_copied keys) }
+    ensures orders { IfOk result (λ it. IfOk it
+        (HasOrders (lines_of log.now) (option_copied keys.entry) opts.now)) }
+    ensures explained { IfOk result (λ it. OnOk it
+        (AreExplainedIn (lines_of log.now) (option_copied keys.entry) opts.now)) }
+    ensures unexplained { IfOk result (λ it. OnErr it
+        (¬ (AreExplainedIn (lines_of log.now) (option_copied keys.entry) opts.now))) }
+    ensures all { IfOk result (λ it. IfErr it
+        (λ found. AreAll (lines_of log.now) (option_copied keys.entry) opts.now found.items)) }
+    ensures some { IfOk result (λ it. IfErr it (λ found. length found.items ≢ 0)) }
 {
-    match order_or_findings(alloc, log, opts)? {
-        Ok(steps) => Ok(Some(steps)),
-        Err(_found) => Ok(None),
+    match keys {
+        Some(keys) => match orders_by_key(alloc, log, keys, opts)? {
+            Ok(orders) => Ok(Ok(Order::ByKey(orders))),
+            Err(found) => Ok(Err(found)),
+        },
+        None => match order_of(alloc, log, opts)? {
+            Ok(steps) => Ok(Ok(Order::One(steps))),
+            Err(found) => Ok(Err(found)),
+        },
     }
 }
 
-/// An order of the effects of a log that explains its lines; where no order does, all faults, as
-/// [`findings`](crate::findings) tells them. An error only where memory is refused.
-///
-/// `n log n` in how many lines there are.
-pub fn order_or_findings(
+/// An order of the lines of a log as of one register, or all faults.
+pub(crate) fn order_of(
     alloc: Global,
     log: &Log,
     opts: &AuditOpts,
@@ -54,13 +65,9 @@ pub fn order_or_findings(
         (λ steps. IsOrderOf (case_of (lines_of log.now) opts.now) steps.items)) }
     ensures unexplained { IfOk result
         (λ it. OnErr it (¬ (AreExplained (case_of (lines_of log.now) opts.now)))) }
-    ensures listed { IfOk result (λ it. IfErr it (λ found. map found_of found.items
-        ≡ faults_of (case_of (lines_of log.now) opts.now))) }
+    ensures all { IfOk result
+        (λ it. IfErr it (λ found. AreAll (lines_of log.now) None opts.now found.items)) }
     ensures some { IfOk result (λ it. IfErr it (λ found. length found.items ≢ 0)) }
-    ensures reasons { IfOk result (λ it. IfErr it
-        (λ found. All (HasReason (lines_of log.now) opts.now) found.items)) }
-    ensures late { IfOk result (λ it. IfErr it
-        (λ found. All (HasLate (lines_of log.now) opts.now) found.items)) }
 {
     let made = tables_of(alloc, log, opts)?;
     let tables = Tables::new(log, opts, &made);

@@ -1,11 +1,10 @@
 //! How many pairs of lines are in order.
 
-ghost use Rattle.std.specs.Prelude.{◌≡◌, ◌+◌, ◌-◌, ◌*◌, ◌<◌, ◌≤◌, None, Some};
-ghost use Rattle.std.specs.Prelude.{IfOk, cond, length};
-ghost use Rattle.fdb_lines.specs.Audit.{case_of};
+ghost use Rattle.std.specs.Prelude.{◌≡◌, ◌+◌, ◌-◌, ◌*◌, ◌<◌, ◌≤◌, IfOk, length};
 ghost use Rattle.fdb_lines.specs.Before.{by_time};
 ghost use Rattle.fdb_lines.specs.Log.{lines_of};
-ghost use Rattle.fdb_lines.specs.Summary.{ordered, pairs, tally};
+ghost use Rattle.fdb_lines.specs.Summary.{pairs, tally};
+ghost use Rattle.fdb_lines.specs.private.KeySums.{ordered_if};
 ghost use Rattle.fdb_lines.specs.private.Ended.{HasEnds, HasTimes, pairs_below};
 
 use crate::end_times::EndTimes;
@@ -17,17 +16,18 @@ use crate::opts::AuditOpts;
 use std::alloc::{AllocError, Global};
 use std::thread::{Threads, join};
 
-/// Of how many pairs of lines one comes before the other, where the lines have times. `n log n` in
-/// how many lines there are.
-pub(crate) fn ordered(alloc: Global, log: &Log, opts: &AuditOpts) -> Result<Option<u64>, AllocError>
-    ensures { IfOk result (λ n. n ≡ cond (lines_of log.now).timed
-        (Some (ordered (case_of (lines_of log.now) opts.now))) None) }
+/// Of how many pairs of lines one comes before the other; 0 of lines without times. `n log n` in how
+/// many lines there are.
+pub(crate) fn ordered(alloc: Global, log: &Log, opts: &AuditOpts) -> Result<u64, AllocError>
+    ensures { IfOk result (λ n. n ≡ ordered_if (lines_of log.now) opts.now) }
 {
     if !log.is_timed() {
-        return Ok(None);
+        return Ok(0);
     }
-    let pairs = pairs_by_time(alloc, log.lines(), opts.margin)?;
-    Ok(Some(pairs))
+    let lines = log.lines();
+    let all = EndTimes::new(alloc, lines)?;
+    let own = Ended::new(alloc, lines)?;
+    pairs_among(alloc, &all, &own, lines, opts.margin, 0, lines.len())
 }
 
 /// The same, by threads.
@@ -36,29 +36,18 @@ pub(crate) fn ordered_by<R: Threads + Sync>(
     alloc: Global,
     log: &Log,
     opts: &AuditOpts,
-) -> Result<Option<u64>, AllocError>
-    ensures { IfOk result (λ n. n ≡ cond (lines_of log.now).timed
-        (Some (ordered (case_of (lines_of log.now) opts.now))) None) }
+) -> Result<u64, AllocError>
+    ensures { IfOk result (λ n. n ≡ ordered_if (lines_of log.now) opts.now) }
 {
-    if !log.is_timed() {
-        return Ok(None);
+    if log.is_timed() {
+        pairs_by(rt, alloc, log.lines(), opts.margin)
+    } else {
+        Ok(0)
     }
-    let pairs = pairs_by_time_by(rt, alloc, log.lines(), opts.margin)?;
-    Ok(Some(pairs))
 }
 
-fn pairs_by_time(alloc: Global, lines: &[Line], margin: u64) -> Result<u64, AllocError>
-    requires { length lines.now ≤ 4294967295 }
-    ensures { IfOk result (λ n. n ≡ pairs (by_time margin lines.now) (length lines.now)) }
-{
-    let all = EndTimes::new(alloc, lines)?;
-    let own = Ended::new(alloc, lines)?;
-    let pairs = pairs_among(alloc, &all, &own, lines, margin, 0, lines.len())?;
-    Ok(pairs)
-}
-
-/// The same, by two threads.
-fn pairs_by_time_by<R: Threads + Sync>(
+/// How many pairs are in order, by two threads.
+fn pairs_by<R: Threads + Sync>(
     rt: &R,
     alloc: Global,
     lines: &[Line],
@@ -69,39 +58,18 @@ fn pairs_by_time_by<R: Threads + Sync>(
 {
     let (all, own) = join(
         rt,
-        || -> Result<EndTimes, AllocError>
-            ensures { IfOk result (λ ended. HasTimes lines.entry.now (length lines.entry.now)
-                ended.times.items) }
-        { EndTimes::new(alloc, lines) },
-        || -> Result<Ended, AllocError>
-            requires { length lines.now ≤ 4294967295 }
-            ensures { IfOk result (λ ended. HasEnds lines.entry.now (length lines.entry.now)
-                ended.ends.items) }
-        { Ended::new(alloc, lines) },
+        || EndTimes::new(alloc, lines),
+        || Ended::new(alloc, lines),
     );
     let all = all?;
     let own = own?;
     let (all, own) = (&all, &own);
-    let half = lines.len() / 2;
+    let count = lines.len();
+    let half = count / 2;
     let (first, second) = join(
         rt,
-        || -> Result<u64, AllocError>
-            requires { (length lines.now ≤ 4294967295) × (half ≤ length lines.now)
-                × HasTimes lines.now (length lines.now) all.now.times.items
-                × HasEnds lines.now (length lines.now) own.now.ends.items }
-            ensures sum { IfOk result (λ n. n
-                ≡ pairs_below (by_time margin lines.entry.now) (length lines.entry.now) half) }
-            ensures fit { IfOk result (λ n. n ≤ half * 4294967295) }
-        { pairs_among(alloc, all, own, lines, margin, 0, half) },
-        || -> Result<u64, AllocError>
-            requires { (length lines.now ≤ 4294967295) × (half ≤ length lines.now)
-                × HasTimes lines.now (length lines.now) all.now.times.items
-                × HasEnds lines.now (length lines.now) own.now.ends.items }
-            ensures sum { IfOk result (λ n. n + pairs_below (by_time margin lines.entry.now)
-                (length lines.entry.now) half
-                ≡ pairs (by_time margin lines.entry.now) (length lines.entry.now)) }
-            ensures fit { IfOk result (λ n. n ≤ (length lines.entry.now - half) * 4294967295) }
-        { pairs_among(alloc, all, own, lines, margin, half, lines.len()) },
+        || pairs_among(alloc, all, own, lines, margin, 0, half),
+        || pairs_among(alloc, all, own, lines, margin, half, count),
     );
     let first = first?;
     let second = second?;

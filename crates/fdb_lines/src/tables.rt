@@ -255,18 +255,22 @@ impl<'a> Tables<'a> {
         }
     }
 
-    /// Whether its client drew its version; or, where it is not known, one that is not known.
+    /// Whether its client may have drawn its version: a line that drew it is of that client, or one
+    /// of the two clients is not known.
     pub(crate) fn is_own(&self, place: usize) -> bool
         requires place { place < length (case_in self.now).lines }
         ensures { result ≡ is_own (case_in self.now) place }
     {
         let line = &self.lines()[place];
         let version = line.call.version();
-        let own = match line.client {
-            Some(client) => self.made.owned.first(version, client, 0),
-            None => self.made.nameless.first(version, 0, 0),
-        };
-        own.is_some()
+        match line.client {
+            Some(client) => {
+                let own = self.made.owned.first(version, client, 0);
+                let nameless = self.made.nameless.first(version, 0, 0);
+                own.is_some() || nameless.is_some()
+            }
+            None => self.first_draw(place).is_some(),
+        }
     }
 }
 

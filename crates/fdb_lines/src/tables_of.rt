@@ -4,14 +4,13 @@ ghost use Rattle.std.specs.Prelude.{◌≡◌, ◌≤◌, IfOk, false, length, t
 ghost use Rattle.std.specs.Thread.{IsSync};
 ghost use Rattle.fdb_lines.specs.Log.{lines_of};
 ghost use Rattle.fdb_lines.specs.declared.exposure.Exposure.TheVariants.{Drawn, Shown};
-ghost use Rattle.fdb_lines.specs.private.EndTable.{AreSettled};
 ghost use Rattle.fdb_lines.specs.private.Known.{AreEnds};
 ghost use Rattle.fdb_lines.specs.private.Tables.{has_ask, AreDrawnIn, AreKnownIn, AreLocated};
 ghost use Rattle.fdb_lines.specs.private.Tables.{AreTables};
 
 use crate::end_table::EndTable;
 use crate::exposure::Exposure;
-use crate::known::{known_by_time, table_of};
+use crate::known::{add_own, known_of_all, table_of};
 use crate::line::Line;
 use crate::line_kind::LineKind::{self, Asks, Draws, Nameless, Owned, Raises, Reports};
 use crate::locators::Locators;
@@ -63,16 +62,33 @@ pub(crate) fn tables_by<R: Threads + Sync>(
     ensures { IfOk result (λ made. AreTables (lines_of log.now) opts.now made) }
 {
     let lines = log.lines();
-    let (firsts, own) = two_tables(rt, alloc, lines);
+    let (firsts, own) = join(
+        rt,
+        || table_of(alloc, lines, Exposure::Shown, false),
+        || table_of(alloc, lines, Exposure::Shown, true),
+    );
     let firsts = firsts?;
     let own = own?;
-    let (shown, drawn) = two_known(rt, alloc, log, opts, &firsts, &own);
+    let (ends, of_each) = (&firsts, &own);
+    let (shown, drawn) = join(
+        rt,
+        || known(alloc, log, opts, Exposure::Shown, ends, of_each),
+        || known_draws(alloc, log, opts),
+    );
     drop(own);
     let shown = shown?;
     let drawn = drawn?;
     let start = opts.start();
     let known = shown.as_slice();
-    let ((reports, raises), (draws, owned)) = four_locators(rt, alloc, start, lines, known);
+    let ((reports, raises), (draws, owned)) = join(
+        rt,
+        || -> (Result<Locators, AllocError>, Result<Locators, AllocError>)
+            requires { IsSync R.row × (length lines.now ≤ 4294967295) }
+        { two_locators(rt, alloc, start, lines, known, Reports, Raises) },
+        || -> (Result<Locators, AllocError>, Result<Locators, AllocError>)
+            requires { IsSync R.row × (length lines.now ≤ 4294967295) }
+        { two_locators(rt, alloc, start, lines, known, Draws, Owned) },
+    );
     let (asks, nameless) = two_locators(rt, alloc, start, lines, known, Asks, Nameless);
     let reports = reports?;
     let raises = raises?;
@@ -93,113 +109,6 @@ pub(crate) fn tables_by<R: Threads + Sync>(
     })
 }
 
-/// What each line knows of what was shown, and of what was drawn, made in two threads.
-fn two_known<R: Threads + Sync>(
-    rt: &R,
-    alloc: Global,
-    log: &Log,
-    opts: &AuditOpts,
-    ends: &EndTable,
-    own: &EndTable,
-) -> (
-    Result<Vec<Option<Witness>>, AllocError>,
-    Result<Option<DrawTables>, AllocError>,
-)
-    requires settled { AreSettled ends.now }
-    requires ends { let lines = (lines_of log.now).lines in
-        AreEnds false Shown lines (length lines) ends.now.ends.items }
-    requires own_settled { AreSettled own.now }
-    requires own { let lines = (lines_of log.now).lines in
-        AreEnds true Shown lines (length lines) own.now.ends.items }
-    ensures shown { IfOk result.0
-        (λ known. AreKnownIn (lines_of log.now) opts.now Shown known.items) }
-    ensures drawn { IfOk result.1 (λ drawn. AreDrawnIn (lines_of log.now) opts.now drawn) }
-{
-    join(
-        rt,
-        || -> Result<Vec<Option<Witness>>, AllocError>
-            requires { AreSettled ends.now × AreSettled own.now
-                × AreEnds false Shown (lines_of log.now).lines (length (lines_of log.now).lines)
-                ends.now.ends.items
-                × AreEnds true Shown (lines_of log.now).lines (length (lines_of log.now).lines)
-                own.now.ends.items }
-            ensures { IfOk result
-                (λ known. AreKnownIn (lines_of log.entry.now) opts.entry.now Shown known.items) }
-        { known(alloc, log, opts, Exposure::Shown, ends, own) },
-        || -> Result<Option<DrawTables>, AllocError>
-            ensures { IfOk result
-                (λ drawn. AreDrawnIn (lines_of log.entry.now) opts.entry.now drawn) }
-        { known_draws(alloc, log, opts) },
-    )
-}
-
-/// The ends of the lines that show a version, of all lines and by client, made in two threads.
-fn two_tables<R: Threads + Sync>(
-    rt: &R,
-    alloc: Global,
-    lines: &[Line],
-) -> (Result<EndTable, AllocError>, Result<EndTable, AllocError>)
-    requires { length lines.now ≤ 4294967295 }
-    ensures settled { IfOk result.0 (λ table. AreSettled table) }
-    ensures ends { IfOk result.0 (λ table. AreEnds false Shown lines.now (length lines.now)
-        table.ends.items) }
-    ensures own_settled { IfOk result.1 (λ table. AreSettled table) }
-    ensures own { IfOk result.1 (λ table. AreEnds true Shown lines.now (length lines.now)
-        table.ends.items) }
-{
-    join(
-        rt,
-        || -> Result<EndTable, AllocError>
-            requires { length lines.now ≤ 4294967295 }
-            ensures settled { IfOk result (λ table. AreSettled table) }
-            ensures ends { IfOk result (λ table. AreEnds false Shown lines.entry.now
-                (length lines.entry.now) table.ends.items) }
-        { table_of(alloc, lines, Exposure::Shown, false) },
-        || -> Result<EndTable, AllocError>
-            requires { length lines.now ≤ 4294967295 }
-            ensures settled { IfOk result (λ table. AreSettled table) }
-            ensures ends { IfOk result (λ table. AreEnds true Shown lines.entry.now
-                (length lines.entry.now) table.ends.items) }
-        { table_of(alloc, lines, Exposure::Shown, true) },
-    )
-}
-
-/// The locators by which most is looked for, made in four threads.
-fn four_locators<R: Threads + Sync>(
-    rt: &R,
-    alloc: Global,
-    start: u64,
-    lines: &[Line],
-    known: &[Option<Witness>],
-) -> (
-    (Result<Locators, AllocError>, Result<Locators, AllocError>),
-    (Result<Locators, AllocError>, Result<Locators, AllocError>),
-)
-    requires { length lines.now ≤ 4294967295 }
-    ensures reports { IfOk result.0.0 (AreLocated start lines.now known.now LineKind.Reports) }
-    ensures raises { IfOk result.0.1 (AreLocated start lines.now known.now LineKind.Raises) }
-    ensures draws { IfOk result.1.0 (AreLocated start lines.now known.now LineKind.Draws) }
-    ensures owned { IfOk result.1.1 (AreLocated start lines.now known.now LineKind.Owned) }
-{
-    join(
-        rt,
-        || -> (Result<Locators, AllocError>, Result<Locators, AllocError>)
-            requires { IsSync R.row × (length lines.now ≤ 4294967295) }
-            ensures reports { IfOk result.0
-                (AreLocated start lines.entry.now known.entry.now LineKind.Reports) }
-            ensures raises { IfOk result.1
-                (AreLocated start lines.entry.now known.entry.now LineKind.Raises) }
-        { two_locators(rt, alloc, start, lines, known, Reports, Raises) },
-        || -> (Result<Locators, AllocError>, Result<Locators, AllocError>)
-            requires { IsSync R.row × (length lines.now ≤ 4294967295) }
-            ensures draws { IfOk result.0
-                (AreLocated start lines.entry.now known.entry.now LineKind.Draws) }
-            ensures owned { IfOk result.1
-                (AreLocated start lines.entry.now known.entry.now LineKind.Owned) }
-        { two_locators(rt, alloc, start, lines, known, Draws, Owned) },
-    )
-}
-
 /// The locators of two sorts, made in two threads.
 fn two_locators<R: Threads + Sync>(
     rt: &R,
@@ -216,18 +125,14 @@ fn two_locators<R: Threads + Sync>(
 {
     join(
         rt,
-        || -> Result<Locators, AllocError>
-            requires { length lines.now ≤ 4294967295 }
-            ensures { IfOk result (AreLocated start lines.entry.now known.entry.now one) }
-        { Locators::new(alloc, start, lines, known, one) },
-        || -> Result<Locators, AllocError>
-            requires { length lines.now ≤ 4294967295 }
-            ensures { IfOk result (AreLocated start lines.entry.now known.entry.now other) }
-        { Locators::new(alloc, start, lines, known, other) },
+        || Locators::new(alloc, start, lines, known, one),
+        || Locators::new(alloc, start, lines, known, other),
     )
 }
 
-/// For each line the newest of the lines before it that let their versions be known.
+/// For each line the newest of the lines before it that let their versions be known, if there are
+/// some. By time that is by the table of all ends, and that of each client's own: each search is
+/// logarithmic.
 fn known(
     alloc: Global,
     log: &Log,
@@ -236,7 +141,6 @@ fn known(
     ends: &EndTable,
     own: &EndTable,
 ) -> Result<Vec<Option<Witness>>, AllocError>
-    requires settled { AreSettled ends.now × AreSettled own.now }
     requires ends { let lines = (lines_of log.now).lines in
         AreEnds false seen lines (length lines) ends.now.ends.items }
     requires own { let lines = (lines_of log.now).lines in
@@ -244,7 +148,10 @@ fn known(
     ensures { IfOk result (λ known. AreKnownIn (lines_of log.now) opts.now seen known.items) }
 {
     if log.is_timed() {
-        known_by_time(alloc, log.lines(), opts.margin, seen, ends, own)
+        let lines = log.lines();
+        let mut known = known_of_all(alloc, lines, opts.margin, seen, ends)?;
+        add_own(alloc, own, lines, opts.margin, seen, &mut known)?;
+        Ok(known)
     } else {
         known_by_telling(alloc, log.lines(), seen)
     }

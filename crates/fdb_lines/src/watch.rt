@@ -5,7 +5,6 @@ ghost use Rattle.std.specs.Prelude.{None, OnErr, OnOk, Some, length, map, max, s
 ghost use Rattle.std.specs.Prelude.{false, IsTrue};
 ghost use Rattle.std.specs.Prelude.{◌↔◌, ◌⊎◌, ℕ};
 ghost use Rattle.fdb_lines.specs.declared.line.Line.{Line};
-ghost use Rattle.fdb_lines.specs.Before.{began};
 ghost use Rattle.fdb_lines.specs.Carried.{open_count};
 ghost use Rattle.fdb_lines.specs.Lines.{has_times};
 ghost use Rattle.fdb_lines.specs.Log.{lines_of, refusal_of};
@@ -89,7 +88,7 @@ pub struct Watch {
     from: u64,
     settled: u64,
     count: u64,
-    log: Log,
+    pub(crate) log: Log,
     numbers: Vec<u64>,
     ghost as_many: { length numbers.items ≡ length log.lines.items },
     ghost timed: { 0 < length log.lines.items → log.timed ≡ true },
@@ -175,13 +174,13 @@ impl Watch {
         if let Some(error) = self.log.refusal(&line) {
             return Err(WatchError::Line(error));
         }
-        if let Err(_refused) = self.numbers.push(self.count) {
+        if self.numbers.reserve(1).is_err() {
             return Err(WatchError::Line(LineError::Memory));
         }
         if let Err(error) = self.log.push(line) {
-            self.numbers.pop();
             return Err(WatchError::Line(error));
         }
+        self.numbers.push_reserved(self.count);
         self.count += 1;
         Ok(())
     }
@@ -254,13 +253,6 @@ impl Watch {
         Ok(Next { watch, found, kept })
     }
 
-    /// The lines that it keeps.
-    pub(crate) fn lines(&self) -> &[Line]
-        ensures { result.now ≡ self.now.log.lines.items }
-    {
-        self.log.lines()
-    }
-
     /// The log of the lines that it keeps.
     pub(crate) fn into_log(self) -> Log
         ensures { result ≡ self.log }
@@ -275,7 +267,7 @@ impl Watch {
     {
         self.settled == self.count
             && self.numbers.len() <= 2
-            && began_before(self.log.lines(), self.from)
+            && self.log.lines().iter().all(|line| line.began() < self.from)
     }
 
     /// Settles for good: tells of all lines that it has not told of, but for those that came too
@@ -330,11 +322,4 @@ pub(crate) fn numbers_at(
         some.push(numbers[*place as usize])?;
     }
     Ok(some)
-}
-
-/// Whether all lines began before a moment.
-fn began_before(lines: &[Line], at: u64) -> bool
-    ensures { IsTrue result ↔ All (λ line. began line < at) lines.now }
-{
-    lines.iter().all(|line| line.began() < at)
 }

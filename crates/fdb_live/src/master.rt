@@ -106,6 +106,7 @@ impl<J: Live> Master<J> {
         ensures closed { (answers : List Issued)
             × IsClosedAfter J.epoch_end J.recovery J.reporters answers tokens.old tokens.new
             × (length answers ≡ result) }
+        ensures count { length tokens.new ≡ length tokens.old }
     {
         let Master { live, drawer } = self;
         let mut drawer = drawer.into_inner();

@@ -9,3 +9,4 @@ pub mod Scanned
 pub mod UsualForm
 pub mod ShownTexts
 pub mod SingleLines
+pub mod ShownNumbers

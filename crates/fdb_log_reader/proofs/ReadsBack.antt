@@ -82,10 +82,6 @@ one_before : (x : ℕ) (bs : List ℕ) (o : Option (List ℕ)) → prepend (x �
 one_before x bs None = refl
 one_before x bs (Some s) = refl
 
-before_both : (xs bs : List ℕ) (o : Option (List ℕ)) → prepend xs (prepend bs o) ≡ prepend (xs ++ bs) o
-before_both xs bs None = refl
-before_both xs bs (Some s) = ap Some (sym (append_assoc xs bs s))
-
 high_read : (bs r : List ℕ) → ((k : ℕ) → k < length bs → 128 ≤ get_or bs k 0) → content plain (bs ++ r) ≡ prepend bs (content plain r)
 high_read [] r high = none_before (content plain r)
 high_read (x ∷ bs) r high =

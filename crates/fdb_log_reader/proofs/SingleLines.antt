@@ -2,7 +2,7 @@
 use Rattle.std.proofs.Common.{◌≡◌, ℕ, ◌+◌, suc, ◌<◌, ◌≤◌, ◌==◌, nat_lt, Bool, true, false, List, [], ◌∷◌, ◌++◌, length, length-append, map, string_bytes, take, Option, None, Some, IfOk, IfSome, IsSomeAnd, MatchResult, not, ◌⊎◌, inl, inr, String, option_map, zero, Result, Ok, Err, refl, ap, ap₂, subst, sym, ◌∙◌, arith, append_assoc, append-nil, if◌then◌else◌}
 use Rattle.std.proofs.lemmas.Bool.Decides.{nat_tests}
 use Rattle.std.proofs.lemmas.List.{take_all, length-take-le, map-append}
-use Rattle.std.proofs.lemmas.List.Elements.{All-append, All-nil, All-take}
+use Rattle.std.proofs.lemmas.List.Elements.{All-append, All-cons, All-nil, All-take}
 use Rattle.std.specs.List.{All, slice_index_or}
 use Rattle.std.specs.declared.alloc.Global.{Global}
 use Rattle.serde_json.specs.Data.{Data}
@@ -264,25 +264,6 @@ takes old new bytes whole read is one reads shown front =
       numbers = numbers_read (line_names new) read (subst (λ line. IfOk line (IsNumbered (line_names new))) reads.said (subst (λ more. IfOk (line_in said) (IsNumbered more)) reads.after fit.numbers));
     }
 
--- a line whose end comes behind what was kept of it
-pub takes_kept : (old now new : LineReader) (line : List ℕ) (read : Result ReadLine Why) → Keeps old line now → TakesLine now [] read new → TakesLine old line read new
-takes_kept old now new line read keeps takes = record {
-  goes = λ text. keeps.goes (10 ∷ text) ∙ takes.goes text;
-  more = subst (λ names. AreMore names (line_names new)) keeps.names takes.more;
-  texts = takes.texts;
-  timed = takes.timed;
-  numbers = takes.numbers;
-}
-
-pub begins : (reader : LineReader) (bytes : List ℕ) → Follows reader bytes [] reader bytes
-begins reader bytes = record {
-  goes = λ text. refl;
-  more = all_same (line_names reader);
-  texts = λ k d lt. absurd (omega arith);
-  timed = λ k d lt. absurd (omega arith);
-  numbers = λ k d lt. absurd (omega arith);
-}
-
 one_read : (P : Result ReadLine Why → Type 0) (read : Result ReadLine Why) → P read → All P (read ∷ [])
 one_read P read is zero d lt = is
 one_read P read is (suc k) d lt = absurd (omega arith)
@@ -305,15 +286,6 @@ follows_on old now new bytes rest line after lines read so_far is takes =
           (one_read (λ read. IfOk read (λ read. IsNumbered (line_names new) (said_by read))) read takes.numbers);
     }
 
-pub follows_kept : (old now new : LineReader) (bytes rest : List ℕ) (lines : List (Result ReadLine Why)) → Follows old bytes lines now rest → Keeps now rest new → Follows old bytes lines new []
-follows_kept old now new bytes rest lines so_far keeps = record {
-  goes = λ text. so_far.goes text ∙ ap (behind (map said_in lines)) (keeps.goes text);
-  more = subst (AreMore (line_names old)) (sym keeps.names) so_far.more;
-  texts = so_far.texts;
-  timed = so_far.timed;
-  numbers = subst (λ names. All (λ read. IfOk read (λ read. IsNumbered names (said_by read))) lines) (sym keeps.names) so_far.numbers;
-}
-
 -- ---- where the text ends
 
 pub nothing_left : (reader : LineReader) → reader.front.items ≡ [] → all_on reader [] ≡ ([], line_names reader)
@@ -324,3 +296,35 @@ pub last_taken : (old new : LineReader) (read : Result ReadLine Why) → 0 < len
 last_taken old new read some none takes =
     ap (all_of (map string_bytes old.shown.items) (line_names old)) (last_line old.front.items old.one_line some ∙ sym (first_line old.front.items [] old.one_line))
     ∙ (takes.goes [] ∙ ap (behind (said_in read ∷ [])) (nothing_left new none))
+
+-- ---- the member that has the keys is one and the same
+
+more_behind : (shown : List (List ℕ)) (names : LineNames) (lines : List (List ℕ)) → AreMore names (names_behind shown names lines)
+more_behind shown names [] = all_same names
+more_behind shown names (line ∷ lines) =
+    let next = names_after names (line_read shown names line) in
+    all_yet names next (names_behind shown next lines) (fits shown names line).more (more_behind shown next lines)
+
+member_same : (keys more : Option MemberNames) → AreMoreKeys keys more → option_map (λ (one : MemberNames). one.member) more ≡ option_map (λ (one : MemberNames). one.member) keys
+member_same None more is = ap (option_map (λ (one : MemberNames). one.member)) is
+member_same (Some keys) more (new, is, same, rest) = ap (option_map (λ (one : MemberNames). one.member)) is ∙ ap (λ (name : List ℕ). Some name) same
+
+pub member_behind : (shown : List (List ℕ)) (names : LineNames) (lines : List (List ℕ)) → member_in (names_behind shown names lines) ≡ member_in names
+member_behind shown names lines = member_same names.keys (names_behind shown names lines).keys (more_behind shown names lines).1
+
+-- ---- a byte behind what has come of a line is of that line
+
+as_many : (shown : List (List ℕ)) (names : LineNames) (lines : List (List ℕ)) → length (lines_read shown names lines) ≡ length lines
+as_many shown names [] = refl
+as_many shown names (line ∷ lines) = let rest = as_many shown (names_after names (line_read shown names line)) lines in omega (arith, rest)
+
+one_more : (front : List ℕ) → IsOneLine front → length (lines_in (front ++ 32 ∷ [])) ≡ 1
+one_more front one =
+    let line = front ++ 32 ∷ [] in
+    let size = length-append front (32 ∷ []) in
+    let is = λ (byte : ℕ). is_line_feed byte ≡ false in
+    ap length (ap lines_in (sym (append-nil line)) ∙ last_line line (All-append is front (32 ∷ []) one (All-cons is 32 [] refl (All-nil is))) (omega (arith, size)))
+
+pub space_more : (reader : LineReader) → length (lines_on reader (32 ∷ [])) ≡ 1
+space_more reader =
+    as_many (map string_bytes reader.shown.items) (line_names reader) (lines_in (reader.front.items ++ 32 ∷ [])) ∙ one_more reader.front.items reader.one_line

@@ -8,6 +8,7 @@
 mod error;
 mod keys;
 mod known_names;
+pub mod laws;
 mod line_reader;
 mod member;
 mod name_numbers;

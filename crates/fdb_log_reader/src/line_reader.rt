@@ -27,7 +27,8 @@ pub struct LineReader {
 impl LineReader {
     ghost use Rattle.fdb_log_reader.specs.LineReader.{line_names, lines_on, names_on, AreMore};
     ghost use Rattle.fdb_log_reader.specs.Names.{names_of};
-    ghost use Rattle.fdb_log_reader.specs.ReadLine.{lines_read, no_names, said_by, said_in};
+    ghost use Rattle.fdb_log_reader.specs.ReadLine.{lines_read, member_in, no_names, said_by};
+    ghost use Rattle.fdb_log_reader.specs.ReadLine.{said_in};
     ghost use Rattle.fdb_log_reader.specs.ReadLine.{HasTexts, IsNumbered, IsTimed};
     ghost use Rattle.fdb_log_reader.specs.ReadLine.{names_behind};
     ghost use Rattle.fdb_log_reader.specs.Reading.{lines_in};
@@ -70,6 +71,13 @@ impl LineReader {
             Some(keys) => Some(&keys.names),
             None => None,
         }
+    }
+
+    /// The member that has the keys, where they are kept.
+    pub fn key_member(&self) -> Option<&str>
+        ensures { option_map (λ member. member.now) result ≡ member_in (line_names self.now) }
+    {
+        self.names.member()
     }
 
     /// Reads on: what becomes of each line that ends in these bytes, in order: the line, or why it

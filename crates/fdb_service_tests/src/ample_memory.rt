@@ -4,12 +4,9 @@
 //! Each line of a table has the calls that may be refused memory, what is done with so much of something
 //! or at so great a number, and the numbers at which that is to succeed and to be right.
 
-mod scripts;
-
 use crate::stand::{Told, play};
 use crate::workload::play_workloads;
-use fdb_checks::{CaseError, cases, holds};
-use scripts::{is_played, is_printed};
+use fdb_checks::cases;
 use std::alloc::Global;
 use std::sync::Wait;
 use std::test::Fail;
@@ -69,42 +66,6 @@ Client::read_version, SettledRun::history | visits 1 1 2 100 1 1 @0 => explained
 | few many 99999 100000
 ";
 
-/// `fdb_script` and `fdb_replay`: scripts, each of which is read, run and printed (`read_script`, `run`,
-/// `text`), and then driven, which replays it (`drive`, `replay`). `@` is the number, and what stands
-/// between two `~` is repeated: reads, reports, requests, repeats, commits, refused reports and tells in a
-/// round, rounds with a command and without, clients, throttles, tags of a read, bytes of a tag, and the
-/// recovery version.
-const SCRIPTS: &str = r#"
-reads | {"epoch_end":0,"recovery":100,"clients":1,"rounds":[[~,{"do":"grv","client":0}~]]} | 0 few 9999 10000
-full reads | {"epoch_end":0,"recovery":100,"clients":1,"rounds":[[~,{"do":"grv","client":0,"at":#,"priority":"batch","count":1,"tags":["t0"],"lock_aware":true,"use_min":true}~]]} | 0 few 9999 10000
-full reports | {"epoch_end":0,"recovery":100,"clients":1,"rounds":[[~,{"do":"report","client":0,"num":1,"locked":true,"metadata":"0102030405060708090A","min_known":#}~]]} | 0 few 9999 10000
-requests | {"epoch_end":0,"recovery":100,"clients":1,"rounds":[[~,{"do":"ask","client":0,"at":#}~]]} | 0 few 9999 10000
-repeats | {"epoch_end":0,"recovery":100,"clients":1,"rounds":[[~,{"do":"reask","client":0,"num":1,"at":#}~]]} | 0 few 9999 10000
-commits | {"epoch_end":0,"recovery":100,"clients":1,"rounds":[[~,{"do":"ask","client":0,"at":#},{"do":"report","client":0,"num":#}~]]} | 0 few 4999 5000
-refused reports | {"epoch_end":0,"recovery":100,"clients":1,"rounds":[[~,{"do":"report","client":0,"num":#}~]]} | 0 few 9999 10000
-tells | {"epoch_end":0,"recovery":100,"clients":2,"rounds":[[~,{"do":"tell","client":0,"to":1}~]]} | 0 few 9999 10000
-rounds | {"epoch_end":0,"recovery":100,"clients":1,"rounds":[~,[{"do":"grv","client":0}]~]} | 0 few 9999 10000
-empty rounds | {"epoch_end":0,"recovery":100,"clients":1,"rounds":[~,[]~]} | 0 few 9999 10000
-clients | {"epoch_end":0,"recovery":100,"clients":@,"rounds":[[~,{"do":"grv","client":0}~]]} | 1 2 5 6 63 64
-throttles | {"epoch_end":0,"recovery":100,"clients":1,"throttles":[~,{"priority":"default","tag":"t#","rate":5,"expires":5000}~],"rounds":[[{"do":"grv","client":0}]]} | 0 few 999 1000
-tags | {"epoch_end":0,"recovery":100,"clients":1,"throttles":[{"priority":"default","tag":"t","rate":5,"expires":5000}],"rounds":[[{"do":"grv","client":0,"tags":[~,"t"~]}]]} | 0 1 2 4 5
-bytes of a tag | {"epoch_end":0,"recovery":100,"clients":1,"throttles":[{"priority":"default","tag":"~t~","rate":5,"expires":5000}],"rounds":[[{"do":"grv","client":0,"tags":["~t~"]}]]} | 1 2 5 6 15 16
-a recovery version | {"epoch_end":0,"recovery":@,"clients":1,"rounds":[[{"do":"grv","client":0}]]} | few many 9223372036854775807
-"#;
-
-/// A script that has 54 bytes without the blanks, and with them up to 2^24, its bound.
-const BYTES: &str = r#"
-bytes | {"epoch_end":0,"recovery":100,"clients":1,"rounds":[~ ~]} | 147 65481 65482 65483 16777161 16777162
-"#;
-
-/// Reads through so many GRV proxies.
-const PROXIES: &str = r#"
-GRV proxies | {"epoch_end":0,"recovery":100,"clients":1,"rounds":[~,[{"do":"grv","client":0}]~]} | 1 2 5 6 8 9 15 16
-"#;
-
-/// `fdb_script`: what is printed of a history of so many events.
-const EVENTS: &str = "push_verdict | events | 0 few many";
-
 /// Plays the text of each case of a table.
 fn all_succeed<R: Threads + Wait + Sync>(rt: &R, alloc: Global, table: &str) -> Result<(), Fail> {
     for case in cases(alloc, table)? {
@@ -113,20 +74,12 @@ fn all_succeed<R: Threads + Wait + Sync>(rt: &R, alloc: Global, table: &str) -> 
             number: case.number,
             once: true,
         };
-        case.ends(succeeds(rt, alloc, told))?;
+        match play(rt, alloc, told) {
+            Ok(_) => {}
+            Err(error) => case.ends(Err(error))?,
+        }
     }
     Ok(())
-}
-
-fn succeeds<R: Threads + Wait + Sync>(
-    rt: &R,
-    alloc: Global,
-    told: Told<'_>,
-) -> Result<(), CaseError> {
-    match play(rt, alloc, told) {
-        Ok(_) => Ok(()),
-        Err(error) => Err(error),
-    }
 }
 
 #[test]
@@ -145,36 +98,4 @@ fn clusters_have_memory(rt: HostRuntime) -> Result<(), Fail> {
         case.ends(play_workloads(&rt, rt.alloc(), case.of, case.number))?;
     }
     Ok(())
-}
-
-#[test]
-fn scripts_have_memory(rt: HostRuntime) -> Result<(), Fail> {
-    for case in cases(rt.alloc(), SCRIPTS)? {
-        case.came_to(is_played(&rt, rt.alloc(), case.of, case.number, 2))?;
-    }
-    for case in cases(rt.alloc(), BYTES)? {
-        case.came_to(is_played(&rt, rt.alloc(), case.of, case.number, 2))?;
-    }
-    Ok(())
-}
-
-#[test]
-fn replays_through_proxies_have_memory(rt: HostRuntime) -> Result<(), Fail> {
-    for case in cases(rt.alloc(), PROXIES)? {
-        let proxies = case.number.min(16) as u32;
-        case.came_to(is_played(&rt, rt.alloc(), case.of, 17, proxies))?;
-    }
-    Ok(())
-}
-
-#[test]
-fn verdicts_have_memory(rt: HostRuntime) -> Result<(), Fail> {
-    for case in cases(rt.alloc(), EVENTS)? {
-        case.came_to(is_printed(rt.alloc(), case.number, 0))?;
-        case.came_to(is_printed(rt.alloc(), 1, case.number))?;
-    }
-    holds(
-        is_printed(rt.alloc(), 1, u64::MAX) == Some(true),
-        &"versions",
-    )
 }

@@ -8,11 +8,10 @@ mod side_by_side;
 use crate::gated::counting::Counting;
 use crate::gated::crossing::Crossing;
 use crate::gated::side_by_side::SideBySide;
-use crate::replay::calls::replays;
-use crate::templates::filled;
-use fdb_checks::{holds, same_text};
+use fdb_checks::{holds, same_text, says};
 use fdb_history::{Gate, Place};
-use fdb_replay::ReplayOpts;
+use fdb_replay::{ReplayFault, ReplayOpts, replay};
+use fdb_script::ScriptError;
 use std::alloc::Global;
 use std::str::from_utf8;
 use std::sync::Wait;
@@ -32,8 +31,10 @@ fn replayed<R: Threads + Wait + Sync, G: Gate>(
         with_history: false,
     };
     let mut out = Vec::new(alloc);
-    replays(rt, alloc, script, opts, gate, &mut out)?;
-    Ok(out)
+    match replay(rt, alloc, script.as_bytes(), opts, gate, &mut out) {
+        Ok(()) => Ok(out),
+        Err(fault) => Err(Fail::new(format_args!("{fault}"))),
+    }
 }
 
 /// Client 0 asks for a commit version and reports it, beside two reads of client 1; the same, once
@@ -100,18 +101,24 @@ fn crosses<R: Threads + Wait + Sync>(
 #[test]
 fn rounds_of_many_commands_run_side_by_side(rt: HostRuntime) -> Result<(), Fail> {
     let alloc = rt.alloc();
-    let others = r#"{"do":"grv","client":0},~,{"do":"grv","client":#}~"#;
-    for (clients, times, proxies) in [(2, 1_001, 1), (2, 5_000, 2), (64, 156, 16)] {
-        let each = filled(alloc, others, clients - 1)?;
+    for (clients, times, proxies) in [(2, 1_001, 1), (2, 4_999, 2), (64, 156, 16)] {
+        let mut each = String::new(alloc);
+        for client in 0..clients {
+            write!(each, ",{{\"do\":\"grv\",\"client\":{client}}}")?;
+        }
         let script = format!(in alloc;
-            "{{\"epoch_end\":0,\"recovery\":100,\"clients\":{clients},\"rounds\":[[~,{each}~]]}}"
+            "{{\"epoch_end\":0,\"recovery\":100,\"clients\":{clients},\"rounds\":[[{FIRST}{}]]}}",
+            each.repeat(alloc, times)?
         )?;
         let gate = SideBySide::new(clients);
-        replayed(&rt, alloc, &filled(alloc, &script, times)?, proxies, &gate)?;
-        holds(gate.is_passed(times), &"side by side")?;
+        replayed(&rt, alloc, &script, proxies, &gate)?;
+        holds(gate.is_passed(times as u64), &"side by side")?;
     }
     Ok(())
 }
+
+/// A command that passes no gate.
+const FIRST: &str = r#"{"do":"tell","client":0,"to":1}"#;
 
 /// The calls of a client of 64: requests for commit versions that are fresh, repeated, forgotten, of
 /// number 0 and early, with something processed or not; reports that are refused, that raise the
@@ -206,8 +213,18 @@ fn replies_are<R: Threads + Wait + Sync>(
     calls: &str,
     replies: &str,
 ) -> Result<(), Fail> {
-    let script = filled(alloc, calls, u64::from(client))?;
+    let client = client.to_string(alloc)?;
+    let script = calls.replace(alloc, '@', &client)?;
     let found = replayed(rt, alloc, &script, 2, gate)?;
-    let wanted = filled(alloc, replies, u64::from(client))?;
+    let wanted = replies.replace(alloc, '@', &client)?;
     same_text(from_utf8(&found)?, &wanted, "replies")
+}
+
+/// What is said of a replay that fails.
+#[test]
+fn faults_of_replays(rt: HostRuntime) -> Result<(), Fail> {
+    let refused = ReplayFault::Script(ScriptError::NotJson);
+    says(rt.alloc(), &refused, "script refused: NotJson")?;
+    says(rt.alloc(), &ReplayFault::Memory, "out of memory")?;
+    says(rt.alloc(), &ReplayFault::Write, "writing failed")
 }

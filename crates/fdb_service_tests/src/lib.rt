@@ -12,10 +12,6 @@ mod proxy;
 #[cfg(test)]
 mod refused_memory;
 #[cfg(test)]
-mod replay;
-#[cfg(test)]
 mod stand;
-#[cfg(test)]
-mod templates;
 #[cfg(test)]
 mod workload;

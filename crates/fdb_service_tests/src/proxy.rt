@@ -1,12 +1,9 @@
-//! The tests of desks, batches and proxies: texts first, and then clients in threads of their own.
+//! The tests of desks, batches and proxies.
 
 mod answers;
-pub mod crowd;
 pub mod desks;
-mod kinds;
 pub mod running;
 
-use crate::proxy::kinds::{Fate, each_kind};
 use crate::stand::play_texts;
 use std::test::Fail;
 
@@ -35,7 +32,7 @@ serve =>; leave 10001 0 4294967296 default 64 0 0; serve => 10001 100 unlocked n
 /// 2 too.
 const CLOSED: &str = "
 leave 1 0 0 default 1 0 0 => in; leave 1 1 0 default 2 0 0 => in; leave 1 0 1 system 1 0 0 => in
-close => ok; leave 1 2 5 default 1 0 0 => the proxy's desk is closed
+close; leave 1 2 5 default 1 0 0 => the proxy's desk is closed
 run 2 1 9 => 1 100 unlocked none at 0 / 1 closed / 1 100 unlocked none at 0
 leave 1 2 6 default 1 0 0 => the proxy's desk is closed
 # a proxy whose desk was closed before
@@ -69,7 +66,7 @@ const LEFT: &str = "
 leave 1 0 4294967296 batch 1 0 0; leave 1 1 4294967297 default 1 0 0; leave 1 2 9 default 64 0 0
 leave 1 3 9 batch 2 0 0; leave 1 0 4294967299 system 101 0 0; leave 1 0 4 batch 10001 0 0
 leave 1 0 5 default 10001 0 0; leave 1 0 6 batch 10011 0 0; leave 1 0 4294967303 batch 10012 0 0
-leave 1 0 8 default 100000 0 0; leave 1 0 9 system 100000 0 0; close => ok
+leave 1 0 8 default 100000 0 0; leave 1 0 9 system 100000 0 0; close
 run 10001 10001 99 => 4 closed / 1 100 unlocked none at 0 / 3 closed / 1 the request's count is out of range / 1 closed / 1 100 unlocked none at 0
 ";
 
@@ -85,18 +82,6 @@ run 1 1 165 => 165 the queue is full / 165 100 unlocked none at 0
 ",
 ];
 
-/// What is taken from a desk that is closed, where no proxy serves it.
-const TAKEN: &str = "
-ask 0 0 1000
-ask 0 0 3000
-report 0 2 0
-see => 1
-leave 1 3 4294967299 batch 7 9 1 aware min ahead
-leave 1 4 0 system 1 0 0
-close
-take => 3 4294967299 1 true 7 9 1 true true 4 0 0 false 1 0 0 false false
-";
-
 /// One that started, one that is pushed out and one that is closed, none of which is waited for, and
 /// another.
 const GONE: &str = "
@@ -111,7 +96,7 @@ fn batches(rt: HostRuntime) -> Result<(), Fail> {
 
 #[test]
 fn whoever_waits_hears_what_comes_of_it(rt: HostRuntime) -> Result<(), Fail> {
-    play_texts(&rt, rt.alloc(), &[CLOSED, NOT_LET_IN, LEFT, TAKEN, GONE], 0)?;
+    play_texts(&rt, rt.alloc(), &[CLOSED, NOT_LET_IN, LEFT, GONE], 0)?;
     play_texts(&rt, rt.alloc(), &ROOM_FOR_ONE, 0)?;
     play_texts(&rt, rt.alloc(), &MANY, 0)
 }
@@ -193,23 +178,62 @@ fn new_rates_of_a_running_proxy(rt: HostRuntime) -> Result<(), Fail> {
     Ok(())
 }
 
-const FATES: [Fate; 5] = [
-    Fate::Start,
-    Fate::Starve,
-    Fate::NoBatch,
-    Fate::NoRoom,
-    Fate::Wait,
+/// 288 requests: of each priority, with no tag, one and three, at either side of the moment to which the
+/// throttle holds, of either count, with each flag or without, and from a position after a report or
+/// before it. A desk is closed while all wait.
+const KINDS: &str = "
+ask 0 0 1000; ask 0 0 3000; report 0 2 0 locked => raised changed at 1; see => 1
+leave 16 1 0 system 1 4999 0 kinds; leave 16 1 16 system 1 5000 1 kinds
+leave 32 1 32 system 1 4999 1 kinds; leave 32 1 64 system 1 5000 2 u kinds
+leave 16 2 0 default 1 4999 0 kinds; leave 16 2 16 default 1 5000 0 kinds
+leave 16 2 32 default 1 4999 1 kinds; leave 16 2 48 default 1 5000 1 kinds
+leave 16 2 64 default 1 4999 2 u kinds; leave 16 2 80 default 1 5000 2 u kinds
+leave 16 3 0 batch 1 4999 0 kinds; leave 16 3 16 batch 1 5000 0 kinds
+leave 16 3 32 batch 1 4999 1 kinds; leave 16 3 48 batch 1 5000 1 kinds
+leave 16 3 64 batch 1 4999 2 u kinds; leave 16 3 80 batch 1 5000 2 u kinds
+";
+
+/// What becomes of them: all start, or all that are let in by a batch limit of 0; system requests use up
+/// the limits; or the first one has the only room. At last those that the system requests leave no limit
+/// wait in the queue when the desk is closed, but for the first of them, which starts in the last window:
+/// the proxy is held by two further system requests, whose answers are handed over.
+const FATES: [&str; 5] = [
+    "
+close
+run 100000 100000 1000 => 128 2100 locked 08080808080808080808 at 1 / \
+16 2100 locked 08080808080808080808 at 1 with 1 t 5 5000 / \
+16 2100 locked 08080808080808080808 at 1 / \
+16 2100 locked 08080808080808080808 at 1 with 2 t 5 5000 / \
+112 2100 locked 08080808080808080808 at 1
+",
+    "
+close
+run 100000 0 1000 => 128 2100 locked 08080808080808080808 at 1 / \
+16 2100 locked 08080808080808080808 at 1 with 1 t 5 5000 / \
+16 2100 locked 08080808080808080808 at 1 / \
+16 2100 locked 08080808080808080808 at 1 with 2 t 5 5000 / \
+16 2100 locked 08080808080808080808 at 1 / 96 batch requests are not let in
+",
+    "
+close
+run 1 1 1000 => 96 2100 locked 08080808080808080808 at 1 / 192 closed
+",
+    "
+close
+run 100000 100000 1 => 1 2100 locked 08080808080808080808 at 1 / 287 the queue is full
+",
+    "
+leave 2 4 0 system 1 0 0 held
+run 1 1 1000 hear 288 close hear 289 => 97 2100 locked 08080808080808080808 at 1 / 191 closed / \
+2 2100 locked 08080808080808080808 at 1
+",
 ];
 
 #[test]
 fn a_desk_is_closed_while_each_kind_of_options_waits(rt: HostRuntime) -> Result<(), Fail> {
     for fate in FATES {
-        play_texts(&rt, rt.alloc(), &[&each_kind(rt.alloc(), fate)?], 0)?;
+        let text = format!(in rt.alloc(); "{KINDS}{fate}")?;
+        play_texts(&rt, rt.alloc(), &[&text], 0)?;
     }
     Ok(())
-}
-
-#[test]
-fn six_clients_and_two_proxies(rt: HostRuntime) -> Result<(), Fail> {
-    play_texts(&rt, rt.alloc(), &["crowd => answered"], 0)
 }

@@ -7,8 +7,8 @@ ghost use Rattle.fdb_live.specs.Seen.{origin_of};
 pub mod lines;
 
 use crate::proxy::desks::Waiter;
-use crate::stand::lines::play_lines;
-use fdb_checks::CaseError;
+use crate::stand::lines::play_line;
+use fdb_checks::{CaseError, lines_of};
 use fdb_client::{Client, clients_of};
 use fdb_history::Record;
 use fdb_live::{Epoch, Fetched, Live, LiveRecord, Master, Opened, Seen};
@@ -47,7 +47,12 @@ pub(crate) struct Stand<'a, J: Live, R> {
     pub(crate) clients: Vec<Client<'a, J>>,
     /// What was told and not learnt yet.
     pub(crate) told: Option<Seen<J>>,
-    pub(crate) tokens: Tokens<J>,
+    /// What those have seen who leave requests on the desk: nothing, or what they read last.
+    pub(crate) seen: Seen<J>,
+    pub(crate) ahead: Seen<J>,
+    /// What a proxy has seen, or who serves a desk in its place.
+    pub(crate) served: Seen<J>,
+    witness: Seen<J>,
     /// Who waits for answers, in the order of the requests.
     pub(crate) waiters: Vec<Waiter<J>>,
     /// A request that is left on the desk while a proxy runs.
@@ -60,30 +65,6 @@ pub(crate) struct Stand<'a, J: Live, R> {
     pub(crate) alone: u64,
 }
 
-/// The tokens of those who are no clients.
-#[derive(Drop)]
-pub(crate) struct Tokens<J: Live> {
-    /// What those have seen who leave requests on the desk: nothing, or what they read last.
-    pub(crate) seen: Seen<J>,
-    pub(crate) ahead: Seen<J>,
-    /// What a proxy has seen, or who serves a desk in its place.
-    pub(crate) served: Seen<J>,
-    witness: Seen<J>,
-}
-
-impl<J: Live> Tokens<J> {
-    /// Copies of one.
-    fn of(master: &Master<J>, mut token: Seen<J>) -> Self {
-        let live = master.record();
-        Tokens {
-            seen: live.split(&mut token),
-            ahead: live.split(&mut token),
-            served: live.split(&mut token),
-            witness: live.split(&mut token),
-        }
-    }
-}
-
 impl<'a, J: Live, R: Wait> Stand<'a, J, R> {
     /// The last of some clients gives the tokens of those who are none.
     fn new(
@@ -92,13 +73,17 @@ impl<'a, J: Live, R: Wait> Stand<'a, J, R> {
         mut clients: Vec<Client<'a, J>>,
         once: bool,
     ) -> Option<Self> {
-        let (_, token) = clients.pop()?.finish();
+        let (_, mut token) = clients.pop()?.finish();
+        let live = service.master.record();
         Some(Stand {
             rt,
             service,
             clients,
             told: None,
-            tokens: Tokens::of(&service.master, token),
+            seen: live.split(&mut token),
+            ahead: live.split(&mut token),
+            served: live.split(&mut token),
+            witness: live.split(&mut token),
             waiters: Vec::new(service.alloc),
             later: None,
             back: None,
@@ -110,17 +95,13 @@ impl<'a, J: Live, R: Wait> Stand<'a, J, R> {
     /// How many calls are logged, how far the clients and the proxy have come in all, and what a
     /// witness reads. A call that is refused memory leaves that as it was.
     pub(crate) fn state(&mut self) -> (usize, u64, Fetched) {
-        let (mut calls, mut positions) = (0usize, self.tokens.served.position());
+        let (mut calls, mut positions) = (0usize, self.served.position());
         for client in &self.clients {
             calls = calls.saturating_add(client.calls().len());
             positions = positions.saturating_add(client.position());
         }
         let live = self.service.master.record();
-        (
-            calls,
-            positions,
-            live.read(self.rt, &mut self.tokens.witness),
-        )
+        (calls, positions, live.read(self.rt, &mut self.witness))
     }
 }
 
@@ -149,20 +130,21 @@ fn play_named<J: Live + Send + Sync, R: Threads + Wait + Sync>(
     play_at(rt, &service, clients, told)
 }
 
-/// Plays a text at a service with these clients.
+/// Plays the lines of a text at a service with these clients.
 fn play_at<'a, J: Live + Send + Sync, R: Threads + Wait + Sync>(
     rt: &'a R,
     service: &'a Service<J>,
     clients: Vec<Client<'a, J>>,
     told: Told<'_>,
 ) -> Result<u64, CaseError> {
-    match Stand::new(rt, service, clients, told.once) {
-        Some(mut stand) => {
-            play_lines(service.alloc, &mut stand, told.text, told.number)?;
-            Ok(stand.alone)
-        }
-        None => Err(CaseError::Failed(Fail::new("no client"))),
+    let Some(mut stand) = Stand::new(rt, service, clients, told.once) else {
+        return Err(CaseError::Failed(Fail::new("no client")));
+    };
+    for mut line in lines_of(service.alloc, told.text, told.number)? {
+        play_line(&mut stand, &mut line);
+        line.ends()?;
     }
+    Ok(stand.alone)
 }
 
 /// Plays a text at a new service, whose first commit version is 100. It fails where memory is refused,

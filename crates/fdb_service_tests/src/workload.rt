@@ -5,7 +5,8 @@ ghost use Rattle.fdb_client.specs.Cluster.{IsClusterConfig};
 ghost use Rattle.std.specs.List.{list_all};
 ghost use Rattle.fdb_queue.specs.Throttles.{is_throttle};
 
-use fdb_checks::{CaseError, TableLine, lines_of, tag};
+use crate::proxy::desks::tag;
+use fdb_checks::{CaseError, TableLine, lines_of};
 use fdb_client::{
     Client, ClientError, Cluster, ClusterConfig, Ends, FinishError, SettledRun, Workload,
     run_workload,
@@ -15,6 +16,7 @@ use fdb_history::{
 };
 use fdb_live::Live;
 use fdb_queue::{QueueConfig, Throttle};
+use fdb_script::push_verdict;
 use std::alloc::{AllocError, Global};
 use std::sync::Wait;
 use std::test::Fail;
@@ -23,8 +25,8 @@ use std::thread::Threads;
 /// Plays a text at a number, whose calls are workloads: `visits` has how many clients, GRV proxies and
 /// throttles there are, the first version, how often each client reads through each GRV proxy, and how
 /// many tags and transactions a read has. Behind that may stand `asks` and how many versions each client
-/// draws, else one, and `swaps`: two clients are left at one another's places. `closes` has how many GRV
-/// proxies there are, each of whose desks is closed in turn.
+/// draws, else one; or `closes` and a desk from 1 on, which is closed before; and `swaps`: two clients are
+/// left at one another's places.
 pub(crate) fn play_workloads<R: Threads + Wait + Sync>(
     rt: &R,
     alloc: Global,
@@ -32,11 +34,9 @@ pub(crate) fn play_workloads<R: Threads + Wait + Sync>(
     number: u64,
 ) -> Result<(), CaseError> {
     for mut line in lines_of(alloc, text, number)? {
-        match line.word() {
-            "visits" => visit(rt, &mut line),
-            "closes" => close_each(rt, &mut line),
-            _ => line.fails("no call"),
-        }
+        let is_visit = line.word() == "visits";
+        line.holds(is_visit, "no call");
+        visit(rt, &mut line);
         line.ends()?;
     }
     Ok(())
@@ -54,7 +54,7 @@ struct Visits {
     tags: u64,
     count: u64,
     /// The desk that is closed before.
-    closed: Option<u32>,
+    closed: Option<u64>,
     /// Whether two clients are left at one another's places.
     swaps: bool,
 }
@@ -73,10 +73,15 @@ impl<R: Wait> Workload<R> for Visits {
         clients: &mut [Client<'_, J>],
     ) -> Visited {
         if let Some(number) = self.closed {
-            cluster.desk(number).close(rt);
+            cluster.desk(number.min(15) as u32).close(rt);
         }
         let mut last = 0;
-        let found = self.visits_all(rt, cluster, clients, &mut last);
+        let mut found = Ok(true);
+        for client in clients.iter_mut() {
+            if found == Ok(true) {
+                found = self.visits(rt, cluster, client, &mut last);
+            }
+        }
         if self.swaps && clients.len() > 1 {
             clients.swap(0, 1);
         }
@@ -85,21 +90,6 @@ impl<R: Wait> Workload<R> for Visits {
 }
 
 impl Visits {
-    /// The calls of all clients, one after another.
-    fn visits_all<J: Live, R: Wait>(
-        &self,
-        rt: &R,
-        cluster: &Cluster<'_, J>,
-        clients: &mut [Client<'_, J>],
-        last: &mut u32,
-    ) -> Result<bool, ClientError> {
-        let mut right = true;
-        for client in clients.iter_mut() {
-            right &= self.visits(rt, cluster, client, last)?;
-        }
-        Ok(right)
-    }
-
     /// The calls of one client.
     fn visits<J: Live, R: Wait>(
         &self,
@@ -135,7 +125,7 @@ impl Visits {
     ) -> Result<bool, ClientError> {
         let opts = self.opts(place)?;
         let limited = opts.priority == Priority::Default;
-        let closed = self.closed == Some(proxy);
+        let closed = self.closed == Some(u64::from(proxy));
         let further = (place % 1_000) as u32 * cluster.config().grv_proxies;
         let desk = cluster.desk(number.saturating_add(further));
         match client.read_version(rt, &OpenGate, desk, opts) {
@@ -251,30 +241,18 @@ fn ran<R: Threads + Wait + Sync>(
     visits: Visits,
 ) -> Result<bool, FinishError> {
     let throttles = throttles_of(alloc, size.throttles)?;
-    match config_of(size, &throttles) {
-        Some(config) => ran_at(rt, alloc, config, visits),
-        None => Ok(false),
-    }
-}
-
-fn ran_at<R: Threads + Wait + Sync>(
-    rt: &R,
-    alloc: Global,
-    config: ClusterConfig<'_>,
-    visits: Visits,
-) -> Result<bool, FinishError>
-    requires { IsClusterConfig config }
-{
+    let Some(config) = config_of(size, &throttles) else {
+        return Ok(false);
+    };
     let reads = visits
         .reads
-        .saturating_mul(u64::from(config.grv_proxies) + 1);
-    let (clients, closes) = (u64::from(config.clients), visits.closed.is_some());
-    let asks = visits.asks;
+        .saturating_mul(size.grv_proxies.saturating_add(1));
+    let (asks, closes) = (visits.asks, visits.closed.is_some());
     let ran = run_workload(rt, alloc, config, visits)?;
     if !came_to(ran.output, &ran.ends)? {
         return Ok(false);
     }
-    Ok(explained(alloc, &ran.run, clients, (asks, reads), closes)?)
+    Ok(explained(alloc, &ran.run, size.clients, (asks, reads), closes)?)
 }
 
 /// Whether each read came to what it should. A GRV proxy that was refused memory has closed its
@@ -294,7 +272,7 @@ fn came_to((output, last): Visited, ends: &Ends) -> Result<bool, FinishError> {
 }
 
 /// Whether each client has its versions, drawn in turn by the commit proxy of its own number, and a log
-/// of its calls and no others; and whether one history explains all.
+/// of its calls and no others; and whether one history explains all, which is printed.
 fn explained(
     alloc: Global,
     run: &SettledRun,
@@ -302,8 +280,11 @@ fn explained(
     (asks, reads): (u64, u64),
     closes: bool,
 ) -> Result<bool, AllocError> {
-    let events = run.history(alloc)?.events.len() as u64;
+    let history = run.history(alloc)?;
+    let events = history.events.len() as u64;
     let wanted = clients.saturating_mul(reads.saturating_add(1));
+    let mut text = String::new(alloc);
+    push_verdict(&mut text, &history, run.drawn, true)?;
     Ok(
         has_logs(run, clients, (asks, reads))
             && are_own(run.chain(alloc)?.as_slice(), asks)
@@ -329,15 +310,6 @@ fn are_own(chain: &[Issued], asks: u64) -> bool {
 }
 
 /// Says what comes of a workload.
-fn say_ran<R: Threads + Wait + Sync>(rt: &R, line: &mut TableLine<'_>, size: Size, visits: Visits) {
-    match ran(rt, line.alloc, size, visits) {
-        Ok(true) => line.say("explained"),
-        Ok(false) => line.say("wrong"),
-        Err(FinishError::Memory) => line.refuse(),
-        Err(cause) => line.say(cause),
-    }
-}
-
 fn visit<R: Threads + Wait + Sync>(rt: &R, line: &mut TableLine<'_>) {
     let size = Size {
         clients: line.number(),
@@ -351,41 +323,29 @@ fn visit<R: Threads + Wait + Sync>(rt: &R, line: &mut TableLine<'_>) {
         tags: line.number(),
         count: line.number(),
         asks: line.number_behind("asks").max(1),
-        closed: None,
+        closed: line.number_behind("closes").checked_sub(1),
         swaps: line.text.contains(" swaps"),
     };
-    say_ran(rt, line, size, visits);
-}
-
-/// Closes each desk of so many in turn, before a client visits all.
-fn close_each<R: Threads + Wait + Sync>(rt: &R, line: &mut TableLine<'_>) {
-    let grv_proxies = line.who();
-    for closed in 0..grv_proxies {
-        let size = Size {
-            clients: 1,
-            grv_proxies: u64::from(grv_proxies),
-            throttles: 2,
-            version: 100,
-        };
-        let visits = Visits {
-            alloc: line.alloc,
-            asks: 1,
-            reads: 3,
-            tags: 1,
-            count: 1,
-            closed: Some(closed),
-            swaps: false,
-        };
-        let found = ran(rt, line.alloc, size, visits);
-        line.holds(found == Ok(true), "a desk that is closed");
+    match ran(rt, line.alloc, size, visits) {
+        Ok(true) => line.say("explained"),
+        Ok(false) => line.say("wrong"),
+        Err(FinishError::Memory) => line.refuse(),
+        Err(cause) => line.say(cause),
     }
-    line.say("explained");
 }
 
-/// Each desk of 1 to 16 is another one, and the one after the last is the first.
+/// Each desk of 1 to 16 is another one, and the one after the last is the first, up to number 5,000.
 #[test]
 fn each_desk_is_closed_alone(rt: HostRuntime) -> Result<(), Fail> {
-    Ok(play_workloads(&rt, rt.alloc(), "*closes @1 => explained", 16)?)
+    let alloc = rt.alloc();
+    for grv_proxies in 1..=16 {
+        let reads = if grv_proxies == 5 { 1_000 } else { 3 };
+        let each = format!(in alloc;
+            "*visits 1 {grv_proxies} 2 100 {reads} 1 1 closes @1 => explained"
+        )?;
+        play_workloads(&rt, alloc, &each, grv_proxies)?;
+    }
+    Ok(())
 }
 
 /// Clients that are not where they were are refused, and others are not.

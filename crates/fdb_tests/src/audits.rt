@@ -3,19 +3,20 @@
 //! - `start` has the record that the register begins with, which is 100 else;
 //! - `entry` is one of the chain (its ordinal, proxy, number, what was processed, the version
 //! before and its own, the moment, and `fresh` or `kept`), and `log` begins the log of the next
-//! client, to which the calls go from here on. They are told by their words (`words`);
-//! - `audit` wants a fault, or `ok`, and forgets all, as `clear` does;
-//! - `event` has a place in the history, and `events` how many there are and whether `history_of`
-//! finds the same, and `register` what the register is after them.
+//! client, to which the calls go from here on. `reads` has the client's position before and after,
+//! and the record that was read; `reports` these, a number, the record, and `raised`, `changed` or
+//! `same`; `draws` the client's position, and the entry that was answered; `tells` a position and
+//! another client, and `refused` the number of a report of what was not issued;
+//! - `audit` says a fault, or how many events the history has, and forgets all, as `clear` does;
+//! `register` says what the register is after them. `history_of` finds the same events.
 
-pub mod words;
-
-use fdb_checks::{Player, TableLine, plays_all};
+use crate::words::{issued, plain, record, untagged};
+use fdb_checks::{Player, TableLine, plays_all, says};
 use fdb_history::{
-    AuditFault, ClientLog, Event, History, Issued, Record, Sequence, audit, history_of,
-    register_after,
+    AuditFault, Call, CallAnswer, ClientLog, Input, Issued, Record, Refusal, Sequence, audit,
+    history_of, register_after,
 };
-use std::alloc::{AllocError, Global};
+use std::alloc::Global;
 use std::test::Fail;
 
 /// The most logs that an audit takes.
@@ -35,112 +36,32 @@ impl Audits {
     pub(crate) fn new(alloc: Global) -> Audits {
         Audits {
             alloc,
-            start: words::plain(100),
+            start: plain(100),
             chain: Vec::new(alloc),
             logs: Vec::new(alloc),
         }
     }
 
-    fn clear(&mut self) {
-        *self = Audits::new(self.alloc);
-    }
-
-    /// The history, or the fault. More logs than an audit takes are refused as want of memory is.
-    fn audited(&self) -> Result<History, AuditFault> {
+    /// Says the fault, or of the history how many events it has, or what the register is after them.
+    fn look(&self, what: &str, line: &mut TableLine<'_>) {
         if self.logs.len() > MOST {
-            return Err(AuditFault::Memory);
+            line.fails("too many logs");
+            return;
         }
-        audit(self.alloc, self.start, &self.chain, &self.logs)
-    }
-
-    /// The history of logs, in which no fault is looked for.
-    fn found_again(&self) -> Result<History, AllocError> {
-        if self.logs.len() > MOST {
-            return Err(AllocError);
-        }
-        history_of(self.alloc, &self.logs)
-    }
-
-    fn fault(&mut self, line: &mut TableLine<'_>) {
-        match self.audited() {
-            Ok(_) => line.say("ok"),
+        let Ok(again) = history_of(self.alloc, &self.logs) else {
+            line.refuse();
+            return;
+        };
+        match audit(self.alloc, self.start, &self.chain, &self.logs) {
+            Ok(history) => {
+                line.holds(again.events == history.events, "other events");
+                match what {
+                    "register" => line.say(register_after(self.start, history.events.as_slice())),
+                    _ => line.say(history.events.len()),
+                }
+            }
             Err(AuditFault::Memory) => line.refuse(),
             Err(fault) => line.say(fault),
-        }
-        self.clear();
-    }
-
-    /// The history of logs that have one.
-    fn history(&self, line: &mut TableLine<'_>) -> Option<History> {
-        match self.audited() {
-            Ok(history) => Some(history),
-            Err(fault) => {
-                match fault {
-                    AuditFault::Memory => line.refuse(),
-                    _ => line.fails("a fault"),
-                }
-                None
-            }
-        }
-    }
-
-    /// How many events there are, and whether they are found again where no fault is looked for.
-    fn events(&self, line: &mut TableLine<'_>) {
-        if let Some(history) = self.history(line) {
-            line.say(history.events.len());
-            self.say_again(line, &history);
-        }
-    }
-
-    fn say_again(&self, line: &mut TableLine<'_>, history: &History) {
-        match self.found_again() {
-            Ok(again) => line.say(if again.events == history.events {
-                "again"
-            } else {
-                "others"
-            }),
-            Err(_) => line.refuse(),
-        }
-    }
-
-    fn event(&self, line: &mut TableLine<'_>) {
-        let place = line.number() as usize;
-        if let Some(history) = self.history(line) {
-            match history.events.as_slice().get(place) {
-                None => line.say("none"),
-                Some(event) => say_event(line, event),
-            }
-        }
-    }
-
-    fn register(&self, line: &mut TableLine<'_>) {
-        if let Some(history) = self.history(line) {
-            line.say(register_after(self.start, history.events.as_slice()));
-        }
-    }
-
-    fn begin(&mut self, line: &mut TableLine<'_>) {
-        self.start = words::record(line);
-    }
-
-    fn entry(&mut self, line: &mut TableLine<'_>) {
-        let issued = words::issued(line);
-        line.takes(self.chain.push(issued));
-    }
-
-    fn log(&mut self, line: &mut TableLine<'_>) {
-        let log = ClientLog {
-            calls: Sequence::new(self.alloc),
-        };
-        line.takes(self.logs.push(log));
-    }
-
-    /// Adds a call to the last log.
-    fn add(&mut self, kind: &str, line: &mut TableLine<'_>) {
-        let call = words::call(kind, line);
-        match self.logs.last_mut() {
-            Some(log) => line.takes(log.calls.push(call)),
-            None => line.fails("no log"),
         }
     }
 }
@@ -148,104 +69,158 @@ impl Audits {
 impl Player for Audits {
     fn called(&mut self, call: &str, line: &mut TableLine<'_>) {
         match call {
-            "start" => self.begin(line),
-            "entry" => self.entry(line),
-            "log" => self.log(line),
-            "clear" => self.clear(),
-            "audit" => self.fault(line),
-            "events" => self.events(line),
-            "event" => self.event(line),
-            "register" => self.register(line),
-            kind => self.add(kind, line),
+            "start" => self.start = record(line),
+            "entry" => {
+                let issued = issued(line);
+                line.takes(self.chain.push(issued));
+            }
+            "log" => {
+                let calls = Sequence::new(self.alloc);
+                line.takes(self.logs.push(ClientLog { calls }));
+            }
+            "clear" => *self = Audits::new(self.alloc),
+            "audit" => {
+                self.look(call, line);
+                *self = Audits::new(self.alloc);
+            }
+            "register" => self.look(call, line),
+            kind => {
+                let call = self::call(kind, line);
+                match self.logs.last_mut() {
+                    Some(log) => line.takes(log.calls.push(call)),
+                    None => line.fails("no log"),
+                }
+            }
         }
     }
 }
 
-fn say_event(line: &mut TableLine<'_>, event: &Event) {
-    match event {
-        Event::Read { client, call, rec } => line.say(format_args!("read {client} {call} {rec}")),
-        Event::Report {
-            client,
-            call,
-            rec,
-            raised,
-            changed,
-        } => line.say(format_args!("report {client} {call} {rec} {raised} {changed}")),
+/// A call of a kind, by the rest of its words.
+fn call(kind: &str, line: &mut TableLine<'_>) -> Call {
+    match kind {
+        "reads" => Call {
+            input: Input::Grv(untagged(line.alloc)),
+            asked: line.number(),
+            position: line.number(),
+            answer: CallAnswer::Version {
+                rec: record(line),
+                limits: Sequence::new(line.alloc),
+                locked_out: false,
+            },
+        },
+        "reports" => reported(line),
+        "draws" => drawn(line),
+        "tells" => {
+            let asked = line.number();
+            Call {
+                input: Input::Tell { to: line.who() },
+                asked,
+                position: asked,
+                answer: CallAnswer::Told,
+            }
+        }
+        kind => refused(kind, line),
     }
 }
 
-/// Each event of logs that have a history, and none behind the last.
-const HISTORIES: &str = "
-event 0 => none; events => 0 again; audit => ok
-# one client
-entry 0 0 1 0 0 100 100 fresh; entry 1 0 2 0 100 2100 2100 fresh
-log; reads 0 0 100; draws 0 0 0 1 0 0 100 100 fresh; stays 0 0 1 100
-draws 0 1 0 2 0 100 2100 2100 fresh; raises 0 1 2 2100; reads 1 1 2100
-event 0 => read 0 0 100 unlocked none; event 1 => report 0 2 100 unlocked none false false
-event 2 => report 0 4 2100 unlocked none true true; event 3 => read 0 5 2100 unlocked none
-event 4 => none; events => 4 again; register => 2100 unlocked none; audit => ok
-# client 1 raises twice, client 0 reads before, between and after, and client 2 has a report that
-# raises nothing
+/// A report that is answered by just its record.
+fn reported(line: &mut TableLine<'_>) -> Call {
+    let (asked, position, num) = (line.number(), line.number(), line.number());
+    let rec = record(line);
+    let done = line.word();
+    Call {
+        input: Input::Report {
+            num,
+            locked: rec.locked,
+            metadata: rec.metadata,
+            min_known: rec.min_known,
+        },
+        asked,
+        position,
+        answer: CallAnswer::Acked {
+            rec,
+            raised: done == "raised",
+            changed: done != "same",
+        },
+    }
+}
+
+/// A request with the members of its answer.
+fn drawn(line: &mut TableLine<'_>) -> Call {
+    let asked = line.number();
+    let issued = issued(line);
+    let input = Input::Ask {
+        num: issued.num,
+        processed: issued.processed,
+        at: issued.at,
+    };
+    Call {
+        input,
+        asked,
+        position: asked,
+        answer: CallAnswer::Answered(issued),
+    }
+}
+
+/// A report of what was not issued, by a client that has seen nothing.
+fn refused(kind: &str, line: &mut TableLine<'_>) -> Call {
+    line.holds(kind == "refused", "no call");
+    Call {
+        input: Input::Report {
+            num: line.number(),
+            locked: false,
+            metadata: None,
+            min_known: 0,
+        },
+        asked: 0,
+        position: 0,
+        answer: CallAnswer::Refused(Refusal::NotIssued),
+    }
+}
+
+/// Client 1 raises twice, client 0 reads before, between and after, and client 2 has a report that
+/// raises nothing. Then client 1 raises the minimum alone, client 0 the version, and client 1 the
+/// minimum again.
+pub(crate) const HISTORIES: &str = "
+clear
 entry 0 1 1 0 0 100 100 fresh; entry 1 1 2 0 100 200 200 fresh; entry 2 2 1 0 200 250 250 fresh
-entry 3 1 3 0 250 300 300 fresh; log; reads 0 0 100; reads 0 2 300; reads 2 2 300
+entry 3 1 3 0 250 300 300 fresh
+log; reads 0 0 100 unlocked none; reads 0 2 300 unlocked none; reads 2 2 300 unlocked none
 log; draws 0 0 1 1 0 0 100 100 fresh; draws 0 1 1 2 0 100 200 200 fresh
-draws 0 3 1 3 0 250 300 300 fresh; raises 0 1 2 200; raises 1 2 3 300
-log; reads 0 1 200; draws 1 2 2 1 0 200 250 250 fresh; stays 1 2 1 250
-event 0 => read 0 0 100 unlocked none; event 1 => report 1 3 200 unlocked none true true
-event 2 => read 2 0 200 unlocked none; event 3 => report 1 4 300 unlocked none true true
-event 4 => read 0 1 300 unlocked none; event 5 => read 0 2 300 unlocked none
-event 6 => report 2 2 250 unlocked none false false; event 7 => none; audit => ok
-# client 1 raises the minimum alone, then client 0 the version, and client 1 the minimum again
+draws 0 3 1 3 0 250 300 300 fresh; reports 0 1 2 200 unlocked none raised
+reports 1 2 3 300 unlocked none raised
+log; reads 0 1 200 unlocked none; draws 1 2 2 1 0 200 250 250 fresh
+reports 1 2 1 250 unlocked none same; register => 300 unlocked none; audit => 7
 entry 0 1 1 0 0 100 100 fresh; entry 1 0 1 0 100 200 200 fresh
-log; draws 0 1 0 1 0 100 200 200 fresh; reads 0 1 100 min 50; raises 1 2 1 200 min 20
-reads 2 3 200 min 60
-log; draws 0 0 1 1 0 0 100 100 fresh; min_raises 0 1 1 100 min 50; min_raises 1 3 1 100 min 60
-event 0 => report 1 1 100 unlocked none min 50 false true
-event 2 => report 0 2 200 unlocked none min 20 true true
-event 4 => read 0 3 200 unlocked none min 60
-events => 5 again; register => 200 unlocked none min 60; audit => ok
+log; draws 0 1 0 1 0 100 200 200 fresh; reads 0 1 100 unlocked none min 50
+reports 1 2 1 200 locked 0102030405060708090a min 20 raised
+log; draws 0 0 1 1 0 0 100 100 fresh; reports 0 1 1 100 unlocked none min 50 changed
+reports 1 3 1 100 unlocked none min 60 changed
+register => 200 locked 0102030405060708090a min 60; audit => 4
 ";
 
-/// A fault of each kind, the first of two kinds, and clients and positions that are great.
-const FAULTS: &str = "
-log; reads 0 1 100; reads 0 0 100; audit => Order 0 1; log; raises 0 0 1 200; audit => Order 0 0
-log; reads 0 0 100; log; reads 18446744073709551615 0 100; audit => Order 1 0
-log; raises 0 1 1 200; log; raises 0 1 1 200; audit => Clash 1
-log; raises 0 18446744073709551615 1 200; log; raises 0 1 1 200
-log; raises 0 18446744073709551615 1 200; audit => Clash 18446744073709551615
-log; raises 0 2 1 200; log; reads 0 2 200; audit => Gap 1
-log; raises 0 1 1 200; log; reads 0 18446744073709551615 100; audit => Gap 2
-log; reads 0 0 300; audit => Wrong 0 0; log; raises 0 1 1 100; audit => Wrong 0 0
-log; raises 0 1 1 200; reads 1 1 100; audit => Wrong 0 1
-log; stays 0 0 1 100 min 1; audit => Wrong 0 0
-log; reads 0 0 99; asks 1 Early 2; audit => Wrong 0 0
-# client 0 raises with a version that was issued to client 1
-entry 0 1 1 0 0 100 100 fresh; entry 1 1 2 0 100 2100 2100 fresh; log; raises 0 1 1 2100
-log; draws 0 0 1 1 0 0 100 100 fresh; draws 0 1 1 2 0 100 2100 2100 fresh; audit => Stray 0 0
-log; asks 1 Early 2; audit => Stray 0 0; log; asks 0 Forgotten; audit => ok
-log; reports 1 NotIssued; audit => ok; log; reports 1 Stranger; audit => Stray 0 0
-log; tells 0 0; tells 0 4294967295; audit => ok
-entry 0 0 1 0 0 100 100 fresh; log; audit => Stray 0 0
-entry 0 4294967295 1 0 0 100 100 fresh; log; reads 0 0 100; log; audit => Stray 4294967295 0
-# client 0 raises the register to 2100, and client 1 asks once it has seen that, or before
+/// A fault of each kind, as it is printed, at clients and positions that are great.
+pub(crate) const FAULTS: &str = "
+clear
+log; log; reads 0 1 100 unlocked none; reads 0 0 100 unlocked none; audit => Order 1 1
+log; reports 0 18446744073709551615 1 200 unlocked none raised
+log; reports 0 18446744073709551615 1 200 unlocked none raised
+log; reports 0 1 1 200 unlocked none raised; audit => Clash 18446744073709551615
+log; reports 0 1 1 200 unlocked none raised; log; reads 0 18446744073709551615 100 unlocked none
+audit => Gap 2
+log; reports 0 1 1 200 unlocked none raised; reads 1 1 100 unlocked none; audit => Wrong 0 1
+log; refused 1; tells 0 4294967295; audit => 0
+entry 0 4294967295 1 0 0 100 100 fresh; log; reads 0 0 100 unlocked none; audit => Stray 4294967295 0
+# client 0 raises the register to 2100, and client 1 asks once it has seen that
 entry 0 0 1 0 0 100 100 fresh; entry 1 1 1 0 100 2050 2050 fresh; entry 2 0 2 0 2050 2100 2100 fresh
-log; draws 0 0 0 1 0 0 100 100 fresh; draws 0 2 0 2 0 2050 2100 2100 fresh; raises 0 1 2 2100
-log; reads 0 1 2100; draws 1 1 1 1 0 100 2050 2050 fresh; audit => NotAbove 1 1
-entry 0 0 1 0 0 100 100 fresh; entry 1 1 1 0 100 2050 2050 fresh; entry 2 0 2 0 2050 2100 2100 fresh
-log; draws 0 0 0 1 0 0 100 100 fresh; draws 0 2 0 2 0 2050 2100 2100 fresh; raises 0 1 2 2100
-log; reads 0 0 100; draws 0 1 1 1 0 100 2050 2050 fresh; audit => ok
-# the greatest version is 9223372036854775807, and the greatest step 5000000
-entry 0 0 1 0 0 9223372036849775807 0 fresh; log; draws 0 0 0 1 0 0 9223372036849775807 0 fresh
-asks 2 Exhausted; audit => Stray 0 1
-entry 0 0 1 0 0 9223372036849775808 0 fresh; log; draws 0 0 0 1 0 0 9223372036849775808 0 fresh
-asks 2 Exhausted; audit => ok
+log; draws 0 0 0 1 0 0 100 100 fresh; draws 0 2 0 2 0 2050 2100 2100 fresh
+reports 0 1 2 2100 unlocked none raised
+log; reads 0 1 2100 unlocked none; draws 1 1 1 1 0 100 2050 2050 fresh; audit => NotAbove 1 1
 ";
 
 #[test]
 fn histories_and_faults(rt: HostRuntime) -> Result<(), Fail> {
-    plays_all(
-        rt.alloc(),
-        &mut Audits::new(rt.alloc()),
-        &[HISTORIES, FAULTS],
-    )
+    let alloc = rt.alloc();
+    plays_all(alloc, &mut Audits::new(alloc), &[HISTORIES, FAULTS])?;
+    says(alloc, &AuditFault::Memory, "out of memory")
 }

@@ -6,17 +6,16 @@
 //! - `ask` has the members of a request (the proxy, the number, what was processed, the moment): the
 //! ordinal, the version before, the version and the moment of the answer, and `fresh` or `kept`, or
 //! why there is none;
-//! - `round` has a number and how many proxies: whether each is given a fresh version for it;
 //! - `patient` has nothing: from here on each request that is refused memory is made once more;
 //! - `stand` has nothing: how many answers stand, once the lock is gone.
 
-mod rows;
-
+use crate::words::say_cause;
 use fdb_chain::{ChainCore, ChainError, RecentChain, Sequencer};
-use fdb_checks::{CaseError, HoldsFirst, Player, TableLine, lines_of};
+use fdb_checks::{CaseError, HoldsFirst, Player, TableLine, lines_of, plays};
 use fdb_history::{Ask, Issued, OpenGate, Place, Service};
 use std::alloc::Global;
 use std::sync::Wait;
+use std::test::Fail;
 use std::thread;
 use std::thread::Threads;
 
@@ -71,7 +70,7 @@ impl<'a, R: Wait> Chain<'a, R> {
                 self.asked = Asked::Core(core);
                 line.say("ok");
             }
-            Err(cause) => say_cause(line, cause),
+            Err(cause) => say_cause(line, cause, cause == ChainError::Memory),
         }
     }
 
@@ -81,49 +80,24 @@ impl<'a, R: Wait> Chain<'a, R> {
                 self.asked = Asked::Behind(Sequencer::new(core));
                 line.say("ok");
             }
-            Err(cause) => say_cause(line, cause),
+            Err(cause) => say_cause(line, cause, cause == ChainError::Memory),
         }
     }
 
     /// Makes a request, with nobody beside it.
     fn answer(&mut self, ask: Ask) -> Result<Issued, ChainError> {
-        match &mut self.asked {
-            Asked::Nobody => Err(ChainError::NoProxy),
-            Asked::Core(core) => core.ask(ask),
-            Asked::Behind(sequencer) => sequencer.ask(self.rt, &OpenGate, ask),
-        }
-    }
-
-    /// The same once more where it is refused memory, if that is called for.
-    fn answer_patiently(&mut self, ask: Ask) -> Result<Issued, ChainError> {
-        let found = self.answer(ask);
-        if self.patient && found == Err(ChainError::Memory) {
-            return self.answer(ask);
-        }
-        found
-    }
-
-    fn ask(&mut self, line: &mut TableLine<'_>) {
-        let found = self.answer_patiently(ask_of(line));
-        say_answer(line, found);
-    }
-
-    /// Has each of so many proxies ask under a number, once it has processed all before it.
-    fn round(&mut self, line: &mut TableLine<'_>) {
-        let (num, proxies) = (line.number(), line.who());
-        for proxy in 0..proxies {
-            let found = self.answer(Ask {
-                proxy,
-                num,
-                processed: num.saturating_sub(1),
-                at: 0,
-            });
-            match found {
-                Ok(issued) => line.holds(issued.fresh, "kept"),
-                Err(cause) => say_cause(line, cause),
+        let tries = if self.patient { 2 } else { 1 };
+        for _ in 0..tries {
+            let found = match &mut self.asked {
+                Asked::Nobody => Err(ChainError::NoProxy),
+                Asked::Core(core) => core.ask(ask),
+                Asked::Behind(sequencer) => sequencer.ask(self.rt, &OpenGate, ask),
+            };
+            if found != Err(ChainError::Memory) {
+                return found;
             }
         }
-        line.say("fresh");
+        Err(ChainError::Memory)
     }
 
     fn stand(&mut self, line: &mut TableLine<'_>) {
@@ -140,20 +114,14 @@ impl<R: Wait> Player for Chain<'_, R> {
         match call {
             "new" => self.open(line),
             "behind" => self.open_behind(line),
-            "ask" => self.ask(line),
-            "round" => self.round(line),
+            "ask" => {
+                let found = self.answer(ask_of(line));
+                say_answer(line, found);
+            }
             "stand" => self.stand(line),
             "patient" => self.patient = true,
             _ => line.fails("no call"),
         }
-    }
-}
-
-/// Says the cause of a refusal, or notes that memory was refused.
-fn say_cause(line: &mut TableLine<'_>, cause: ChainError) {
-    match cause {
-        ChainError::Memory => line.refuse(),
-        cause => line.say(cause),
     }
 }
 
@@ -177,69 +145,59 @@ fn say_answer(line: &mut TableLine<'_>, found: Result<Issued, ChainError>) {
             line.say(issued.at);
             line.say(if issued.fresh { "fresh" } else { "kept" });
         }
-        Err(cause) => say_cause(line, cause),
+        Err(cause) => say_cause(line, cause, cause == ChainError::Memory),
     }
 }
 
-/// Plays a text in which each request passes the gate once, and another one comes that has to wait.
+/// Plays a text at a number. Each request passes the gate once, and another one comes that has to wait.
 fn play_held<R: Threads + Wait + Sync>(
     alloc: Global,
     chain: &mut Chain<'_, R>,
     text: &str,
+    number: u64,
 ) -> Result<(), CaseError> {
-    for mut line in lines_of(alloc, text, 0)? {
-        match line.word() {
-            "ask" => ask_held(chain, &mut line),
-            call => chain.called(call, &mut line),
+    for mut line in lines_of(alloc, text, number)? {
+        let call = line.word();
+        match &chain.asked {
+            Asked::Behind(sequencer) if call == "ask" => {
+                let found = held(chain.rt, sequencer, &mut line);
+                say_answer(&mut line, found);
+            }
+            _ => chain.called(call, &mut line),
         }
         line.ends()?;
     }
     Ok(())
 }
 
-/// Asks a sequencer. While the request is at the gate, with the lock, another one comes.
-fn ask_held<R: Threads + Wait + Sync>(chain: &Chain<'_, R>, line: &mut TableLine<'_>) {
-    match &chain.asked {
-        Asked::Behind(sequencer) => {
-            let (found, in_turn) = held(chain.rt, sequencer, ask_of(line));
-            line.holds(in_turn, "one waits for the other");
-            say_answer(line, found);
-        }
-        _ => line.fails("no lock"),
-    }
-}
-
-/// Asks a sequencer while another one comes. Answers too whether that one waited, and was refused.
+/// Asks a sequencer while another one comes, who waits until the answer is there, and is refused.
 fn held<R: Threads + Wait + Sync>(
     rt: &R,
     sequencer: &Sequencer<FromHundred>,
-    ask: Ask,
-) -> (Result<Issued, ChainError>, bool) {
+    line: &mut TableLine<'_>,
+) -> Result<Issued, ChainError> {
+    let ask = ask_of(line);
     let gate = HoldsFirst::new(Place::SequencerHeld, ask.proxy, STRANGER);
     let (found, behind) = thread::join(
         rt,
-        || answered(rt, sequencer, &gate, ask),
-        || refused_behind(rt, sequencer, &gate, ask),
+        || {
+            let found = sequencer.ask(rt, &gate, ask);
+            gate.is_answered();
+            found
+        },
+        || answered_behind(rt, sequencer, &gate, ask),
     );
-    let refused = behind == Err(ChainError::UnknownProxy);
-    (found, refused && gate.was_passed(1, 1))
-}
-
-/// Asks a sequencer, and tells the gate that the answer has come.
-fn answered<R: Wait>(
-    rt: &R,
-    sequencer: &Sequencer<FromHundred>,
-    gate: &HoldsFirst,
-    ask: Ask,
-) -> Result<Issued, ChainError> {
-    let found = sequencer.ask(rt, gate, ask);
-    gate.is_answered();
+    line.holds(
+        behind == Err(ChainError::UnknownProxy),
+        "a stranger is answered",
+    );
+    line.holds(gate.was_passed(1, 1), "one waits for the other");
     found
 }
 
 /// What it answers a stranger who comes while another request is held. It has processed something
 /// where the other has not.
-fn refused_behind<R: Wait>(
+fn answered_behind<R: Wait>(
     rt: &R,
     sequencer: &Sequencer<FromHundred>,
     gate: &HoldsFirst,
@@ -253,4 +211,57 @@ fn refused_behind<R: Wait>(
     gate.waits_until_held();
     gate.is_done_beside();
     sequencer.ask(rt, gate, ask)
+}
+
+/// A repeat; the least and the greatest step; an earlier moment; one processed; requests out of
+/// range; more processed than asked for.
+const ROWS: &str = "
+new 0 100 4 => ok; ask 0 1 0 1000 => 0 0 100 1000 fresh; ask 0 2 0 3000 => 1 100 2100 3000 fresh
+ask 0 2 0 9000 => 1 100 2100 3000 kept; ask 0 3 0 3000 => 2 2100 2101 3000 fresh
+ask 0 4 0 2500 => 3 2101 2102 2500 fresh; ask 0 5 0 20002500 => 4 2102 5002102 20002500 fresh
+ask 0 7 0 1 => the next request number is 6; ask 0 7 2 1 => the next request number is 6
+ask 0 0 0 1 => the answer is not kept any more; ask 0 0 2 1 => the answer is not kept any more
+ask 4 1 0 1 => there is no such commit proxy; ask 4 1 2 1 => there is no such commit proxy
+ask 0 6 1 20003000 => 5 5002102 5002602 20003000 fresh; ask 0 1 0 1 => the answer is not kept any more
+ask 0 2 2 1 => 1 100 2100 3000 kept; ask 0 2 0 1 => 1 100 2100 3000 kept
+ask 0 7 9 20003001 => 6 5002602 5002603 20003001 fresh; ask 0 6 0 1 => the answer is not kept any more
+ask 0 7 0 1 => 6 5002602 5002603 20003001 kept; stand => 7
+";
+
+/// The last version, and what a chain is not opened with.
+const BOUNDS: &str = "
+new 0 9223372036854775807 64 => ok; ask 63 1 0 0 => 0 0 9223372036854775807 0 fresh
+ask 0 1 0 0 => the versions are used up; stand => 1
+new 0 100 65 => the number of commit proxies is out of range
+new 100 100 0 => the recovery version is out of range
+";
+
+#[test]
+fn requests_through_the_lock(rt: HostRuntime) -> Result<(), Fail> {
+    let (alloc, mut chain) = (rt.alloc(), Chain::new(&rt));
+    plays(alloc, &mut chain, ROWS)?;
+    plays(alloc, &mut chain, BOUNDS)?;
+    let behind = ROWS.replace(alloc, "new 0 100", "behind")?;
+    Ok(play_held(alloc, &mut chain, &behind, 0)?)
+}
+
+/// Proxy 0 and 63 others ask behind a lock, in more than 1,024 turns. No time passes, so that each
+/// version is one above the one before: its ordinal and 100. The others ask under ten numbers, process
+/// the first, and repeat some.
+const OF_64: &str = "
+behind 64 => ok; ask 0 1 0 0 => 0 0 100 0 fresh; *ask @1 1 0 0 => @1 @100 @101 0 fresh
+*ask @1 2 0 0 => @64 @163 @164 0 fresh; *ask @1 1 1 0 => @1 @100 @101 0 kept
+*ask @1 3 1 0 => @127 @226 @227 0 fresh,ask @1 1 0 0 => the answer is not kept any more,\
+ask @1 2 0 0 => @64 @163 @164 0 kept,ask @1 3 0 0 => @127 @226 @227 0 kept,\
+ask @1 5 3 0 => the next request number is 4,ask 64 1 0 0 => there is no such commit proxy
+ask 0 1 0 0 => 0 0 100 0 kept; ask 0 2 0 0 => 190 289 290 0 fresh
+*ask @1 4 0 0 => @191 @290 @291 0 fresh; *ask @1 5 0 0 => @254 @353 @354 0 fresh
+*ask @1 6 0 0 => @317 @416 @417 0 fresh; *ask @1 7 0 0 => @380 @479 @480 0 fresh
+*ask @1 8 0 0 => @443 @542 @543 0 fresh; *ask @1 9 0 0 => @506 @605 @606 0 fresh
+*ask @1 10 0 0 => @569 @668 @669 0 fresh; *ask @1 4 4 0 => @191 @290 @291 0 kept; stand => 632
+";
+
+#[test]
+fn each_of_64_proxies_processes(rt: HostRuntime) -> Result<(), Fail> {
+    Ok(play_held(rt.alloc(), &mut Chain::new(&rt), OF_64, 63)?)
 }

@@ -4,23 +4,19 @@
 //! - `open` has the first record and, behind `for`, how many reporters there are: how many have
 //! tokens. What is done with these stands in texts of its own (`holders`);
 //! - `master` has a recovery version, how many commit proxies there are, and how often each asks:
-//! whether all answers are fresh;
-//! - `gather` has the versions that two reporters report: how far the first token has come before what
-//! they have seen is gathered, and how far all have come then.
+//! whether all answers are fresh.
 
 ghost use Rattle.std.specs.Prelude.{◌≡◌, false};
 ghost use Rattle.fdb_live.specs.Seen.{origin_of};
 
 mod gates;
-pub mod gathered;
 mod holders;
 mod master;
 mod rows;
 mod threads;
 
-use crate::audits::words::{plain, record};
+use crate::words::{plain, record, say_cause};
 use fdb_checks::{CaseError, Player, TableLine};
-use fdb_history::Record;
 use fdb_live::{Live, LiveError, LiveRecord, Opened};
 use holders::{Holders, play};
 use std::alloc::Global;
@@ -39,55 +35,40 @@ impl<'a, R: Wait> Opener<'a, R> {
     pub(crate) fn new(rt: &'a R) -> Self {
         Opener { rt }
     }
-
-    fn open(&self, line: &mut TableLine<'_>) {
-        let start = record(line);
-        let reporters = u32::try_from(line.number_behind("for")).unwrap_or_default();
-        match opened(self.rt, line.alloc, start, reporters) {
-            Ok(tokens) => line.say(tokens),
-            Err(cause) => say_cause(line, cause),
-        }
-    }
 }
 
 impl<R: Wait> Player for Opener<'_, R> {
     fn called(&mut self, call: &str, line: &mut TableLine<'_>) {
         match call {
-            "open" => self.open(line),
-            "master" => master::ask(self.rt, line),
-            "gather" => gathered::gather(self.rt, line),
+            "open" => opened(self.rt, line),
+            "master" => master::asked(self.rt, line),
             _ => line.fails("no call"),
         }
     }
 }
 
-/// Says the cause of a refusal, or notes that memory was refused.
-pub(crate) fn say_cause(line: &mut TableLine<'_>, cause: LiveError) {
-    match cause {
-        LiveError::Memory => line.refuse(),
-        cause => line.say(cause),
-    }
-}
-
-/// Opens a live record. Answers how many tokens there are.
-fn opened<R: Wait>(
-    rt: &R,
-    alloc: Global,
-    start: Record,
-    reporters: u32,
-) -> Result<usize, LiveError> {
+/// Opens a live record. Says how many tokens there are.
+fn opened<R: Wait>(rt: &R, line: &mut TableLine<'_>) {
+    let start = record(line);
+    let reporters = u32::try_from(line.number_behind("for")).unwrap_or_default();
     if reporters == 0 || reporters > 64 {
-        return Ok(0);
+        line.fails("no number of reporters");
+        return;
     }
-    parted::<Brand>(LiveRecord::<Brand>::open(rt, alloc, start, reporters, None)?)
+    match LiveRecord::<Brand>::open(rt, line.alloc, start, reporters, None) {
+        Ok(opened) => parted::<Brand>(opened, line),
+        Err(cause) => say_cause(line, cause, cause == LiveError::Memory),
+    }
 }
 
-/// How many reporters have tokens under the name of the service.
-fn parted<J: Live>(opened: Opened) -> Result<usize, LiveError>
+/// Says how many reporters have tokens under the name of the service.
+fn parted<J: Live>(opened: Opened, line: &mut TableLine<'_>)
     requires { opened ≡ origin_of J.table J.start J.reporters J.chained J.epoch_end J.recovery }
 {
-    let (_, _, tokens) = opened.parts::<J>()?;
-    Ok(tokens.len())
+    match opened.parts::<J>() {
+        Ok((_, _, tokens)) => line.say(tokens.len()),
+        Err(cause) => say_cause(line, cause, cause == LiveError::Memory),
+    }
 }
 
 /// Plays a text on a live record that is opened with version 100 for so many reporters.

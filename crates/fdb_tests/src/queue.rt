@@ -1,30 +1,22 @@
 //! Queues. Each line of a text is a call, and behind `=>` what it is answered:
 //!
-//! - `new` opens a queue (its normal and its batch limit, and its room), and `made` does so with the
-//! throttles of the `with` lines before it (priority, tag, rate and expiry);
+//! - `with` tells a throttle (priority, tag, rate and expiry); `made` opens a queue (its normal and
+//! its batch limit, and its room) with copies of those that were told, and `set` sets these;
 //! - `offer` has a priority, a count and a payload: `in`, or the payload that was pushed `out`;
-//! - `window` has a time: the payloads that start, and behind a bar the budgets after it;
-//! - `starts` has a time: how many requests start in a window;
-//! - `waits` has a time: a number, or `none`;
 //! - `skip` has a time: how many idle windows were held at once, and behind a bar the budgets;
-//! - `rates` has a normal and a batch limit: how many are turned away, and behind a bar the payload
-//! and the cause of each; `turns` has the same: how many;
-//! - `lengths` has nothing: how many system, default and batch requests wait;
-//! - `throttle` has a priority, a tag, a rate and an expiry;
-//! - `forget` has a moment, by which throttles are forgotten;
 //! - `limits` has a priority and a moment: how many limits the tags of the `tag` lines before it
 //! have, and the rate and the expiry of the last.
 //!
 //! A tag is a word, or `of` and how many bytes it has, or `nr` and a number. What is refused is
-//! answered by its cause.
+//! answered by its cause. All other calls, and more of these, are made from C and from Python.
 
-mod rows;
-
-use fdb_checks::{Player, TableLine};
+use crate::words::{say_cause, tag_of_bytes};
+use fdb_checks::{Player, TableLine, plays};
 use fdb_history::{Sequence, Tag};
-use fdb_queue::{GrvQueue, QueueConfig, QueueError, Req, Throttle, TurnedAway};
+use fdb_queue::{GrvQueue, QueueConfig, QueueError, Req, Throttle};
 use std::alloc::Global;
 use std::mem;
+use std::test::Fail;
 
 /// A queue, and what the next one is made with or the next limits are asked for.
 #[derive(Drop)]
@@ -51,45 +43,42 @@ impl Queue {
         })
     }
 
-    /// Puts a queue in the place of another.
-    fn open(&mut self, line: &mut TableLine<'_>, made: Result<GrvQueue<u32>, QueueError>) {
-        match made {
+    /// Makes a queue with copies of the throttles that were told.
+    fn made(&mut self, line: &mut TableLine<'_>) {
+        let config = QueueConfig {
+            normal: line.number(),
+            batch: line.number(),
+            room: line.number(),
+        };
+        let throttles = mem::replace(&mut self.throttles, Vec::new(self.alloc));
+        let Ok(copies) = throttles.clone() else {
+            line.refuse();
+            return;
+        };
+        line.holds(copies == throttles, "another copy");
+        match GrvQueue::with_throttles(self.alloc, config, &copies) {
             Ok(made) => {
                 self.queue = made;
-                self.tags = Vec::new(self.alloc);
                 line.say("ok");
             }
-            Err(cause) => say_cause(line, cause),
+            Err(cause) => say_cause(line, cause, cause == QueueError::Memory),
         }
     }
 
-    fn opens(&mut self, line: &mut TableLine<'_>) {
-        let made = GrvQueue::new(self.alloc, config(line));
-        self.open(line, made);
-    }
-
-    /// Tells a throttle of the queue that is made next.
-    fn tell(&mut self, line: &mut TableLine<'_>) {
-        let throttle = throttle(line);
-        line.takes(self.throttles.push(throttle));
-    }
-
-    /// Makes a queue with the throttles that were told.
-    fn made(&mut self, line: &mut TableLine<'_>) {
+    /// Sets the throttles that were told, one after the other.
+    fn set(&mut self, line: &mut TableLine<'_>) {
         let throttles = mem::replace(&mut self.throttles, Vec::new(self.alloc));
-        let made = GrvQueue::with_throttles(self.alloc, config(line), &throttles);
-        self.open(line, made);
-    }
-
-    /// Copies the throttles that were told.
-    fn copied(&self, line: &mut TableLine<'_>) {
-        match self.throttles.clone() {
-            Ok(copy) => line.say(if copy == self.throttles {
-                "same"
-            } else {
-                "other"
-            }),
-            Err(_) => line.refuse(),
+        for throttle in throttles {
+            let Throttle {
+                priority,
+                tag,
+                rate,
+                expires,
+            } = throttle;
+            match self.queue.set_throttle(priority, tag, rate, expires) {
+                Ok(()) => line.say("ok"),
+                Err(cause) => say_cause(line, cause, cause == QueueError::Memory),
+            }
         }
     }
 
@@ -102,83 +91,14 @@ impl Queue {
         match self.queue.offer(request) {
             Ok(None) => line.say("in"),
             Ok(Some(Req { payload, .. })) => line.say(format_args!("out {payload}")),
-            Err((cause, _)) => say_cause(line, cause),
-        }
-    }
-
-    fn window(&mut self, line: &mut TableLine<'_>) {
-        match self.queue.window(line.number()) {
-            Ok(started) => say_payloads(line, &started),
-            Err(cause) => say_cause(line, cause),
-        }
-        self.say_budgets(line);
-    }
-
-    /// Says a bar, and behind it the budgets.
-    fn say_budgets(&self, line: &mut TableLine<'_>) {
-        let budgets = self.queue.budgets();
-        line.say(format_args!("| {} {}", budgets.normal, budgets.batch));
-    }
-
-    fn starts(&mut self, line: &mut TableLine<'_>) {
-        match self.queue.window(line.number()) {
-            Ok(started) => line.say(started.len()),
-            Err(cause) => say_cause(line, cause),
-        }
-    }
-
-    fn rates(&mut self, line: &mut TableLine<'_>) {
-        let (normal, batch) = (line.number(), line.number());
-        match self.queue.set_rates(normal, batch) {
-            Ok(turned_away) => say_turned_away(line, &turned_away),
-            Err(cause) => say_cause(line, cause),
-        }
-    }
-
-    fn turns(&mut self, line: &mut TableLine<'_>) {
-        let (normal, batch) = (line.number(), line.number());
-        match self.queue.set_rates(normal, batch) {
-            Ok(turned_away) => line.say(turned_away.len()),
-            Err(cause) => say_cause(line, cause),
-        }
-    }
-
-    fn waits(&self, line: &mut TableLine<'_>) {
-        match self.queue.waits(line.number()) {
-            None => line.say("none"),
-            Some(windows) => line.say(windows),
+            Err((cause, _)) => say_cause(line, cause, cause == QueueError::Memory),
         }
     }
 
     fn skip(&mut self, line: &mut TableLine<'_>) {
         let windows = self.queue.skip_idle(line.number());
-        line.say(windows);
-        self.say_budgets(line);
-    }
-
-    fn lengths(&self, line: &mut TableLine<'_>) {
-        let lengths = self.queue.lengths();
-        line.say(lengths.system);
-        line.say(lengths.default_);
-        line.say(lengths.batch);
-    }
-
-    fn throttle(&mut self, line: &mut TableLine<'_>) {
-        let Throttle {
-            priority,
-            tag,
-            rate,
-            expires,
-        } = throttle(line);
-        match self.queue.set_throttle(priority, tag, rate, expires) {
-            Ok(()) => line.say("ok"),
-            Err(cause) => say_cause(line, cause),
-        }
-    }
-
-    fn tag(&mut self, line: &mut TableLine<'_>) {
-        let tag = tag_of(line);
-        line.takes(self.tags.push(tag));
+        let budgets = self.queue.budgets();
+        line.say(format_args!("{windows} | {} {}", budgets.normal, budgets.batch));
     }
 
     fn limits(&mut self, line: &mut TableLine<'_>) {
@@ -190,7 +110,7 @@ impl Queue {
                 line.say(limits.last().map_or(0, |limit| limit.rate));
                 line.say(limits.last().map_or(0, |limit| limit.expires));
             }
-            Err(cause) => say_cause(line, cause),
+            Err(cause) => say_cause(line, cause, cause == QueueError::Memory),
         }
     }
 }
@@ -198,49 +118,26 @@ impl Queue {
 impl Player for Queue {
     fn called(&mut self, call: &str, line: &mut TableLine<'_>) {
         match call {
-            "new" => self.opens(line),
-            "with" => self.tell(line),
+            "with" => {
+                let throttle = Throttle {
+                    priority: line.priority(),
+                    tag: tag_of(line),
+                    rate: line.number(),
+                    expires: line.number(),
+                };
+                line.takes(self.throttles.push(throttle));
+            }
             "made" => self.made(line),
-            "copy" => self.copied(line),
+            "set" => self.set(line),
             "offer" => self.offer(line),
-            "window" => self.window(line),
-            "starts" => self.starts(line),
-            "rates" => self.rates(line),
-            "turns" => self.turns(line),
-            "waits" => self.waits(line),
             "skip" => self.skip(line),
-            "lengths" => self.lengths(line),
-            "throttle" => self.throttle(line),
-            "forget" => self.queue.forget_throttles(line.number()),
-            "tag" => self.tag(line),
+            "tag" => {
+                let tag = tag_of(line);
+                line.takes(self.tags.push(tag));
+            }
             "limits" => self.limits(line),
             _ => line.fails("no call"),
         }
-    }
-}
-
-/// Says the cause of a refusal, or notes that memory was refused.
-fn say_cause(line: &mut TableLine<'_>, cause: QueueError) {
-    match cause {
-        QueueError::Memory => line.refuse(),
-        cause => line.say(cause),
-    }
-}
-
-fn config(line: &mut TableLine<'_>) -> QueueConfig {
-    QueueConfig {
-        normal: line.number(),
-        batch: line.number(),
-        room: line.number(),
-    }
-}
-
-fn throttle(line: &mut TableLine<'_>) -> Throttle {
-    Throttle {
-        priority: line.priority(),
-        tag: tag_of(line),
-        rate: line.number(),
-        expires: line.number(),
     }
 }
 
@@ -250,44 +147,39 @@ fn tag_of(line: &mut TableLine<'_>) -> Tag {
             let bytes = line.number();
             tag_of_bytes(line, bytes)
         }
-        "nr" => tag_of_number(line),
+        "nr" => match line.number().to_string(line.alloc) {
+            Ok(digits) => line.tag(digits.as_str()),
+            Err(_) => {
+                line.lacks();
+                Sequence::new(line.alloc)
+            }
+        },
         word => line.tag(word),
     }
 }
 
-/// A tag of the digits of a number.
-fn tag_of_number(line: &mut TableLine<'_>) -> Tag {
-    match line.number().to_string(line.alloc) {
-        Ok(digits) => line.tag(digits.as_str()),
-        Err(_) => {
-            line.lacks();
-            Sequence::new(line.alloc)
-        }
-    }
-}
+/// Throttles and idle windows, and each cause of a refusal as it is printed. Of two throttles of one tag
+/// the later counts, also among those that a queue is made with. The greatest count of a request starts
+/// by the least rate at last, once 199,998,000,000 of the budget are there; and a batch request of 11
+/// lacks 10 transactions by both rates.
+const QUEUES: &str = "
+with default t 4 9000; with default t 5 5000; with system t 6 9000; made 1 1 2 => ok
+tag t; tag u; tag t; limits default 4999 => 2 5 5000; tag t; limits default 5000 => 0 0 0
+tag u; tag t; limits system 5000 => 1 6 9000; tag t; limits batch 4999 => 0 0 0
+with default t 7 8; with batch t 8 9; set => ok ok; tag t; limits default 7 => 1 7 8
+tag t; limits batch 8 => 1 8 9; tag t; limits system 0 => 1 6 9000; limits default 0 => 0 0 0
+with batch of 16 7 9; with batch of 15 8 9; made 1 0 1 => ok; tag of 16; limits batch 0 => 1 7 9
+with batch of 17 7 9; set => the tag is too long; with batch of 17 7 9; made 1 1 1 => the tag is too long
+made 0 0 1 => the configuration is out of range
+offer batch 1 0 => batch requests are not let in; offer default 0 0 => the request's count is out of range
+skip 1000000 => 0 | 0 0; offer default 100000 7 => in; skip 0 => 0 | 0 0; skip 10000001 => 0 | 0 0
+offer default 1 8 => the queue is full
+skip 1 => 199998000000 | 199998000000 0; skip 1 => 0 | 199998000000 0
+made 1 1 2 => ok; offer batch 11 3 => in; skip 1 => 20000000 | 20000000 20000000
+offer batch 11 4 => in; offer system 1 6 => out 3
+";
 
-/// A tag of so many bytes, each of which is a `t`, unless memory is refused.
-pub(crate) fn tag_of_bytes(line: &mut TableLine<'_>, bytes: u64) -> Tag {
-    let mut tag = Sequence::new(line.alloc);
-    for _ in 0..bytes {
-        line.takes(tag.push(b't'));
-    }
-    tag
-}
-
-/// Says the payloads of requests.
-fn say_payloads(line: &mut TableLine<'_>, started: &[Req<u32>]) {
-    for request in started {
-        line.say(request.payload);
-    }
-}
-
-/// Says how many requests were turned away, and the payload and the cause of each.
-fn say_turned_away(line: &mut TableLine<'_>, turned_away: &[TurnedAway<u32>]) {
-    line.say(turned_away.len());
-    line.say("|");
-    for gone in turned_away {
-        line.say(gone.request.payload);
-        line.say(gone.cause);
-    }
+#[test]
+fn throttles_and_idle_windows(rt: HostRuntime) -> Result<(), Fail> {
+    Ok(plays(rt.alloc(), &mut Queue::new(rt.alloc())?, QUEUES)?)
 }

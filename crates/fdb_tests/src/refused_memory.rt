@@ -2,33 +2,19 @@
 //! in turn: each of these tests passes also where any one allocation is refused. `tests/run` refuses
 //! each, so they ask for little memory of their own.
 
-use crate::audits::Audits;
+use crate::audits::{Audits, FAULTS, HISTORIES};
 use crate::chain::Chain;
 use crate::lists::{LISTS, Lists};
 use crate::live::{Opener, played};
 use crate::queue::Queue;
-use fdb_checks::{bears, plays};
+use fdb_checks::bears;
 use std::test::Fail;
-
-/// The first client has raised the register twice, and the second has read it and then draws a
-/// version that is above, and one that is that of the first raise.
-const AUDITS: &str = "
-clear
-entry 0 0 1 0 0 200 200 fresh; entry 1 0 2 0 200 300 300 fresh
-entry 2 1 1 0 300 350 350 fresh; entry 3 1 2 0 350 200 200 fresh
-log; draws 0 0 0 1 0 0 200 200 fresh; draws 0 1 0 2 0 200 300 300 fresh; raises 0 1 1 200
-raises 1 2 2 300
-log; reads 0 1 200; draws 1 2 1 1 0 300 350 350 fresh; draws 1 3 1 2 0 350 200 200 fresh
-audit => NotAbove 1 2
-entry 0 0 1 0 0 200 200 fresh; entry 1 0 2 0 200 300 300 fresh
-log; draws 0 0 0 1 0 0 200 200 fresh; draws 0 1 0 2 0 200 300 300 fresh; raises 0 1 1 200
-raises 1 2 2 300; log; reads 0 1 200
-event 1 => read 1 0 200 unlocked none; events => 3 again; audit => ok
-";
 
 #[test]
 fn an_audit_bears_it(rt: HostRuntime) -> Result<(), Fail> {
-    bears(rt.alloc(), &mut Audits::new(rt.alloc()), AUDITS)
+    let (alloc, mut audits) = (rt.alloc(), Audits::new(rt.alloc()));
+    bears(alloc, &mut audits, HISTORIES)?;
+    bears(alloc, &mut audits, FAULTS)
 }
 
 #[test]
@@ -52,18 +38,17 @@ fn a_sequencer_bears_it(rt: HostRuntime) -> Result<(), Fail> {
     bears(rt.alloc(), &mut Chain::new(&rt), CHAIN)
 }
 
-/// Requests of each priority, of which a window starts some, and throttles that are set, so that
-/// each list grows more than once.
+/// Requests of each priority, and throttles, so that each list grows more than once.
+/// (tests/c/memory.c: more requests, windows and new rates)
 const QUEUE: &str = "
-new 3 2 6 => ok
+made 3 2 6 => ok
 offer batch 1 0 => in; offer batch 1 1 => in; offer default 1 2 => in; offer default 1 3 => in
-offer system 1 4 => in; offer system 1 5 => in; offer system 1 6 => out 0; window 1 => 4 5 6 | 0 0
-lengths => 0 2 1; rates 3 0 => 1 | 1 batch requests are not let in; lengths => 0 2 0
-throttle batch a 1 9 => ok; throttle batch b 2 9 => ok; throttle batch c 3 9 => ok
-throttle batch d 4 9 => ok; throttle batch e 5 9 => ok; throttle batch f 6 9 => ok
-throttle batch g 7 9 => ok; throttle batch a 8 9 => ok; throttle system b 9 9 => ok
+offer system 1 4 => in; offer system 1 5 => in; offer system 1 6 => out 0
+with batch a 1 9; with batch b 2 9; with batch c 3 9; with batch d 4 9; with batch e 5 9
+with batch f 6 9; with batch g 7 9; with batch a 8 9; with system b 9 9
+set => ok ok ok ok ok ok ok ok ok
 tag a; tag b; tag c; tag d; tag e; tag f; tag g; tag a; tag h; limits batch 8 => 8 8 9
-with batch a 4 9; with batch b 6 9; copy => same; made 1 1 1 => ok; tag b; limits batch 8 => 1 6 9
+with batch a 4 9; with batch b 6 9; made 1 1 1 => ok; tag b; limits batch 8 => 1 6 9
 ";
 
 #[test]
@@ -87,27 +72,18 @@ fn a_live_record_bears_it(rt: HostRuntime) -> Result<(), Fail> {
     Ok(())
 }
 
-/// What all have seen is gathered without memory.
-const OPENED: &str = "
-master 100 2 3 => fresh
-gather 200 150 => 0 1 1 1 1
-gather 200 300 => 0 2 2 2 2
-";
+const OPENED: &str = "master 100 2 3 => fresh; open 100 unlocked none for 2 => 2";
 
 #[test]
 fn opening_bears_it(rt: HostRuntime) -> Result<(), Fail> {
     bears(rt.alloc(), &mut Opener::new(&rt), OPENED)
 }
 
-/// Passes also where every allocation is refused from one on: then the record or its tokens are not
-/// to be had, or all calls on them answer as ever.
+/// Passes also where every allocation is refused from one on: then the record, its tokens or a text
+/// are not to be had, or all calls answer as ever.
 #[test]
 fn without_memory(rt: HostRuntime) -> Result<(), Fail> {
-    match plays(
-        rt.alloc(),
-        &mut Opener::new(&rt),
-        "gather 200 300 => 0 2 2 2 2",
-    ) {
+    match played(&rt, rt.alloc(), 2, RECORD) {
         Err(error) => error.was_refusal(),
         Ok(()) => Ok(()),
     }

@@ -1,8 +1,9 @@
 //! The crates used as libraries, a file for each: copy this folder, and write your own calls in
-//! place of these.
+//! place of these. What a caller may rely on is in `guarantees`.
 #![tactic(auto)]
 
 mod chain;
+pub mod guarantees;
 mod live;
 mod logs;
 mod master;

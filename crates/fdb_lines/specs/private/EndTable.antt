@@ -1,9 +1,7 @@
 -- A table of calls that ended, by group, time and place.
 use Rattle.std.specs.Prelude.{◌≡◌, ℕ, suc, ◌+◌, ◌*◌, ◌^◌, ◌<◌, ◌≤◌, ◌==◌, ◌&&◌, ◌||◌, nat_lt, Bool, List, Some, length, slice_index, slice_index_or}
-use Rattle.std.specs.List.Sorted.{IsNonDecreasingBy}
 use Rattle.std.proofs.Math.Dec.{lit<}
 use Rattle.fdb_lines.specs.declared.end.End.{End}
-use Rattle.fdb_lines.specs.declared.end_table.EndTable.{EndTable}
 use Rattle.fdb_lines.specs.private.Entries.{IsNewest}
 
 -- one number for group, time and place, which orders as they do
@@ -44,6 +42,3 @@ IsNewestAt ends i k = IsNewest (λ j. (end_at ends j).group == (end_at ends i).g
 
 abbrev pub AreNewest : List End → List ℕ → Type 0
 AreNewest ends newest = (length newest ≡ length ends) × ((i : ℕ) → i < length newest → IsNewestAt ends i (slice_index newest i))
-
-abbrev pub AreSettled : EndTable → Type 0
-AreSettled table = IsNonDecreasingBy end_key table.ends.items × AreNewest table.ends.items table.newest.items

@@ -1,9 +1,11 @@
 -- What is counted of the lines of each part of a log.
-use Rattle.std.specs.Prelude.{ℕ, ◌<◌, ◌≤◌, List, All, cond, length, slice_index}
+use Rattle.std.specs.Prelude.{◌≡◌, ℕ, ◌<◌, ◌≤◌, List, All, Option, None, Some, cond, length, slice_index}
 use Rattle.std.specs.List.{sum_by}
 use Rattle.fdb_lines.specs.declared.opts.AuditOpts.{AuditOpts}
 use Rattle.fdb_lines.specs.declared.parts.Part.{Part}
+use Rattle.fdb_lines.specs.declared.summing.Sums.{Sums}
 use Rattle.fdb_lines.specs.Audit.{case_of}
+use Rattle.fdb_lines.specs.Judged.{ordered_in, unreported_in}
 use Rattle.fdb_lines.specs.Lines.{Lines, part_of}
 use Rattle.fdb_lines.specs.Summary.{ordered, unreported}
 
@@ -26,3 +28,13 @@ IsWithin log part = (j : ℕ) → j < length part.places.items → slice_index p
 
 abbrev pub ArePartsOf : Lines → List Part → Type 0
 ArePartsOf log parts = (lines_in_all parts ≤ 4294967295) × All (IsWithin log) parts
+
+-- what is counted of all lines, or of those of each key
+pub record AreSums (log : Lines) (keys : Option (List (Option ℕ))) (opts : AuditOpts) (sums : Sums) : Type 0 where
+  pub reads : sums.unreported ≡ unreported_in log keys opts
+  pub pairs : cond log.timed (Some sums.ordered) None ≡ cond log.timed (Some (ordered_in log keys opts)) None
+
+-- what is counted of the lines of some parts
+pub record AreSumsOf (log : Lines) (opts : AuditOpts) (parts : List Part) (sums : Sums) : Type 0 where
+  pub reads : sums.unreported ≡ sum_by (unreported_of log opts) parts
+  pub pairs : sums.ordered ≡ sum_by (ordered_of log opts) parts

@@ -1,5 +1,5 @@
 -- The tables of a log.
-use Rattle.std.specs.Prelude.{◌≡◌, ◌⊎◌, ℕ, ◌++◌, ◌∷◌, ◌==◌, ◌&&◌, ◌||◌, not, nat_le, Bool, true, false, cond, List, Option, None, Some, length, map}
+use Rattle.std.specs.Prelude.{◌≡◌, ◌⊎◌, ℕ, ◌++◌, ◌∷◌, ◌==◌, ◌&&◌, ◌||◌, not, nat_le, Bool, true, false, cond, List, Option, None, Some, IfSome, length, map, option_map}
 use Rattle.std.specs.List.{All, list_any}
 use Rattle.fdb_lines.specs.declared.end.End.{End}
 use Rattle.fdb_lines.specs.declared.fault.Fault.{Fault}
@@ -28,7 +28,6 @@ use Rattle.fdb_lines.specs.Lines.{Case, Lines, is_ask, kind_of, version_at}
 use Rattle.fdb_lines.specs.Listing.{faults_below}
 use Rattle.fdb_lines.specs.Log.{lines_of}
 use Rattle.fdb_lines.specs.Reasons.{found_of, HasReason, IsReason}
-use Rattle.fdb_lines.specs.private.EndTable.{AreSettled}
 use Rattle.fdb_lines.specs.private.Known.{AreEnds, AreKnown, IsFound}
 use Rattle.fdb_lines.specs.private.Late.{outdates_by, IsFirstEnd}
 use Rattle.fdb_lines.specs.private.Locators.{AreLocators}
@@ -50,7 +49,7 @@ has_ask lines = list_any (λ (line : Line). is_ask (kind_of line.call)) lines
 abbrev pub AreDrawnIn : Lines → AuditOpts → Option DrawTables → Type 0
 AreDrawnIn log opts None = has_ask log.lines ≡ false
 AreDrawnIn log opts (Some drawn) =
-    AreKnownIn log opts Drawn drawn.known.items × AreSettled drawn.firsts
+    AreKnownIn log opts Drawn drawn.known.items
     × AreEnds false Drawn log.lines (length log.lines) drawn.firsts.ends.items
 
 -- the first end of the draws that outdate a draw; none is named where no line is an ask
@@ -78,7 +77,6 @@ pub record AreTables (log : Lines) (opts : AuditOpts) (made : Made) : Type 0 whe
   pub asks : AreLocatorsIn log opts Asks made.shown.items made.asks.locators.items
   pub owned : AreLocatorsIn log opts Owned made.shown.items made.owned.locators.items
   pub nameless : AreLocatorsIn log opts Nameless made.shown.items made.nameless.locators.items
-  pub settled : AreSettled made.firsts
   pub firsts : AreEnds false Shown log.lines (length log.lines) made.firsts.ends.items
 
 -- a line before one that lets a version be known, or none does
@@ -106,6 +104,12 @@ is_stray c k = cond (is_drawn c (version_at c k)) (not (is_own c k)) (c.complete
 abbrev pub IsFirstBetween : Case → ℕ → ℕ → Option Found → Type 0
 IsFirstBetween c from to None = faults_below c to ≡ faults_below c from
 IsFirstBetween c from to (Some first) = (rest : List Found) × (faults_below c to ≡ faults_below c from ++ first ∷ rest)
+
+-- the same with why it stands
+pub record IsFirstIn (log : Lines) (opts : AuditOpts) (from to : ℕ) (first : Option Finding) : Type 0 where
+  pub listed : IsFirstBetween (case_of log opts) from to (option_map found_of first)
+  pub reason : IfSome first (HasReason log opts)
+  pub late : IfSome first (HasLate log opts)
 
 -- some findings, and these faults with why they stand
 abbrev pub ListsMore : Lines → AuditOpts → List Finding → List Finding → List Found → Type 0

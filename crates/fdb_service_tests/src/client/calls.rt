@@ -5,8 +5,8 @@ ghost use Rattle.std.specs.Prelude.{◌≡◌, None};
 use crate::stand::Stand;
 use fdb_checks::TableLine;
 use fdb_client::{Client, ClientError};
-use fdb_history::{Issued, OpenGate};
-use fdb_live::{Ack, Live, Seen};
+use fdb_history::OpenGate;
+use fdb_live::{Live, Seen};
 use std::sync::Wait;
 
 /// The client whose number is the next word.
@@ -27,25 +27,22 @@ pub(crate) fn say_cause(line: &mut TableLine<'_>, cause: ClientError) {
     }
 }
 
-/// A request for a commit version.
-pub(crate) fn ask<J: Live, R: Wait>(stand: &mut Stand<'_, J, R>, line: &mut TableLine<'_>) {
-    if let Some(client) = client_at(&mut stand.clients, line) {
-        let (processed, at) = (line.number(), line.number());
-        let found = client.ask(stand.rt, &OpenGate, processed, at);
-        say_issued(line, found);
-    }
-}
-
-/// The same again.
-pub(crate) fn reask<J: Live, R: Wait>(stand: &mut Stand<'_, J, R>, line: &mut TableLine<'_>) {
-    if let Some(client) = client_at(&mut stand.clients, line) {
-        let (num, processed, at) = (line.number(), line.number(), line.number());
-        let found = client.reask(stand.rt, &OpenGate, num, processed, at);
-        say_issued(line, found);
-    }
-}
-
-fn say_issued(line: &mut TableLine<'_>, found: Result<Issued, ClientError>) {
+/// A request for a commit version, under the next number or under one that the line has.
+pub(crate) fn ask<J: Live, R: Wait>(
+    stand: &mut Stand<'_, J, R>,
+    again: bool,
+    line: &mut TableLine<'_>,
+) {
+    let Some(client) = client_at(&mut stand.clients, line) else {
+        return;
+    };
+    let num = if again { line.number() } else { 0 };
+    let (processed, at) = (line.number(), line.number());
+    let found = if again {
+        client.reask(stand.rt, &OpenGate, num, processed, at)
+    } else {
+        client.ask(stand.rt, &OpenGate, processed, at)
+    };
     match found {
         Ok(issued) => {
             line.say(format_args!("{} after {}", issued.version, issued.prev));
@@ -57,17 +54,13 @@ fn say_issued(line: &mut TableLine<'_>, found: Result<Issued, ClientError>) {
 
 /// A report of the version under a number.
 pub(crate) fn report<J: Live, R: Wait>(stand: &mut Stand<'_, J, R>, line: &mut TableLine<'_>) {
-    if let Some(client) = client_at(&mut stand.clients, line) {
-        let (num, least) = (line.number(), line.number());
-        let locked = line.text.contains(" locked");
-        let metadata = locked.then_some([8; 10]);
-        let found = client.report(stand.rt, &OpenGate, num, locked, metadata, least);
-        say_ack(line, found);
-    }
-}
-
-fn say_ack(line: &mut TableLine<'_>, found: Result<Ack, ClientError>) {
-    match found {
+    let Some(client) = client_at(&mut stand.clients, line) else {
+        return;
+    };
+    let (num, least) = (line.number(), line.number());
+    let locked = line.text.contains(" locked");
+    let metadata = locked.then_some([8; 10]);
+    match client.report(stand.rt, &OpenGate, num, locked, metadata, least) {
         Ok(ack) => {
             line.say(if ack.raised { "raised" } else { "not raised" });
             line.say(if ack.changed {

@@ -8,13 +8,12 @@
 //! - `closed`, `full` and `memory`: with these refusals, and `stray` with one that is another's;
 //! - `shut`: the desk was closed before.
 
-ghost use Rattle.std.specs.Prelude.{◌≡◌, length, None, true};
+ghost use Rattle.std.specs.Prelude.{◌≡◌, true};
 ghost use Rattle.fdb_proxy.specs.Cause.{may_be_refused_for};
 
 use crate::client::calls::{client_at, say_cause};
 use crate::gated::counting::Counting;
 use crate::stand::{Service, Stand};
-use crossbeam_channel::Sender;
 use fdb_checks::TableLine;
 use fdb_client::{Client, ClientError, ReadVersion};
 use fdb_history::{GrvOpts, Priority, Sequence, Tag};
@@ -87,7 +86,7 @@ pub(crate) fn read<J: Live + Send + Sync, R: Threads + Wait + Sync>(
     line: &mut TableLine<'_>,
 ) {
     let (rt, service) = (stand.rt, stand.service);
-    let served = service.master.record().split(&mut stand.tokens.served);
+    let served = service.master.record().split(&mut stand.served);
     let Some(client) = client_at(&mut stand.clients, line) else {
         return;
     };
@@ -155,14 +154,11 @@ fn read_served<J: Live + Send + Sync, R: Threads + Wait + Sync>(
 /// Says what a client reads, or why it does not. One that a proxy says is refused memory is no call
 /// that is to be made once more.
 fn say_read(line: &mut TableLine<'_>, found: Result<ReadVersion, ClientError>, way: &str) {
-    match found {
-        Ok(read) => say_version(line, &read),
-        Err(ClientError::Memory) if way == "memory" => line.say(ClientError::Memory),
-        Err(cause) => say_cause(line, cause),
-    }
-}
-
-fn say_version(line: &mut TableLine<'_>, read: &ReadVersion) {
+    let read = match found {
+        Ok(read) => read,
+        Err(ClientError::Memory) if way == "memory" => return line.say(ClientError::Memory),
+        Err(cause) => return say_cause(line, cause),
+    };
     line.say(read.version);
     if read.version != read.rec.version {
         line.say(format_args!("of {} and {}", read.rec.version, read.rec.min_known));
@@ -186,102 +182,88 @@ fn serve<J: Live, R: Wait>(
     if !taken.requests.is_empty() || !wanted.is_met(&request.payload) {
         return None;
     }
-    let (reply, asker) = Asker::of(request.payload, wanted.way);
-    Some(match asker.answer(rt, service, &mut served, wanted.way) {
-        Some(answer) => u64::from(reply.send(rt, answer).is_ok()),
-        None => 0,
-    })
+    let request = changed(rt, service, request.payload, &mut served, wanted.way);
+    let cause = match wanted.way {
+        "dropped" => return Some(0),
+        "closed" => Cause::Closed,
+        "full" | "stray" => Cause::Queue(QueueError::Full),
+        "memory" => Cause::Queue(QueueError::Memory),
+        _ => return Some(reply(rt, service, request, served)),
+    };
+    Some(refuse(rt, request, cause))
 }
 
-/// Who asks, as far as an answer tells it.
-#[derive(Drop)]
-struct Asker<J: Live> {
-    client: u32,
-    serial: u64,
-    asked: u64,
-    seen: Seen<J>,
-    ghost unnumbered: { seen.reporter ≡ None },
-    ghost position: { asked ≡ length seen.changes },
-}
-
-impl<J: Live> Asker<J> {
-    /// Who left a request, or another one, where it is answered in that way, and whither the answer goes.
-    fn of(request: Request<J>, way: &str) -> (Sender<Answer<J>>, Self) {
-        let Request {
+/// A request as another one: of another client, of another call, or from where the record is.
+fn changed<J: Live, R: Wait>(
+    rt: &R,
+    service: &Service<J>,
+    request: Request<J>,
+    served: &mut Seen<J>,
+    way: &str,
+) -> Request<J> {
+    let live = service.master.record();
+    let (client, serial) = match way {
+        "client" => (1 - request.client.min(1), request.serial),
+        "serial" | "stray" => (request.client, request.serial.saturating_add(1)),
+        _ => (request.client, request.serial),
+    };
+    if way == "asked" {
+        live.read(rt, served);
+        return Request {
             client,
             serial,
-            asked,
-            seen,
-            opts: _,
-            reply,
-        } = request;
-        let other = way == "serial" || way == "stray";
-        let asker = Asker {
-            client: if way == "client" {
-                1 - client.min(1)
-            } else {
-                client
-            },
-            serial: serial.saturating_add(u64::from(other)),
-            asked,
-            seen,
-        };
-        (reply, asker)
-    }
-
-    /// The answer in this way, if there is one to send.
-    fn answer<R: Wait>(
-        self,
-        rt: &R,
-        service: &Service<J>,
-        served: &mut Seen<J>,
-        way: &str,
-    ) -> Option<Answer<J>> {
-        match way {
-            "dropped" => None,
-            "closed" => Some(self.refused(Cause::Closed)),
-            "full" | "stray" => Some(self.refused(Cause::Queue(QueueError::Full))),
-            "memory" => Some(self.refused(Cause::Queue(QueueError::Memory))),
-            _ => self.replied(rt, service, served, u64::from(way == "asked")),
-        }
-    }
-
-    /// The answer that a request does not start and why, which hands the token back.
-    fn refused(self, cause: Cause) -> Answer<J>
-        requires { may_be_refused_for cause ≡ true }
-    {
-        Answer::Refused(Refused {
-            client: self.client,
-            serial: self.serial,
-            asked: self.asked,
-            seen: self.seen,
-            cause,
-        })
-    }
-
-    /// What a read gives, as if it had been asked so many positions later, if it goes as far.
-    fn replied<R: Wait>(
-        self,
-        rt: &R,
-        service: &Service<J>,
-        served: &mut Seen<J>,
-        later: u64,
-    ) -> Option<Answer<J>> {
-        let asked = self.asked.saturating_add(later);
-        let live = service.master.record();
-        live.learn(rt, served, self.seen);
-        let fetched = live.read(rt, served);
-        if fetched.position < asked {
-            return None;
-        }
-        Some(Answer::Reply(Reply {
-            client: self.client,
-            serial: self.serial,
-            asked,
+            asked: served.position(),
             seen: live.split(served),
-            rec: fetched.rec,
-            position: fetched.position,
-            limits: Sequence::new(service.alloc),
-        }))
+            opts: request.opts,
+            reply: request.reply,
+        };
     }
+    Request {
+        client,
+        serial,
+        asked: request.asked,
+        seen: request.seen,
+        opts: request.opts,
+        reply: request.reply,
+    }
+}
+
+/// Answers that a request does not start and why, which hands the token back. Says how many answers
+/// were sent.
+fn refuse<J: Live, R: Wait>(rt: &R, request: Request<J>, cause: Cause) -> u64
+    requires { may_be_refused_for cause ≡ true }
+{
+    let refused = Refused {
+        client: request.client,
+        serial: request.serial,
+        asked: request.asked,
+        seen: request.seen,
+        cause,
+    };
+    u64::from(request.reply.send(rt, Answer::Refused(refused)).is_ok())
+}
+
+/// Answers a request with what a read gives, which goes as far as the asker has seen.
+fn reply<J: Live, R: Wait>(
+    rt: &R,
+    service: &Service<J>,
+    request: Request<J>,
+    mut served: Seen<J>,
+) -> u64 {
+    let live = service.master.record();
+    live.learn(rt, &mut served, request.seen);
+    let fetched = live.read(rt, &mut served);
+    if fetched.position < request.asked {
+        return 0;
+    }
+    let reply = Reply {
+        client: request.client,
+        serial: request.serial,
+        asked: request.asked,
+        seen: live.split(&mut served),
+        rec: fetched.rec,
+        position: fetched.position,
+        limits: Sequence::new(service.alloc),
+    };
+    u64::from(request.reply.send(rt, Answer::Reply(reply)).is_ok())
 }

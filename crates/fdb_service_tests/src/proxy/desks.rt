@@ -1,14 +1,12 @@
 //! Requests that are left on a desk, and served there.
 
-ghost use Rattle.std.specs.Prelude.{◌≡◌};
-
-use crate::proxy::answers::{Rows, add_answer};
+use crate::proxy::answers::rows_of;
 use crate::stand::{Service, Stand};
-use crossbeam_channel::{Receiver, Sender, bounded, unbounded};
-use fdb_checks::{TableLine, tag};
+use crossbeam_channel::{Receiver, bounded, unbounded};
+use fdb_checks::TableLine;
 use fdb_history::{GrvOpts, Priority, Sequence, Tag};
 use fdb_live::{Live, Seen};
-use fdb_proxy::{Addressed, Answer, Desk, ProxyError, Request, serve_batch};
+use fdb_proxy::{Answer, Desk, ProxyError, Request, serve_batch};
 use fdb_queue::{GrvQueue, QueueConfig, Req};
 use std::alloc::{AllocError, Global};
 use std::mem;
@@ -33,18 +31,8 @@ impl<J: Live> Waiter<J> {
     }
 }
 
-/// A channel for an answer. It has no room where that is `held`, and any where it is `unbounded`.
-type Channel<J> = (Sender<Answer<J>>, Receiver<Answer<J>>);
-
-fn channel<J: Live>(alloc: Global, words: &str) -> Result<Channel<J>, AllocError> {
-    if words.contains(" unbounded") {
-        unbounded(alloc)
-    } else {
-        bounded(alloc, usize::from(!words.contains(" held")))
-    }
-}
-
-/// A request with what a token has seen, and who waits for its answer.
+/// A request with what a token has seen, and who waits for its answer. The channel for that has no room
+/// where it is `held`, and any where it is `unbounded`.
 pub(crate) fn request_of<J: Live>(
     service: &Service<J>,
     seen: &mut Seen<J>,
@@ -52,7 +40,11 @@ pub(crate) fn request_of<J: Live>(
     opts: GrvOpts,
     words: &str,
 ) -> Result<(Request<J>, Waiter<J>), AllocError> {
-    let (reply, receiver) = channel(service.alloc, words)?;
+    let (reply, receiver) = if words.contains(" unbounded") {
+        unbounded(service.alloc)?
+    } else {
+        bounded(service.alloc, usize::from(!words.contains(" held")))?
+    };
     let asked = seen.position();
     let request = Request {
         client,
@@ -70,7 +62,7 @@ pub(crate) fn request_of<J: Live>(
     Ok((request, waiter))
 }
 
-/// Leaves a request on a desk, once more where it is refused memory.
+/// Leaves a request on a desk.
 pub(crate) fn submit<J: Live, R: Wait>(
     rt: &R,
     desk: &Desk<J>,
@@ -81,21 +73,6 @@ pub(crate) fn submit<J: Live, R: Wait>(
         count: request.opts.count,
         payload: request,
     };
-    match desk.submit(rt, request) {
-        Ok(()) => Ok(()),
-        Err((ProxyError::Memory, request)) => submit_again(rt, desk, request),
-        Err((cause, _)) => Err(cause),
-    }
-}
-
-fn submit_again<J: Live, R: Wait>(
-    rt: &R,
-    desk: &Desk<J>,
-    request: Req<Request<J>>,
-) -> Result<(), ProxyError>
-    requires priority { request.priority ≡ request.payload.opts.priority }
-    requires count { request.count ≡ request.payload.opts.count }
-{
     match desk.submit(rt, request) {
         Ok(()) => Ok(()),
         Err((cause, _)) => Err(cause),
@@ -117,42 +94,66 @@ pub(crate) fn opts_of(line: &mut TableLine<'_>) -> GrvOpts {
 
 fn tags_of(line: &mut TableLine<'_>) -> Sequence<Tag> {
     let mut tags = Sequence::new(line.alloc);
-    for _ in 0..line.number() {
-        add_tag(&mut tags, line, "t");
-    }
-    if line.text.contains(" u ") {
-        add_tag(&mut tags, line, "u");
+    let number = line.number();
+    let others = u64::from(line.text.contains(" u "));
+    for place in 0..number.saturating_add(others) {
+        let tag = line.tag(if place < number { "t" } else { "u" });
+        if tags.push(tag).is_err() {
+            line.lacks();
+        }
     }
     tags
 }
 
-fn add_tag(tags: &mut Sequence<Tag>, line: &mut TableLine<'_>, word: &str) {
-    let tag = line.tag(word);
-    if tags.push(tag).is_err() {
-        line.lacks();
+/// The options of a request at a place among some of all `kinds`: of either count, and with each flag or
+/// without.
+fn kind_at(opts: &GrvOpts, place: u64, words: &str) -> Result<GrvOpts, AllocError> {
+    let mut opts = opts.clone()?;
+    if words.contains(" kinds") {
+        opts.count = 1 + place % 2;
+        opts.lock_aware = place / 2 % 2 == 1;
+        opts.use_min = place / 4 % 2 == 1;
     }
+    Ok(opts)
 }
 
 /// Leaves so many requests on the desk, until it refuses one.
 pub(crate) fn leave<J: Live, R: Wait>(stand: &mut Stand<'_, J, R>, line: &mut TableLine<'_>) {
     let (number, client, first) = (line.number(), line.who(), line.number());
     let opts = opts_of(line);
-    let mut left = Ok(());
     for place in 0..number {
-        if left.is_ok() {
-            left = leave_one(
-                stand,
-                (client, first.saturating_add(place)),
-                &opts,
-                line.text,
-            );
+        let whom = (client, first.saturating_add(place));
+        match leave_one(stand, whom, place, &opts, line.text) {
+            Ok(()) => {}
+            Err(ProxyError::Memory) => return line.lacks(),
+            Err(cause) => return line.say(cause),
         }
     }
-    match left {
-        Ok(()) => line.say("in"),
-        Err(ProxyError::Memory) => line.lacks(),
-        Err(cause) => line.say(cause),
+    line.say("in");
+}
+
+/// Leaves a request: with what those who are `ahead` have seen, or every eighth one by turns where there
+/// are all `kinds`; as the one that is left `later`; or for one who is `gone` and waits for no answer.
+fn leave_one<J: Live, R: Wait>(
+    stand: &mut Stand<'_, J, R>,
+    whom: (u32, u64),
+    place: u64,
+    opts: &GrvOpts,
+    words: &str,
+) -> Result<(), ProxyError> {
+    let is_ahead = words.contains(" ahead") || words.contains(" kinds") && place / 8 % 2 == 1;
+    let seen = of_two(&mut stand.ahead, &mut stand.seen, is_ahead);
+    let opts = kind_at(opts, place, words)?;
+    let (request, waiter) = request_of(stand.service, seen, whom, opts, words)?;
+    if words.contains(" later") {
+        stand.later = Some(request);
+    } else {
+        submit(stand.rt, &stand.service.desk, request)?;
     }
+    if words.contains(" gone") || stand.waiters.push(waiter).is_ok() {
+        return Ok(());
+    }
+    Err(ProxyError::Memory)
 }
 
 /// The first of two tokens, or the second.
@@ -164,40 +165,9 @@ fn of_two<'t, J: Live>(
     if is_first { first } else { second }
 }
 
-/// Leaves a request: with what those who are `ahead` have seen, as the one that is left `later`, or
-/// for one who is `gone` and waits for no answer.
-fn leave_one<J: Live, R: Wait>(
-    stand: &mut Stand<'_, J, R>,
-    whom: (u32, u64),
-    opts: &GrvOpts,
-    words: &str,
-) -> Result<(), ProxyError> {
-    let tokens = &mut stand.tokens;
-    let seen = of_two(
-        &mut tokens.ahead,
-        &mut tokens.seen,
-        words.contains(" ahead"),
-    );
-    let (request, waiter) = request_of(stand.service, seen, whom, opts.clone()?, words)?;
-    if words.contains(" later") {
-        stand.later = Some(request);
-    } else {
-        submit(stand.rt, &stand.service.desk, request)?;
-    }
-    if words.contains(" gone") {
-        return Ok(());
-    }
-    add_waiter(&mut stand.waiters, waiter)
-}
-
-pub(crate) fn add_waiter<J: Live>(
-    waiters: &mut Vec<Waiter<J>>,
-    waiter: Waiter<J>,
-) -> Result<(), ProxyError> {
-    match waiters.push(waiter) {
-        Ok(()) => Ok(()),
-        Err(_) => Err(ProxyError::Memory),
-    }
+/// A tag of just the bytes of a word.
+pub(crate) fn tag(alloc: Global, word: &str) -> Result<Tag, AllocError> {
+    Ok(Tag::from(Vec::from_slice(alloc, word.as_bytes())?))
 }
 
 /// A queue of these limits and this room, with no request in it, and with the throttle of `t`.
@@ -218,29 +188,6 @@ pub(crate) fn queue_of<J: Live>(
     Some(queue)
 }
 
-/// Says what is taken from a desk that is closed.
-pub(crate) fn take<J: Live, R: Wait>(stand: &Stand<'_, J, R>, line: &mut TableLine<'_>) {
-    let taken = stand.service.desk.take(stand.rt, true);
-    for request in &taken.requests {
-        say_request(&request.payload, line);
-    }
-}
-
-/// Says whose a request is, from which position, and whether it is a batch request; then how many
-/// transactions, which moment and how many tags it has, and its flags.
-fn say_request<J: Live>(request: &Request<J>, line: &mut TableLine<'_>) {
-    let opts = &request.opts;
-    line.say(request.client);
-    line.say(request.serial);
-    line.say(request.asked);
-    line.say(opts.priority == Priority::Batch);
-    line.say(opts.count);
-    line.say(opts.at);
-    line.say(opts.tags.len());
-    line.say(opts.lock_aware);
-    line.say(opts.use_min);
-}
-
 /// Says the answers to what waits at the desk, as one batch, which may be refused memory.
 pub(crate) fn serve<J: Live, R: Wait>(stand: &mut Stand<'_, J, R>, line: &mut TableLine<'_>) {
     let requests = match stand.back.take() {
@@ -259,15 +206,14 @@ fn serve_requests<J: Live, R: Wait>(
     requests: Vec<Req<Request<J>>>,
     line: &mut TableLine<'_>,
 ) {
-    let (rt, live, served) = (
-        stand.rt,
-        stand.service.master.record(),
-        &mut stand.tokens.served,
-    );
+    let (rt, live, served) = (stand.rt, stand.service.master.record(), &mut stand.served);
     match serve_batch(rt, line.alloc, live, served, queue, requests) {
         Ok(replies) => {
             line.holds(replies.len() == stand.waiters.len(), "replies");
-            send(rt, replies);
+            for addressed in replies {
+                // one that does not come is not heard
+                let _ = addressed.to.send(rt, Answer::Reply(addressed.reply));
+            }
             say_answers(stand, line);
         }
         Err((_, back)) => {
@@ -277,34 +223,15 @@ fn serve_requests<J: Live, R: Wait>(
     }
 }
 
-/// Sends each reply on the channel beside it. One that does not come is not heard.
-fn send<J: Live, R: Wait>(rt: &R, replies: Vec<Addressed<J>>) {
-    for Addressed { to, reply } in replies {
-        let _ = to.send(rt, Answer::Reply(reply));
-    }
-}
-
 /// Says the answers to all who wait, of whom none does then.
 pub(crate) fn say_answers<J: Live, R: Wait>(stand: &mut Stand<'_, J, R>, line: &mut TableLine<'_>) {
-    let waiters = mem::replace(&mut stand.waiters, Vec::new(line.alloc));
-    match rows_of(stand.rt, line.alloc, waiters) {
+    let mut waiters = mem::replace(&mut stand.waiters, Vec::new(line.alloc));
+    for waiter in waiters.iter_mut() {
+        waiter.hears(stand.rt);
+        line.holds(waiter.receiver.recv(stand.rt).is_err(), "several answers");
+    }
+    match rows_of(line.alloc, &waiters) {
         Ok(text) => line.say(text),
         Err(_) => line.lacks(),
     }
-}
-
-fn rows_of<J: Live, R: Wait>(
-    rt: &R,
-    alloc: Global,
-    waiters: Vec<Waiter<J>>,
-) -> Result<String, AllocError> {
-    let mut rows = Rows::new(alloc);
-    for mut waiter in waiters {
-        waiter.hears(rt);
-        if waiter.receiver.recv(rt).is_ok() {
-            rows.add("several answers")?;
-        }
-        add_answer(&mut rows, &waiter)?;
-    }
-    rows.ended()
 }

@@ -2,16 +2,13 @@
 
 use crate::proxy::desks::{Waiter, queue_of, say_answers, submit};
 use crate::stand::{Service, Stand};
-use fdb_checks::TableLine;
+use fdb_checks::{TableLine, comes};
 use fdb_live::Live;
 use fdb_proxy::{GrvProxy, Rates, Request};
 use fdb_queue::GrvQueue;
 use std::sync::Wait;
 use std::thread;
 use std::thread::Threads;
-
-/// How often a thread looks whether an answer has come.
-const LOOKS: u32 = 1_000_000;
 
 /// Says the answers of a proxy with such a queue to all who wait.
 pub(crate) fn run<J: Live + Send + Sync, R: Threads + Wait + Sync>(
@@ -20,8 +17,7 @@ pub(crate) fn run<J: Live + Send + Sync, R: Threads + Wait + Sync>(
 ) {
     let (normal, batch, room) = (line.number(), line.number(), line.number());
     let Some(queue) = queue_of(line.alloc, normal, batch, room) else {
-        line.lacks();
-        return;
+        return line.lacks();
     };
     match runs_beside(stand, queue, line) {
         Some(true) => say_answers(stand, line),
@@ -38,7 +34,7 @@ pub(crate) fn runs_beside<J: Live + Send + Sync, R: Threads + Wait + Sync>(
 ) -> Option<bool> {
     let (rt, service) = (stand.rt, stand.service);
     let live = service.master.record();
-    let token = live.split(&mut stand.tokens.served);
+    let token = live.split(&mut stand.served);
     let proxy = GrvProxy::new(line.alloc, live, &service.desk, queue, 1_000_000, token);
     let later = stand.later.take();
     let waiters = &mut stand.waiters;
@@ -67,7 +63,14 @@ fn hear_beside<J: Live, R: Wait>(
     for _ in 0..9 {
         match line.next_word() {
             None | Some("=>") => break,
-            Some(word) => act(rt, service, waiters, &mut later, word, line),
+            Some("late") => match later.take() {
+                Some(request) => {
+                    let left = submit(rt, &service.desk, request);
+                    line.holds(left.is_ok(), "an open desk refuses");
+                }
+                None => line.fails("nothing comes later"),
+            },
+            Some(word) => act(rt, service, waiters, word, line),
         }
     }
     for waiter in waiters.iter_mut() {
@@ -78,47 +81,30 @@ fn hear_beside<J: Live, R: Wait>(
     }
 }
 
-/// Does what a word says: `hear` who waits at a place, leave what comes `late`, `look` whether that is
-/// answered, leave new `rates`, or `close` the desk.
+/// Does what a word says: `hear` who waits at a place, `look` whether the last who waits is answered while
+/// nobody else hears, leave new `rates`, or `close` the desk. (beside it what comes `late` is left)
 fn act<J: Live, R: Wait>(
     rt: &R,
     service: &Service<J>,
     waiters: &mut [Waiter<J>],
-    later: &mut Option<Request<J>>,
     word: &str,
     line: &mut TableLine<'_>,
 ) {
     match word {
         "close" => service.desk.close(rt),
-        "look" => look(rt, waiters, line),
-        "hear" => hear(rt, waiters, line),
-        "late" => leave_late(rt, service, later, line),
+        "look" => {
+            let last = waiters.last().map(|waiter| &waiter.receiver);
+            let heard = last.is_some_and(|receiver| comes(|| !receiver.is_empty()));
+            line.holds(heard, "a request that comes while others wait");
+        }
+        "hear" => match waiters.get_mut(line.who() as usize) {
+            Some(waiter) => waiter.hears(rt),
+            None => line.fails("nobody waits"),
+        },
         "rates" => leave_rates(rt, service, line),
         // a word of the call itself
         "used" => {}
         _ => line.fails("nothing to do"),
-    }
-}
-
-fn hear<J: Live, R: Wait>(rt: &R, waiters: &mut [Waiter<J>], line: &mut TableLine<'_>) {
-    match waiters.get_mut(line.who() as usize) {
-        Some(waiter) => waiter.hears(rt),
-        None => line.fails("nobody waits"),
-    }
-}
-
-fn leave_late<J: Live, R: Wait>(
-    rt: &R,
-    service: &Service<J>,
-    later: &mut Option<Request<J>>,
-    line: &mut TableLine<'_>,
-) {
-    match later.take() {
-        Some(request) => {
-            let left = submit(rt, &service.desk, request);
-            line.holds(left.is_ok(), "an open desk refuses");
-        }
-        None => line.fails("nothing comes later"),
     }
 }
 
@@ -132,24 +118,4 @@ pub(crate) fn leave_rates<J: Live, R: Wait>(
         Some(rates) => service.desk.set_rates(rt, rates),
         None => line.fails("rates out of range"),
     }
-}
-
-/// Looks whether an answer comes to the last who waits, while nobody else hears.
-fn look<J: Live, R: Wait>(rt: &R, waiters: &mut [Waiter<J>], line: &mut TableLine<'_>) {
-    let heard = match waiters.last_mut() {
-        Some(waiter) => comes(rt, waiter),
-        None => false,
-    };
-    line.holds(heard, "a request that comes while others wait");
-}
-
-fn comes<J: Live, R: Wait>(rt: &R, waiter: &mut Waiter<J>) -> bool {
-    for _ in 0..LOOKS {
-        if let Ok(answer) = waiter.receiver.try_recv(rt) {
-            waiter.heard = Some(answer);
-            return true;
-        }
-        thread::yield_now();
-    }
-    false
 }

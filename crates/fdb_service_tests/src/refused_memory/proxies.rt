@@ -6,7 +6,7 @@ use crate::stand::Stand;
 use fdb_checks::TableLine;
 use fdb_history::{GrvOpts, Priority};
 use fdb_live::Live;
-use fdb_proxy::{Answer, Cause, Refused, Request};
+use fdb_proxy::{Answer, Cause, Request};
 use fdb_queue::{GrvQueue, QueueError, Req};
 use std::sync::Wait;
 use std::thread::Threads;
@@ -25,8 +25,7 @@ pub(crate) fn run_refused<J: Live + Send + Sync, R: Threads + Wait + Sync>(
     let used = line.text.contains(" used");
     let (normal, batch, room) = (line.number(), line.number(), line.number());
     let Some(queue) = queue_for(stand, (normal, batch, room), used) else {
-        line.lacks();
-        return;
+        return line.lacks();
     };
     match runs_beside(stand, queue, line) {
         Some(true) => look_at_all(stand, used, line),
@@ -75,16 +74,16 @@ fn was_refused<J: Live>(heard: &Option<Answer<J>>, place: u64, line: &mut TableL
             if refused.cause == Cause::Queue(QueueError::Memory) {
                 return true;
             }
-            line.holds(was_turned_away(refused, line.text), "another refusal");
+            // (new rates, which the text has, may turn a request away for its count)
+            let is_rated = line.text.contains(" rates ");
+            line.holds(
+                is_rated && refused.cause == Cause::Queue(QueueError::BadCount),
+                "another refusal",
+            );
         }
         None => line.fails("each is answered"),
     }
     false
-}
-
-/// Whether new rates, which the text has, turned a request away for its count.
-fn was_turned_away<J: Live>(refused: &Refused<J>, text: &str) -> bool {
-    text.contains(" rates ") && refused.cause == Cause::Queue(QueueError::BadCount)
 }
 
 /// The queue of a proxy. A used one has had as many requests as will come, and has none any more.
@@ -115,7 +114,7 @@ fn use_once<J: Live, R: Wait>(
     opts: &GrvOpts,
 ) -> Option<()> {
     let opts = opts.clone().ok()?;
-    let seen = &mut stand.tokens.seen;
+    let seen = &mut stand.seen;
     let (payload, _) = request_of(stand.service, seen, (0, serial), opts, "").ok()?;
     let offered = queue.offer(Req {
         priority: Priority::Default,

@@ -6,6 +6,7 @@ ghost use Rattle.fdb_live.specs.Holding.{versions};
 ghost use Rattle.fdb_live.specs.Seen.{origin_of};
 
 use crate::in_turn::{ANSWERED, InTurn, PROXIES, TURNS, request};
+use crate::words::plain;
 use fdb_checks::{CaseError, holds};
 use fdb_history::{Ask, Issued, OpenGate, Place, Record};
 use fdb_live::{Epoch, Live, LiveRecord, Master, Opened, Seen};
@@ -204,13 +205,7 @@ pub(crate) fn have_turns<R: Threads + Wait + Sync>(
         before: 0,
         recovery: FIRST,
     };
-    let start = Record {
-        version: FIRST,
-        locked: false,
-        metadata: None,
-        min_known: 0,
-    };
-    match LiveRecord::<Brand>::open(rt, alloc, start, PROXIES, Some(epoch)) {
+    match LiveRecord::<Brand>::open(rt, alloc, plain(FIRST), PROXIES, Some(epoch)) {
         Ok(opened) => {
             let are = are_in_turn::<Brand, R>(rt, alloc, opened, held)?;
             Ok(holds(are, &format_args!("{held:?}"))?)

@@ -7,13 +7,13 @@
 //! is refused. The gate is passed once, under a number of its own, and not where it is refused;
 //! - `split` has a token, `learns` and `meets` have two, and `at` one: the number or `nobody`, and
 //! the position, of the new token or of the first;
-//! - `threads` has how many readers there are beside all reporters and the first one: the last record.
+//! - `threads` has how many reporters there are, whose tokens and all others are given to threads: the
+//! last record.
 
 ghost use Rattle.std.specs.Prelude.{◌≡◌, false};
 
-use crate::audits::words::record;
-use crate::live::say_cause;
 use crate::live::threads::run_all;
+use crate::words::{record, say_cause};
 use fdb_checks::{CaseError, TableLine, lines_of};
 use fdb_history::{Gate, Place};
 use fdb_live::{Ack, Live, LiveError, LiveRecord, Seen};
@@ -75,23 +75,11 @@ impl<'a, J: Live, R: Wait> Holders<'a, J, R> {
         })
     }
 
-    /// The token at a place, which nobody else has until it is put back.
-    pub(crate) fn take(&mut self, line: &mut TableLine<'_>, place: u32) -> Option<Seen<J>> {
-        let token = self.tokens.get_mut(place as usize)?.take();
-        line.holds(token.is_some(), "somebody has the token");
-        token
-    }
-
-    pub(crate) fn put(&mut self, place: u32, token: Seen<J>) {
-        if let Some(slot) = self.tokens.get_mut(place as usize) {
-            *slot = Some(token);
-        }
-    }
-
-    /// Makes a call with the token at a place.
+    /// Makes a call with the token at a place, which nobody else has until it is put back.
     fn call(&mut self, call: &str, line: &mut TableLine<'_>) {
-        let place = line.who();
-        let Some(mut token) = self.take(line, place) else {
+        let place = line.who() as usize;
+        let taken = self.tokens.get_mut(place).and_then(|slot| slot.take());
+        let Some(mut token) = taken else {
             line.fails("no such token");
             return;
         };
@@ -99,12 +87,13 @@ impl<'a, J: Live, R: Wait> Holders<'a, J, R> {
             "read" => self.read(&mut token, line),
             "report" => self.report(&mut token, line),
             "split" => self.split(&mut token, line),
-            "learns" => self.learn(&mut token, line),
-            "meets" => self.meet(&mut token, line),
+            "learns" | "meets" => self.meet(call, &mut token, line),
             "at" => say_token(line, &token),
             _ => line.fails("no call"),
         }
-        self.put(place, token);
+        if let Some(slot) = self.tokens.get_mut(place) {
+            *slot = Some(token);
+        }
     }
 
     fn read(&self, token: &mut Seen<J>, line: &mut TableLine<'_>) {
@@ -136,18 +125,16 @@ impl<'a, J: Live, R: Wait> Holders<'a, J, R> {
         line.takes(self.tokens.push(Some(other)));
     }
 
-    /// The holder of a token learns what that of another has seen, which the next word names.
-    fn learn(&mut self, token: &mut Seen<J>, line: &mut TableLine<'_>) {
-        if let Some(Some(teller)) = self.tokens.get_mut(line.who() as usize) {
-            let told = self.live.record.split(teller);
-            self.live.record.learn(self.rt, token, told);
-            say_token(line, token);
-        }
-    }
-
-    fn meet(&mut self, token: &mut Seen<J>, line: &mut TableLine<'_>) {
-        if let Some(Some(met)) = self.tokens.get_mut(line.who() as usize) {
-            self.live.record.meet(self.rt, token, met);
+    /// The holder of a token meets that of another, which the next word names, or learns what it has
+    /// seen.
+    fn meet(&mut self, call: &str, token: &mut Seen<J>, line: &mut TableLine<'_>) {
+        if let Some(Some(other)) = self.tokens.get_mut(line.who() as usize) {
+            if call == "meets" {
+                self.live.record.meet(self.rt, token, other);
+            } else {
+                let told = self.live.record.split(other);
+                self.live.record.learn(self.rt, token, told);
+            }
             say_token(line, token);
         }
     }
@@ -178,23 +165,18 @@ fn say_token<J: Live>(line: &mut TableLine<'_>, token: &Seen<J>) {
     line.say(format_args!("at {}", token.position()));
 }
 
-/// Says what a report is answered.
+/// Says what a report has done to the record, or why it is refused.
 fn say_ack(line: &mut TableLine<'_>, found: Result<Ack, LiveError>) {
     match found {
         Ok(ack) => {
-            line.say(word_of(ack));
+            line.say(match (ack.raised, ack.changed) {
+                (true, true) => "raised",
+                (true, false) => "raised, and not changed",
+                (false, true) => "changed",
+                (false, false) => "same",
+            });
             line.say(format_args!("at {}", ack.position));
         }
-        Err(cause) => say_cause(line, cause),
-    }
-}
-
-/// What a report has done to the record.
-fn word_of(ack: Ack) -> &'static str {
-    match (ack.raised, ack.changed) {
-        (true, true) => "raised",
-        (true, false) => "raised, and not changed",
-        (false, true) => "changed",
-        (false, false) => "same",
+        Err(cause) => say_cause(line, cause, cause == LiveError::Memory),
     }
 }

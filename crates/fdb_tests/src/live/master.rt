@@ -3,65 +3,49 @@
 ghost use Rattle.std.specs.Prelude.{◌≡◌, true};
 ghost use Rattle.fdb_live.specs.Seen.{origin_of};
 
+use crate::words::plain;
 use fdb_chain::ChainError;
 use fdb_checks::TableLine;
-use fdb_history::{Ask, MAX_VERSION, OpenGate, Record};
+use fdb_history::{Ask, MAX_VERSION, OpenGate};
 use fdb_live::{Epoch, Live, LiveRecord, Master, Opened, Seen};
-use std::alloc::Global;
 use std::marker::Brand;
 use std::sync::Wait;
 
 /// Opens a master for so many commit proxies, and asks it so often for each. Says whether each is
 /// given as many versions.
-pub(crate) fn ask<R: Wait>(rt: &R, line: &mut TableLine<'_>) {
+pub(crate) fn asked<R: Wait>(rt: &R, line: &mut TableLine<'_>) {
     let (recovery, members, asks) = (line.number(), line.who(), line.number());
-    match asked(rt, line.alloc, recovery, members, asks) {
-        Ok(true) => line.say("fresh"),
-        Ok(false) => line.say("other"),
-        Err(_) => line.refuse(),
-    }
-}
-
-fn asked<R: Wait>(
-    rt: &R,
-    alloc: Global,
-    recovery: u64,
-    members: u32,
-    asks: u64,
-) -> Result<bool, ChainError> {
     if members == 0 || members > 64 || recovery == 0 || recovery > MAX_VERSION {
-        return Ok(false);
+        line.fails("no master");
+        return;
     }
-    let start = Record {
-        version: 0,
-        locked: false,
-        metadata: None,
-        min_known: 0,
-    };
     let epoch = Epoch {
         before: 0,
         recovery,
     };
-    match LiveRecord::<Brand>::open(rt, alloc, start, members, Some(epoch)) {
-        Ok(opened) => asked_named::<Brand, R>(rt, opened, asks),
-        Err(_) => Err(ChainError::Memory),
+    match LiveRecord::<Brand>::open(rt, line.alloc, plain(0), members, Some(epoch)) {
+        Ok(opened) => asked_named::<Brand, R>(rt, opened, asks, line),
+        Err(_) => line.refuse(),
     }
 }
 
 /// The same under the name of the service.
-fn asked_named<J: Live, R: Wait>(rt: &R, opened: Opened, asks: u64) -> Result<bool, ChainError>
+fn asked_named<J: Live, R: Wait>(rt: &R, opened: Opened, asks: u64, line: &mut TableLine<'_>)
     requires chained { J.chained ≡ true }
     requires opened { opened
         ≡ origin_of J.table J.start J.reporters J.chained J.epoch_end J.recovery }
 {
     let Ok((master, _, mut tokens)) = opened.master::<J>() else {
-        return Err(ChainError::Memory);
+        line.refuse();
+        return;
     };
-    let mut fresh = true;
     for token in tokens.iter_mut() {
-        fresh &= are_fresh(rt, &master, token, asks)?;
+        match are_fresh(rt, &master, token, asks) {
+            Ok(fresh) => line.holds(fresh, "another answer"),
+            Err(_) => line.refuse(),
+        }
     }
-    Ok(fresh)
+    line.say("fresh");
 }
 
 /// Whether so many requests for the proxy of a token get fresh answers.
@@ -73,26 +57,16 @@ fn are_fresh<J: Live, R: Wait>(
 ) -> Result<bool, ChainError> {
     let mut fresh = true;
     for processed in 0..asks {
-        fresh &= is_fresh(rt, master, token, processed)?;
+        let Some(proxy) = token.reporter() else {
+            return Ok(false);
+        };
+        let ask = Ask {
+            proxy,
+            num: processed.saturating_add(1),
+            processed,
+            at: 0,
+        };
+        fresh &= master.ask(rt, &OpenGate, token, ask)?.fresh;
     }
     Ok(fresh)
-}
-
-/// Whether the request behind those that were processed gets a fresh answer.
-fn is_fresh<J: Live, R: Wait>(
-    rt: &R,
-    master: &Master<J>,
-    token: &mut Seen<J>,
-    processed: u64,
-) -> Result<bool, ChainError> {
-    let Some(proxy) = token.reporter() else {
-        return Ok(false);
-    };
-    let ask = Ask {
-        proxy,
-        num: processed.saturating_add(1),
-        processed,
-        at: 0,
-    };
-    Ok(master.ask(rt, &OpenGate, token, ask)?.fresh)
 }

@@ -32,18 +32,9 @@ report 0 400 unlocked none => raised at 3; at 2 => nobody at 0; learns 2 0 => no
 /// The minimum known committed version: the greatest that was reported.
 const MINIMUM: &str = "
 report 0 200 unlocked none min 50 => raised at 1; read 1 => 200 unlocked none min 50 at 1
-report 1 200 unlocked none min 150 => changed at 2; read 0 => 200 unlocked none min 150 at 2
-report 0 180 unlocked none min 120 => same at 2
-report 1 200 locked 0102030405060708090a min 150 => same at 2
-report 1 190 locked 0102030405060708090a min 180 => changed at 3
-read 0 => 200 unlocked none min 180 at 3
-report 0 300 locked 0102030405060708090a min 10 => raised at 4
-read 1 => 300 locked 0102030405060708090a min 180 at 4
-report 0 250 unlocked none min 251 => the minimum known committed version is above the version
-report 1 9223372036854775808 unlocked none min 9223372036854775809 => the version is out of range
-read 2 => 300 locked 0102030405060708090a min 180 at 4
-report 1 9223372036854775807 unlocked none min 9223372036854775807 => raised at 5
-read 0 => 9223372036854775807 unlocked none min 9223372036854775807 at 5
+report 1 190 locked 0102030405060708090a min 180 => changed at 2; report 0 180 unlocked none min 120 => same at 2
+read 0 => 200 unlocked none min 180 at 2; report 0 300 locked 0102030405060708090a min 10 => raised at 3
+read 1 => 300 locked 0102030405060708090a min 180 at 3
 ";
 
 const TEXTS: &[&str] = &[WORKED, CROSSWISE, MINIMUM];
@@ -56,15 +47,11 @@ fn reads_and_reports(rt: HostRuntime) -> Result<(), Fail> {
     Ok(())
 }
 
-/// What a record is opened with, at each bound and one beyond it.
+/// What a record is not opened with, and one that is locked.
 const OPENED: &str = "
-open 0 unlocked none for 2 => 2; open 9223372036854775807 unlocked none for 2 => 2
 open 9223372036854775808 unlocked none for 2 => the version is out of range
-open 100 unlocked none min 100 for 2 => 2
-# a locked one below the recovery version of any chain
-open 0 locked 0102030405060708090a for 2 => 2; open 99 locked none for 2 => 2
 open 100 unlocked none min 101 for 2 => the minimum known committed version is above the version
-open 9223372036854775808 unlocked none min 9223372036854775809 for 2 => the version is out of range
+open 99 locked 0102030405060708090a min 99 for 2 => 2
 ";
 
 #[test]
@@ -127,15 +114,9 @@ fn no_call_but_an_ask_waits_for_one(rt: HostRuntime) -> Result<(), Fail> {
 /// Two reporters and two readers, and eight and five: the greatest of 500 versions of each.
 #[test]
 fn reporters_and_readers_in_threads(rt: HostRuntime) -> Result<(), Fail> {
-    played(&rt, rt.alloc(), 2, "threads 1 => 1100 unlocked none")?;
-    played(&rt, rt.alloc(), 8, "threads 4 => 4100 unlocked none")?;
-    Ok(())
-}
-
-/// Of two reporters the second raises nothing, and then raises what the first has not seen.
-const GATHERED: &str = "gather 200 150 => 0 1 1 1 1; gather 200 300 => 0 2 2 2 2";
-
-#[test]
-fn all_that_was_seen_is_gathered(rt: HostRuntime) -> Result<(), Fail> {
-    Ok(plays(rt.alloc(), &mut Opener::new(&rt), GATHERED)?)
+    let two = "split 2 => nobody at 0; threads 2 => 1100 unlocked none";
+    let eight = "split 8 => nobody at 0; split 8 => nobody at 0; split 8 => nobody at 0; \
+split 8 => nobody at 0; threads 8 => 4100 unlocked none";
+    played(&rt, rt.alloc(), 2, two)?;
+    Ok(played(&rt, rt.alloc(), 8, eight)?)
 }

@@ -2,8 +2,8 @@
 
 ghost use Rattle.std.specs.Prelude.{◌≡◌, Some};
 
-use crate::audits::words::plain;
 use crate::live::holders::{Bare, Holders};
+use crate::words::plain;
 use fdb_checks::{TableLine, stays_away};
 use fdb_history::{Gate, Place};
 use fdb_live::{Live, Seen};
@@ -96,52 +96,47 @@ impl<J: Live> Worker<J> {
     }
 }
 
-/// A worker for each token, and for so many readers beside that of the last one.
+/// A worker for each token.
 fn workers_of<J: Live, R: Wait>(
     holders: &mut Holders<'_, J, R>,
     line: &mut TableLine<'_>,
-    readers: u64,
 ) -> Vec<Worker<J>> {
     let mut workers = Vec::new(line.alloc);
     for token in holders.tokens.iter_mut() {
         if let Some(token) = token.take() {
-            add_worker(&mut workers, line, token);
-        }
-    }
-    for _ in 0..readers {
-        if let Some(last) = workers.last_mut() {
-            let token = holders.live.record.split(&mut last.token);
-            add_worker(&mut workers, line, token);
+            line.takes(workers.push(Worker {
+                token,
+                version: 0,
+                raises: 0,
+                failed: false,
+            }));
         }
     }
     workers
 }
 
-fn add_worker<J: Live>(workers: &mut Vec<Worker<J>>, line: &mut TableLine<'_>, token: Seen<J>) {
-    line.takes(workers.push(Worker {
-        token,
-        version: 0,
-        raises: 0,
-        failed: false,
-    }));
-}
-
-/// Every reporter reports rising versions that no other has, and readers read beside them: the first
-/// token's, and so many more. Then the greatest version stands, at the position that counts the
-/// raises.
+/// Every reporter reports rising versions that no other has, and whoever has another token reads beside
+/// them. Then the greatest version stands, at the position that counts the raises.
 pub(crate) fn run_all<J: Live + Send + Sync, R: Threads + Wait + Sync>(
     holders: &mut Holders<'_, J, R>,
     line: &mut TableLine<'_>,
 ) {
-    let reporters = (holders.tokens.len() as u64).saturating_sub(1);
-    let readers = line.number();
-    let mut workers = workers_of(holders, line, readers);
+    let reporters = line.number();
+    let mut workers = workers_of(holders, line);
     let gate = OneByOne {
         passed: AtomicU64::new(0),
         numbers: AtomicU64::new(0),
         failed: AtomicBool::new(false),
     };
-    work_all(holders.rt, &holders.live, &gate, &mut workers, reporters);
+    let (rt, live, threads) = (holders.rt, &holders.live, workers.len().max(1));
+    thread::for_each_mut(
+        rt,
+        &mut workers,
+        threads,
+        &|_, worker| {
+            worker.work(rt, live, &gate, reporters);
+        },
+    );
     gate.was_passed(line, reporters);
     let raises = raises_of(line, &workers);
     if let Some(worker) = workers.last_mut() {
@@ -149,25 +144,6 @@ pub(crate) fn run_all<J: Live + Send + Sync, R: Threads + Wait + Sync>(
         line.holds(fetched.position == raises, "its position");
         line.say(fetched.rec);
     }
-}
-
-/// Has each work in a thread of its own.
-fn work_all<J: Live + Send + Sync, R: Threads + Wait + Sync>(
-    rt: &R,
-    live: &Bare<J>,
-    gate: &OneByOne,
-    workers: &mut [Worker<J>],
-    reporters: u64,
-) {
-    let threads = workers.len().max(1);
-    thread::for_each_mut(
-        rt,
-        workers,
-        threads,
-        &|_, worker| {
-            worker.work(rt, live, gate, reporters);
-        },
-    );
 }
 
 /// How many reports raised the record. No worker failed.

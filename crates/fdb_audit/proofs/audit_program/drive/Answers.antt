@@ -1,11 +1,13 @@
-use Rattle.std.proofs.Common.{◌≡◌, ◌++◌, ◌∙◌, ℕ, false, List, [], IfSome, MatchResult, None, Option, Some, Ok, Err, Result, ap, is_some, map, refl, string_bytes, subst, sym}
+use Rattle.std.proofs.Common.{◌≡◌, ◌++◌, ◌∙◌, ℕ, false, List, [], IfSome, MatchResult, None, Option, Some, Ok, Err, Result, ap, is_some, map, option_map, refl, string_bytes, subst, sym}
 use Rattle.std.proofs.lemmas.Bool.{false≢true}
 use Rattle.std.proofs.lemmas.Result.{IfOk-weaker}
 use Rattle.clap.specs.Words.{Text}
 use Rattle.fdb_command.specs.Driving.{MayAnswer, RefusesWhole, Stops, TellsNothing}
 use Rattle.fdb_command.specs.declared.failure.Failure.{Failure}
 use Rattle.fdb_command.specs.declared.program.Output.{Output}
-use Rattle.fdb_audit.specs.Program.{HasTaken, IsAsked, IsWhole, PrintsBy, RefusesBy, audit}
+use Rattle.fdb_log_reader.specs.declared.error.ReadError.{ReadError}
+use Rattle.fdb_audit.specs.Program.{HasTaken, IsAsked, IsWhole, PrintsBy, RefusesBy, audit, refused_of, started}
+use Rattle.fdb_audit.specs.declared.refused.KeptRefused.{KeptRefused}
 use Rattle.fdb_audit.specs.declared.arguments.AuditArguments.{AuditArguments}
 use Rattle.fdb_audit.specs.declared.fault.LogFault.{LogFault}
 use Rattle.fdb_audit.specs.declared.audit_program.AuditIntake.{AuditIntake}
@@ -21,13 +23,27 @@ is_none (Some x) is = absurd (false≢true (sym is))
 not_both : {X : Type 0} (x : X) → Some x ≡ None → ⊥
 not_both x is = false≢true (sym (ap is_some is))
 
+-- what is refused of a log is the line's error
+abbrev error_of : Option LogsRefused → Option ReadError
+error_of None = None
+error_of (Some (Log error)) = Some error
+error_of (Some (Kept refused)) = None
+
+log_error : (o : Option ReadError) (error : ReadError) → Some (Log error) ≡ option_map Log o → o ≡ Some error
+log_error None error is = absurd (not_both (Log error) is)
+log_error (Some other) error is = sym (ap error_of is)
+
+not_kept : (o : Option ReadError) (refused : KeptRefused) → Some (Kept refused) ≡ option_map Log o → ⊥
+not_kept None refused is = not_both (Kept refused) is
+not_kept (Some error) refused is = false≢true (ap is_some (ap error_of is))
+
 -- what is refused of what is printed so is refused so
 part_refused : (follow : Option ℕ) (asked : AuditArguments) (bytes text : List ℕ) (found : Option LogFault) (refused : Option LogsRefused)
     → PrintsBy follow asked bytes text found refused → IfSome refused (RefusesBy follow asked bytes)
 part_refused follow asked bytes text found None is = tt
 part_refused None asked bytes text found (Some error) is = absurd (not_both error is.1)
-part_refused (Some behind) asked bytes text found (Some (Log error)) is = (is.0, is.1, is.3)
-part_refused (Some behind) asked bytes text found (Some (Kept error)) is = absurd is.3
+part_refused (Some behind) asked bytes text found (Some (Log error)) is = (is.0, is.1, log_error (refused_of asked (started asked behind is.0) (is.0 ++ bytes)) error is.3)
+part_refused (Some behind) asked bytes text found (Some (Kept error)) is = absurd (not_kept (refused_of asked (started asked behind is.0) (is.0 ++ bytes)) error is.3)
 
 refused_so : (arguments : List Text) (asked : AuditArguments) (bytes : List ℕ) (refused : Option LogsRefused) → IsAsked arguments asked
     → IfSome refused (RefusesBy asked.follow asked bytes) → IfSome refused (audit.refuses arguments bytes)

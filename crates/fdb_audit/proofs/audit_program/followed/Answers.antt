@@ -1,38 +1,39 @@
-use Rattle.std.proofs.Common.{◌++◌, ℕ, List, None, Option, Some, string_bytes, subst, sym}
-use Rattle.std.specs.Prelude.{MatchOption, option_map}
-use Rattle.fdb_log_reader.specs.declared.error.ReadError.{ReadError}
-use Rattle.fdb_audit.specs.Following.{KeptNumbers}
-use Rattle.fdb_audit.specs.Watched.{AreAllTaken, AreLeftOut, HasFollowed, IsFollowed}
+use Rattle.std.proofs.Common.{◌≡◌, ◌∙◌, ◌++◌, ℕ, Bool, List, ap, false, is_some, not, string_bytes, subst, sym, true}
+use Rattle.std.specs.Prelude.{option_map}
+use Rattle.fdb_audit.specs.Following.{Start}
+use Rattle.fdb_audit.specs.Watched.{HasFollowed, IsFollowed}
 use Rattle.fdb_audit.specs.declared.arguments.AuditArguments.{AuditArguments}
 use Rattle.fdb_audit.specs.declared.follower.Followed.{Followed}
 use Rattle.fdb_audit.specs.declared.follower.Follower.{Follower}
 use Rattle.fdb_audit.specs.declared.refused.LogsRefused.TheVariants.{Log}
-use Rattle.fdb_audit.specs.Program.{AreLeftBy}
+use Rattle.fdb_audit.specs.Program.{refused_of}
 use Rattle.fdb_audit.proofs.audit_program.followed.Goals.{then-is_some+in_ok-it, else-is_some+in_ok-it-2}
 use Rattle.fdb_audit.proofs.audit_program.followed.Goals as goal
 
-left_by : (refused : Option ReadError) (asked : AuditArguments) (bytes : List ℕ) → MatchOption refused (AreAllTaken asked bytes) (λ _. AreLeftOut asked bytes) → AreLeftBy (option_map Log refused) asked bytes
-left_by None asked bytes is = is
-left_by (Some error) asked bytes is = is
-
 -- what is told and what is refused of what was followed
-abbrev Ends : Follower → AuditArguments → Followed → Type 0
-Ends follower asked it = (kept : KeptNumbers) (bytes told : List ℕ) → HasFollowed asked kept follower bytes told
-    → IsFollowed asked kept bytes (told ++ string_bytes it.said.text) it.found × MatchOption it.refused (AreAllTaken asked bytes) (λ _. AreLeftOut asked bytes)
+abbrev Ends : Follower → AuditArguments → Bool → Followed → Type 0
+Ends follower asked ends it = (start : Start) (bytes told : List ℕ) → HasFollowed asked start follower bytes told
+    → IsFollowed asked start ends bytes (told ++ string_bytes it.said.text) it.found × (it.refused ≡ refused_of asked start bytes)
 
 pub returns-clause-told : goal.returns-clause-told
 returns-clause-told g c =
     let asked = c.args.asked.now in
     let follower = c.args.log.follower in
     let it = c.if-is_some.it in
-    let ends : Ends follower asked it = elim c.if-is_some.branch [
-      | then-is_some+in_ok-it w ↦ subst (Ends follower asked) (sym w.it-is) (λ kept bytes told has. (w.in_ok-it.ensures.told asked kept bytes told has, w.in_ok-it.ensures.refused asked kept bytes told has))
-      | else-is_some+in_ok-it-2 w ↦ subst (Ends follower asked) (sym w.it-is) (λ kept bytes told has. (w.in_ok-it-2.ensures.told asked kept bytes told has, w.in_ok-it-2.ensures.refused asked kept bytes told has))
+    let ends : Ends follower asked (not (is_some asked.keep)) it = elim c.if-is_some.branch [
+      | then-is_some+in_ok-it w ↦
+          let keeps : not (is_some asked.keep) ≡ false = ap not (sym c.is_some.ensures ∙ w.if-is_some.true) in
+          subst (λ ends. Ends follower asked ends it) (sym keeps)
+          (subst (Ends follower asked false) (sym w.it-is) (λ start bytes told has. (w.in_ok-it.ensures.told asked start bytes told has, w.in_ok-it.ensures.refused asked start bytes told has)))
+      | else-is_some+in_ok-it-2 w ↦
+          let keeps : not (is_some asked.keep) ≡ true = ap not (sym c.is_some.ensures ∙ w.if-is_some.false) in
+          subst (λ ends. Ends follower asked ends it) (sym keeps)
+          (subst (Ends follower asked true) (sym w.it-is) (λ start bytes told has. (w.in_ok-it-2.ensures.told asked start bytes told has, w.in_ok-it-2.ensures.refused asked start bytes told has)))
     ] in
-    λ kept bytes told has.
-    let (all, left) = ends kept bytes told has in
+    λ start bytes told has.
+    let (all, left) = ends start bytes told has in
     let answer = c.answered.result in (
-      subst (λ text. IsFollowed asked kept bytes (told ++ text) answer.found) (sym c.answered.ensures.text)
-          (subst (λ found. IsFollowed asked kept bytes (told ++ string_bytes it.said.text) found) (sym c.answered.ensures.found) all),
-      subst (λ refused. AreLeftBy refused asked bytes) (sym c.answered.ensures.refused) (left_by it.refused asked bytes left),
+      subst (λ text. IsFollowed asked start (not (is_some asked.keep)) bytes (told ++ text) answer.found) (sym c.answered.ensures.text)
+          (subst (λ found. IsFollowed asked start (not (is_some asked.keep)) bytes (told ++ string_bytes it.said.text) found) (sym c.answered.ensures.found) all),
+      c.answered.ensures.refused ∙ ap (option_map Log) left,
     )

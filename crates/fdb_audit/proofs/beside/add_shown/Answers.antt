@@ -1,9 +1,9 @@
 use Rattle.std.proofs.Common.{◌≡◌, ◌∙◌, ◌++◌, ◌∷◌, [], ap, map, append_assoc, slice_index_or, subst, sym, take}
-use Rattle.std.proofs.lemmas.List.{map-append}
+use Rattle.std.proofs.lemmas.List.{map-append, take_more}
 use Rattle.fdb_log_reader.specs.Columns.{shown_of}
 use Rattle.fdb_audit.specs.Judged.{AreBeside}
 use Rattle.fdb_audit.specs.private.{beside_of}
-use Rattle.fdb_audit.proofs.Members.{one_beside, take_more}
+use Rattle.fdb_audit.proofs.Members.{one_beside}
 use Rattle.fdb_audit.proofs.beside.add_shown.Goals as goal
 
 pub loop-column-preserved : goal.loop-column-preserved

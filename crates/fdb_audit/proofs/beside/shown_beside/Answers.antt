@@ -6,5 +6,5 @@ use Rattle.fdb_audit.proofs.beside.shown_beside.Goals as goal
 pub returns : goal.returns
 returns c = record {
   member = c.in_ok-printed_name.ensures ∙ ap printed c.member.ensures;
-  texts = subst (ArePrinted (shown_of c.args.column.now).values _) (sym c.numbers.ensures) c.in_ok-printed.ensures;
+  texts = subst (ArePrinted (shown_of c.args.column.now).values _) (sym (c.in_ok-from_slice.ensures.items ∙ c.numbers.ensures)) c.in_ok-printed.ensures;
 }

@@ -2,11 +2,11 @@ use Rattle.std.proofs.Common.{◌≡◌, ◌↔◌, ◌<◌, List, None, length,
 use Rattle.std.proofs.lemmas.Grind.{common_steps}
 use Rattle.std.proofs.lemmas.List.{length-map}
 use Rattle.fdb_lines.specs.Audit.{AreExplained, case_of}
+use Rattle.fdb_lines.specs.Judged.{AreAll}
 use Rattle.fdb_lines.specs.Lines.{Lines}
 use Rattle.fdb_lines.specs.Log.{lines_of}
 use Rattle.fdb_lines.specs.declared.opts.AuditOpts.{AuditOpts}
 use Rattle.fdb_lines.specs.declared.reason.Finding.{Finding}
-use Rattle.fdb_audit.specs.Judged.{AreAll}
 use Rattle.fdb_c.specs.Audit.{told}
 use Rattle.fdb_c.proofs.audit_listing.list.Goals as goal
 
@@ -19,8 +19,7 @@ pub returns-then-faults-len-clause-room : goal.returns-then-faults-len-clause-ro
 returns-then-faults-len-clause-room c is_room =
     let found = c.in_ok-found.found.items in
     let said = c.in_ok-found.ensures in
-    let each : AreAll (lines_of c.args.log.now) None c.opts_of.result found = record { listed = said.listed; reasons = said.reasons; late = said.late } in
-    let all : AreFound (lines_of c.args.log.now) found c.opts_of.result = (each, said.explained) in
+    let all : AreFound (lines_of c.args.log.now) found c.opts_of.result = (said.all, said.explained) in
     let asked = subst (AreFound (lines_of c.args.log.now) found) c.opts_of.ensures all in
     let count = length-map found told in
     let short : length c.args.faults.now < length (map told found) = grind (arith, common_steps) in

@@ -44,7 +44,7 @@ returns-in-Some c =
     let it = case_in c.args.tables.now in
     let inv = c.loop-place.invariant in
     record {
-      first =
+      listed =
           first_here it c.args.from c.loop-place.place c.args.to c.loop-place.findings.items c.add_findings.new.findings.items c.in-Some.first.now inv.none inv.below
           c.in_ok-add_findings.ensures.0 c.loop-place-test.true (rw c.deref.ensures.value at c.in-Some.ensures.value);
       reason = search rules;
@@ -56,4 +56,4 @@ returns c =
     let most = c.loop-place.auto.place-end c.requires.range.0 in
     let least = c.loop-place-test.false in
     let all : c.loop-place.place ≡ c.args.to = omega arith in
-    record { first = rw all at c.loop-place.invariant.below; reason = tt; late = tt }
+    record { listed = rw all at c.loop-place.invariant.below; reason = tt; late = tt }

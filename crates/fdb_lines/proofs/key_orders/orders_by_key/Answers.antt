@@ -1,6 +1,5 @@
 use Rattle.std.specs.declared.alloc.Global.{Global}
-use Rattle.std.proofs.Common.{◌≡◌, ◌≢◌, ◌++◌, Vec, length, map, ap, sym, subst, ◌∙◌, arith, length-append}
-use Rattle.std.specs.List.{All}
+use Rattle.std.proofs.Common.{◌≡◌, ◌≢◌, ◌++◌, None, Vec, length, map, ap, sym, subst, ◌∙◌, arith, length-append}
 use Rattle.std.proofs.lemmas.Grind.{common_steps}
 use Rattle.std.proofs.lemmas.List.{length-map, take_all}
 use Rattle.std.proofs.lemmas.List.Sorted.{length_permutation}
@@ -11,11 +10,9 @@ use Rattle.fdb_lines.specs.declared.reason.Finding.{Finding}
 use Rattle.fdb_lines.specs.declared.step.OrderStep.{OrderStep}
 use Rattle.fdb_lines.specs.Audit.{case_of}
 use Rattle.fdb_lines.specs.Keys.{key_at, keys_of, placed_finding}
-use Rattle.fdb_lines.specs.Late.{HasLate}
-use Rattle.fdb_lines.specs.Listing.{faults_of}
+use Rattle.fdb_lines.specs.Judged.{AreAll}
 use Rattle.fdb_lines.specs.Log.{lines_of}
 use Rattle.fdb_lines.specs.OrderSteps.{effects_of, IsOrderOf}
-use Rattle.fdb_lines.specs.Reasons.{found_of, HasReason}
 use Rattle.fdb_lines.specs.private.KeyOrders.{AreOrders}
 use Rattle.fdb_lines.proofs.Gathered.{gathered_all, gathered_more, gathered_same}
 use Rattle.fdb_lines.proofs.Keyed.{of_key}
@@ -62,10 +59,8 @@ loop-part-preserved c =
       | in-Err+in_ok-add_placed-in-Err w ↦
           let here = w.in-Err.here.items in
           let its = c.in_ok-steps.ensures in
-          let listed = IfErr-at_err (λ (found : Vec Finding Global). map found_of found.items ≡ faults_of (case_of lines opts)) w.in-Err.is its.listed in
+          let all = IfErr-at_err (λ (found : Vec Finding Global). AreAll lines None opts found.items) w.in-Err.is its.all in
           let some = IfErr-at_err (λ (found : Vec Finding Global). length found.items ≢ 0) w.in-Err.is its.some in
-          let reasons = IfErr-at_err (λ (found : Vec Finding Global). All (HasReason lines opts) found.items) w.in-Err.is its.reasons in
-          let late = IfErr-at_err (λ (found : Vec Finding Global). All (HasLate lines opts) found.items) w.in-Err.is its.late in
           let old = c.loop-part.found.items in
           let new = w.add_placed.new.found.items in
           let added : new ≡ old ++ map (placed_finding places) here = rw (w.deref-in-Err.ensures.value, w.deref-in-Err-2.ensures.value) at w.in_ok-add_placed-in-Err.ensures in
@@ -73,7 +68,7 @@ loop-part-preserved c =
           let size = length-append old (map (placed_finding places) here) in
           let long = length-map here (placed_finding places) in
           rw (w.orders-is, w.found-is) (record {
-            gathered = gathered_more log opts keys n old here new lines places part.0 part.1 own added listed reasons late inv.gathered;
+            gathered = gathered_more log opts keys n old here new lines places part.0 part.1 own added all.listed all.reasons all.late inv.gathered;
             orders = λ none. absurd (some (omega arith));
           })
     ]
@@ -100,4 +95,4 @@ returns c =
     let all = gathered_all log c.args.opts.now keys c.loop-part.part old new (omega arith) c.requires.as_many c.in_ok-sort_by_line.ensures c.loop-part.invariant.gathered in
     let long = length_permutation old new c.in_ok-sort_by_line.ensures.same in
     let some : length new ≢ 0 = λ none. grind (arith, common_steps) in
-    record { keys = tt; explains = tt; explained = tt; unexplained = λ explained. some (all.1.1 explained); listed = all.0; some = some; reasons = all.2; late = all.3 }
+    record { orders = tt; explained = tt; unexplained = λ explained. some (all.1.1 explained); all = record { listed = all.0; reasons = all.2; late = all.3 }; some = some }

@@ -59,7 +59,6 @@ returns c =
                 (subst (AreOpen (set flags place true)) (sym listed) (opened_still flags places place c.requires.opened (flag ∙ w.if-not-index.false)))
           ];
       stays = (new, subst (λ (old : KeyPart). HasStayed old new) is c.push-2.ensures.stays, subst (λ (old : KeyPart). IsAs old new) is c.push-2.ensures.alike, refl);
-      untimed = c.push-2.ensures.untimed;
       ok = on_ok_weaker c.push-2.result (λ more. (new, subst (λ (old : KeyPart). HasOneMore c.args.line c.args.number old new) is more, refl)) c.push-2.ensures.ok;
       err = on_err_weaker c.push-2.result (λ more. (new, subst (λ (old : KeyPart). HasNoMore old new) is more, refl)) c.push-2.ensures.err;
     }

@@ -1,6 +1,8 @@
 use Rattle.std.proofs.Common.{◌≡◌, ◌++◌, ◌∷◌, ◌+◌, [], List, None, length, slice_index, get_or, ap, sym, subst, ◌∙◌, inl, inr, arith, length-append}
+use Rattle.std.specs.List.{All}
 use Rattle.std.proofs.lemmas.Bool.{cases_lt}
 use Rattle.std.proofs.lemmas.List.{get_or_append_left, get_or_default, get_or_push, get_or-set_other, length-set}
+use Rattle.std.proofs.lemmas.List.Elements.{All-push}
 use Rattle.fdb_lines.specs.declared.key_part.KeyPart.{KeyPart}
 use Rattle.fdb_lines.specs.declared.key_part.SettledKey.{SettledKey}
 use Rattle.fdb_lines.specs.private.KeyParts.{IsEntry}
@@ -42,13 +44,18 @@ loop-place-preserved c =
                 subst (IsEntry None (get_or old (slice_index places j) d)) (sym (get_or_push entries entry e j (omega arith)))
                 (subst (λ (x : KeyPart). IsEntry None x entry) (part_is d ∙ ap (λ m. get_or old (slice_index places m) d) is) its)
           ]);
+      kept = subst (All (λ (entry : SettledKey). entry.settled.kept.items ≡ [])) (sym pushed)
+          (All-push (λ (entry : SettledKey). entry.settled.kept.items ≡ []) entries entry inv.kept c.in_ok-finish.ensures.kept);
       rest = λ j d ge lt.
           get_or-set_other parts place (slice_index places j) c.replace-part.new.dest d (λ same. c.requires.once n j 0 (omega arith) lt (sym same))
           ∙ inv.rest j d (omega arith) lt;
     }
 
-pub returns : goal.returns
-returns c =
+pub returns-clause-kept : goal.returns-clause-kept
+returns-clause-kept c = c.loop-place.invariant.kept
+
+pub returns-clause-entries : goal.returns-clause-entries
+returns-clause-entries c =
     let inv = c.loop-place.invariant in
     let all : c.loop-place.place-index ≡ length c.args.places.now = (let end = c.loop-place.auto.place-index-end in let test = c.loop-place-test.false in omega arith) in
     record {

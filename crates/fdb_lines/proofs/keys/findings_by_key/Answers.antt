@@ -29,7 +29,7 @@ loop-part-preserved c =
     let places = c.deref.ensures.value in
     let added = rw (c.deref-in-loop-part.ensures.value, c.deref-in-loop-part-2.ensures.value) at c.in_ok-add_placed.ensures in
     gathered_more (lines_of c.args.log.now) c.args.opts.now keys n found c.in_ok-here.here.items c.add_placed.new.found.items (lines_of c.in_ok-lines.lines)
-    c.index.result.now.places.items part.0 part.1 (rw places at c.in_ok-lines.ensures) added here.listed here.reasons here.late c.loop-part.invariant
+    c.index.result.now.places.items part.0 part.1 (rw places at c.in_ok-lines.ensures) added here.all.listed here.all.reasons here.all.late c.loop-part.invariant
 
 pub returns : goal.returns
 returns c =
@@ -39,4 +39,4 @@ returns c =
     let test = c.loop-part-test.false in
     let all = gathered_all (lines_of c.args.log.now) c.args.opts.now keys c.loop-part.part c.loop-part.found.items c.sort_by_line.new.found.items (omega arith) c.requires.as_many
     c.in_ok-sort_by_line.ensures c.loop-part.invariant in
-    record { listed = all.0; explained = all.1; reasons = all.2; late = all.3 }
+    record { all = record { listed = all.0; reasons = all.2; late = all.3 }; explained = all.1 }

@@ -14,6 +14,6 @@ loop-line-preserved c =
     let k = c.loop-line.line-index in
     let item = c.line-item.result in
     let line : item ≡ line_at lines k = c.line-item.is ∙ get_or_default lines k item nobody c.loop-line-test.true in
-    let newest = rw (c.saturating_sub-bound.ensures, c.began.ensures, line) at (c.newest_before-newest.ensures false seen lines c.requires.ends) in
+    let newest = rw (c.saturating_sub-bound.ensures, c.began.ensures, line) at (c.newest_before-newest.ensures false seen lines c.requires) in
     let knows = known_so (of_all margin seen lines) margin lines k Ended c.newest_before-newest.result (ended_means margin seen lines k) newest in
     rw (c.in_ok-push.ensures.items, c.witness.ensures) (known_more (of_all margin seen lines) margin lines k c.loop-line.known.items _ c.loop-line.invariant knows)

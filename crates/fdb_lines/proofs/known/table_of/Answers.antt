@@ -28,9 +28,9 @@ loop-place-preserved c =
     ] in
     record { ends = next.0; few = next.1 }
 
-pub returns-clause-ends : goal.returns-clause-ends
-returns-clause-ends c =
+pub returns : goal.returns
+returns c =
     let lines = c.args.lines.now in
     let all : c.loop-place.place ≡ length lines = (let end = c.loop-place.auto.place-end in let test = c.loop-place-test.false in omega arith) in
     IfOk-weaker c.new.result _ (λ table. AreEnds c.args.by_client c.args.seen lines (length lines) table.ends.items)
-    (λ table same. moved _ _ _ _ _ _ _ table.ends.items same (rw all at c.loop-place.invariant.ends)) c.new.ensures.same
+    (λ table same. moved _ _ _ _ _ _ _ table.ends.items same (rw all at c.loop-place.invariant.ends)) c.new.ensures

@@ -7,4 +7,4 @@ pub returns-else-is_timed : goal.returns-else-is_timed
 returns-else-is_timed c =
     let log = lines_of c.args.log.now in
     IfOk-weaker c.known_by_telling.result _ (λ known. AreKnownIn log c.args.opts.now c.args.seen known.items)
-    (λ known are. rw (← c.if-is_timed.ensures) (rw c.lines-else-is_timed.ensures at (are c.args.opts.now.margin))) c.known_by_telling.ensures
+    (λ known are. rw (← c.if-is_timed.ensures) (rw c.lines.ensures at (are c.args.opts.now.margin))) c.known_by_telling.ensures

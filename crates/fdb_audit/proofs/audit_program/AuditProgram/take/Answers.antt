@@ -1,6 +1,6 @@
 use Rattle.std.proofs.Common.{◌∙◌, ◌++◌, ap, append_assoc, inl, inr, subst, sym}
 use Rattle.fdb_log_reader.specs.Reading.{reading_with}
-use Rattle.fdb_audit.specs.Program.{key_asked, shown_asked, HasTaken}
+use Rattle.fdb_audit.specs.Program.{key_asked, shown_asked, HasTaken, started}
 use Rattle.fdb_audit.specs.declared.audit_program.AuditIntake.{AuditIntake}
 use Rattle.fdb_audit.specs.Watched.{HasFollowed}
 use Rattle.fdb_audit.proofs.Refusing.{stops}
@@ -28,6 +28,6 @@ returns-in_ok-feed-in-Followed-clause-taken c = λ options before told has.
       follows,
       kept,
       for,
-      subst (λ text. HasFollowed options kept.numbers c.feed-in-Followed.new.self text told) (append_assoc kept.text before bytes)
-          (c.in_ok-feed-in-Followed.ensures options kept.numbers (kept.text ++ before) told is),
+      subst (λ text. HasFollowed options (started options behind kept) c.feed-in-Followed.new.self text told) (append_assoc kept before bytes)
+          (c.in_ok-feed-in-Followed.ensures options (started options behind kept) (kept ++ before) told is),
     )

@@ -1,12 +1,25 @@
-use Rattle.std.proofs.Common.{◌∙◌, [], ap, is_some, refl, sym}
+use Rattle.std.proofs.Common.{◌≡◌, ◌∙◌, [], ap, false, if◌then◌else◌, is_some, refl, subst, sym, true}
 use Rattle.std.proofs.lemmas.Bool.{false≢true}
-use Rattle.fdb_audit.specs.Following.{none_kept}
+use Rattle.fdb_audit.specs.Following.{fresh}
+use Rattle.fdb_audit.specs.Kept.{start_of}
+use Rattle.fdb_audit.specs.Watched.{HasFollowed}
 use Rattle.fdb_audit.proofs.followed_log.FollowedLog.begin.Goals as goal
 
 pub returns-in_ok-log-in-Some-clause-begun : goal.returns-in_ok-log-in-Some-clause-begun
 returns-in_ok-log-in-Some-clause-begun g c =
-    let (text, numbers, has) = c.in_ok-log-in-Some.ensures.begun in
-    (record { text = text; numbers = numbers }, λ none. absurd (false≢true (sym (ap is_some none) ∙ (sym c.as_deref.ensures.variant ∙ ap is_some c.in-Some.is))), has)
+    let asked = c.args.asked.now in
+    let (text, has) = c.in_ok-log-in-Some.ensures.begun in
+    let keeps : is_some asked.keep ≡ true = sym c.as_deref.ensures.variant ∙ ap is_some c.in-Some.is in (
+      text,
+      λ none. absurd (false≢true (sym (ap is_some none) ∙ keeps)),
+      subst (λ b. HasFollowed asked (if b then start_of asked c.args.behind text else fresh c.args.behind) c.in_ok-log-in-Some.log.follower text []) (sym keeps) has,
+    )
 
 pub returns-in_ok-follower-in-None-clause-begun : goal.returns-in_ok-follower-in-None-clause-begun
-returns-in_ok-follower-in-None-clause-begun g c = (record { text = []; numbers = none_kept }, λ none. (refl, refl), c.in_ok-follower-in-None.ensures)
+returns-in_ok-follower-in-None-clause-begun g c =
+    let asked = c.args.asked.now in
+    let none : is_some asked.keep ≡ false = sym c.as_deref.ensures.variant ∙ ap is_some c.in-None.is in (
+      [],
+      λ _. refl,
+      subst (λ b. HasFollowed asked (if b then start_of asked c.args.behind [] else fresh c.args.behind) c.in_ok-follower-in-None.follower [] []) (sym none) c.in_ok-follower-in-None.ensures,
+    )

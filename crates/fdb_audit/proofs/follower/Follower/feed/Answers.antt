@@ -4,6 +4,6 @@ use Rattle.fdb_audit.proofs.TellingOn.{fed}
 use Rattle.fdb_audit.proofs.follower.Follower.feed.Goals as goal
 
 pub returns : goal.returns
-returns c = λ asked kept before told has.
-    fed kept asked c.args.self.now _ before c.args.bytes.now told (map said_in c.in_ok-lines.lines.items) has
-    c.in_ok-lines.ensures.read c.in_ok-lines.ensures.behind c.in_ok-lines.ensures.names (c.in_ok-take_all.ensures.taken kept) c.take_all.ensures.margin refl
+returns c = λ asked start before told has.
+    fed start asked c.args.self.now _ before c.args.bytes.now told (map said_in c.in_ok-lines.lines.items) has
+    c.in_ok-lines.ensures.read c.in_ok-lines.ensures.behind c.in_ok-lines.ensures.names (c.in_ok-take_all.ensures.taken start) c.take_all.ensures.margin refl refl

@@ -1,21 +1,32 @@
-use Rattle.std.proofs.Common.{None, ◌∙◌, refl, subst, sym}
+use Rattle.std.proofs.Common.{◌++◌, IsPermutation, None, ◌∙◌, refl, subst, sym, true}
 use Rattle.fdb_lines.specs.KeyWatch.{AreTold, HasSeenByKey}
+use Rattle.fdb_lines.specs.ToldByKey.{HasTold, audited, told_by_all}
 use Rattle.fdb_lines.specs.declared.key_watch.KeyWatch.{KeyWatch}
-use Rattle.fdb_audit.specs.Following.{keys_taken, lines_taken}
+use Rattle.fdb_log_reader.specs.LineReader.{line_names}
+use Rattle.fdb_audit.specs.Following.{keys_taken, lines_taken, told_in_all}
+use Rattle.fdb_audit.specs.private.Followed.{TellsOn}
 use Rattle.fdb_audit.proofs.TellingOn.{settled_all}
 use Rattle.fdb_audit.proofs.follower.Follower.settle_for_good.Goals as goal
 
 pub returns-clause-told : goal.returns-clause-told
-returns-clause-told c = λ asked kept read told is.
+returns-clause-told c = λ asked start read told is.
     let old = c.args.self.now in
     let watch = old.taking.watch in
     let lines = lines_taken read in
     let keys = keys_taken read in
     let same = c.replace-watch.ensures.value in
     let entries = c.in_ok-told.told.items in
+    let faults = start.told ++ told_in_all read is.windows in
     let seen : HasSeenByKey c.replace-watch.result lines keys = subst (λ (w : KeyWatch). HasSeenByKey w lines keys) (sym same) is.taken.seen in
     let all : AreTold None lines keys watch.parts.items entries = subst (λ (w : KeyWatch). AreTold None lines keys w.parts.items entries) same (c.in_ok-told.ensures.told lines keys seen) in
-    settled_all kept asked old _ read told is refl
-    (c.in_ok-tell_all.ensures kept read None watch.parts.items asked.opts.margin (record { above = is.taken.numbered.above; front = is.taken.numbered.front; few = is.taken.numbered.few })
+    settled_all start asked true old _ read told (told_by_all entries) is refl
+    (subst (λ list. TellsOn start.numbers old.teller c.tell_all.new.self asked.opts.margin read (line_names old.reader).clients (told_by_all list)) c.deref.ensures.value
+    (c.in_ok-tell_all.ensures start.numbers read None watch.parts.items asked.opts.margin (record { above = is.taken.numbered.above; front = is.taken.numbered.front; few = is.taken.numbered.few })
     (λ k d lt. (watch.alike k d lt).its_margin ∙ is.margin)
-    (subst (AreTold None lines keys watch.parts.items) (sym c.deref.ensures.value) all))
+    (subst (AreTold None lines keys watch.parts.items) (sym c.deref.ensures.value) all)))
+    refl refl refl
+    (λ none_before none.
+    let has : HasTold c.replace-watch.result lines keys faults = subst (λ (w : KeyWatch). HasTold w lines keys faults) (sym same) (is.taken.once none_before none) in
+    let whole = c.in_ok-told.ensures.once lines keys faults seen has in
+    subst (λ margin. IsPermutation (faults ++ told_by_all entries) (audited margin lines keys)) is.margin
+    (subst (λ (w : KeyWatch). IsPermutation (faults ++ told_by_all entries) (audited w.margin lines keys)) same whole))

@@ -11,10 +11,10 @@ of_one : (left : List (Result SaidLine Why)) (last : Option (Result ReadLine Why
 of_one left last read is found = subst (λ last. MatchOption last (left ≡ []) (λ read. left ≡ said_in read ∷ [])) is found
 
 pub returns-in_ok-take-clause-told : goal.returns-in_ok-take-clause-told
-returns-in_ok-take-clause-told c = λ asked kept bytes told has.
-    ended kept asked c.args.self.now _ bytes told (said_in c.in-Some.last ∷ []) has
+returns-in_ok-take-clause-told c = λ asked start bytes told has.
+    ended start asked c.args.self.now _ bytes told (said_in c.in-Some.last ∷ []) has
     (of_one _ c.in_ok-last.last c.in-Some.last c.in-Some.is c.in_ok-last.ensures.read)
-    c.in_ok-last.ensures.names (c.in_ok-take.ensures.taken kept) c.take.ensures.margin refl
+    c.in_ok-last.ensures.names (c.in_ok-take.ensures.taken start) c.take.ensures.margin refl refl
 
 of_none : (left : List (Result SaidLine Why)) (last : Option (Result ReadLine Why)) → ((read : Result ReadLine Why) → last ≡ Some read → ⊥)
     → MatchOption last (left ≡ []) (λ read. left ≡ said_in read ∷ []) → left ≡ []
@@ -22,7 +22,7 @@ of_none left None not found = found
 of_none left (Some read) not found = absurd (not read refl)
 
 pub returns-in_default-clause-told : goal.returns-in_default-clause-told
-returns-in_default-clause-told c = λ asked kept bytes told has.
-    ended kept asked c.args.self.now _ bytes told [] has
+returns-in_default-clause-told c = λ asked start bytes told has.
+    ended start asked c.args.self.now _ bytes told [] has
     (of_none _ c.in_ok-last.last c.in_default.not-Some c.in_ok-last.ensures.read)
-    c.in_ok-last.ensures.names (λ read is. subst (AreTaken kept c.args.self.now.taking) (sym (append-nil read)) is) refl refl
+    c.in_ok-last.ensures.names (λ read told is. subst (λ all. AreTaken start c.args.self.now.taking all told) (sym (append-nil read)) is) refl refl refl

@@ -1,9 +1,9 @@
 use Rattle.std.proofs.Common.{◌≡◌, map, take}
-use Rattle.fdb_lines.specs.declared.reason.Finding.{Finding}
+use Rattle.fdb_lines.specs.declared.fault.Found.{Found}
 use Rattle.fdb_audit.specs.private.{grouping_of}
 use Rattle.fdb_audit.proofs.grouped.By.owners.Given as goal
 
 -- the owners of the faults so far
-abbrev pub invariant-loop-finding : goal.invariant-loop-finding
-invariant-loop-finding l =
-    l.owners.items ≡ map (λ (finding : Finding). (grouping_of l.self).owner finding.found.line) (take l.finding-index l.found)
+abbrev pub invariant-loop-it : goal.invariant-loop-it
+invariant-loop-it l =
+    l.owners.items ≡ map (λ (it : Found). (grouping_of l.self).owner it.line) (take l.it-index l.found)

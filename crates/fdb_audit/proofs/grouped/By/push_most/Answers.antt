@@ -1,6 +1,6 @@
 use Rattle.std.proofs.Common.{◌≡◌, ◌++◌, ◌∙◌, ℕ, Option, ap, map, refl, string_bytes, subst, take}
 use Rattle.std.proofs.lemmas.Result.{on_ok_weaker}
-use Rattle.fdb_lines.specs.declared.reason.Finding.{Finding}
+use Rattle.fdb_lines.specs.declared.fault.Found.{Found}
 use Rattle.fdb_audit.specs.Groups.{group_lines, AreRanked}
 use Rattle.fdb_audit.specs.private.{count_in, grouping_of, owners_in}
 use Rattle.fdb_audit.proofs.Most.{counted_faults}
@@ -11,7 +11,7 @@ returns c =
     let found = c.args.found.now in
     let by = grouping_of c.args.self in
     let lines = group_lines c.args.json by found in
-    let of : Finding → Option ℕ = λ finding. by.owner finding.found.line in
+    let of : Found → Option ℕ = λ it. by.owner it.line in
     let owners : c.deref.result.now ≡ map of found = c.deref.ensures.value ∙ c.in_ok-owners.ensures in
     let most = c.in_ok-most.ensures in
     let ranked = subst (λ (count : Option ℕ → ℕ). AreRanked count most.0) (λ i group. (ap (λ os. count_in os group) owners ∙ counted_faults of found group) i) most.1 in

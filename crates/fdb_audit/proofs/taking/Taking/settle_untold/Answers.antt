@@ -1,9 +1,28 @@
+use Rattle.std.proofs.Common.{◌++◌, false, max, subst}
+use Rattle.std.proofs.lemmas.Bool.{false≢true}
+use Rattle.fdb_lines.specs.ToldByKey.{HasTold, audited_to, told_by_all}
 use Rattle.fdb_audit.specs.Following.{keys_taken, lines_taken}
 use Rattle.fdb_audit.proofs.taking.Taking.settle_untold.Goals as goal
 
 pub returns-clause-taken : goal.returns-clause-taken
-returns-clause-taken c = λ kept read are. c.note_settled.ensures.taken kept read (record {
-  seen = c.settle.ensures.seen (lines_taken read) (keys_taken read) are.seen;
-  numbered = record { above = are.numbered.above; front = are.numbered.front; few = are.numbered.few };
-  count = are.count;
-})
+returns-clause-taken c = λ start read told are.
+    let old = c.args.self.now.watch in
+    let new = c.settle.new.self in
+    let lines = lines_taken read in
+    let keys = keys_taken read in
+    let seen = c.settle.ensures.seen lines keys are.seen in
+    c.note_settled.ensures.taken (record start { anew = false }) read (audited_to old.margin (max old.from c.args.at) lines keys) (record {
+      seen = seen;
+      numbered = record { above = are.numbered.above; front = are.numbered.front; few = are.numbered.few };
+      count = are.count;
+      refused = are.refused;
+      counted = are.counted;
+      few = are.few;
+      before = are.before;
+      reach = λ anew. absurd (false≢true anew);
+      once = λ none_before none.
+          let has = c.in_ok-told.ensures.once lines keys told are.seen (are.once none_before none) in
+          subst (λ margin. HasTold new lines keys (audited_to margin (max old.from c.args.at) lines keys)) c.settle.ensures.margin.0
+          (subst (λ from. HasTold new lines keys (audited_to new.margin from lines keys)) c.in_ok-told.ensures.settled
+          (c.all_is_told_up_to_where_it_settled.ensures.as_well new lines keys (told ++ told_by_all c.in_ok-told.told.items) seen has));
+    })

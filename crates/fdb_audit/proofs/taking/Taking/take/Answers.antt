@@ -1,18 +1,19 @@
 use Rattle.std.proofs.Common.{◌++◌, ◌∷◌, [], List, Result, subst, sym}
 use Rattle.std.specs.Prelude.{OnOk}
+use Rattle.fdb_lines.specs.declared.fault.Found.{Found}
 use Rattle.fdb_log_reader.specs.declared.error.Why.{Why}
 use Rattle.fdb_log_reader.specs.declared.read_line.ReadLine.{ReadLine}
 use Rattle.fdb_log_reader.specs.ReadLine.{SaidLine, said_in}
-use Rattle.fdb_audit.specs.Following.{KeptNumbers}
+use Rattle.fdb_audit.specs.Following.{Start}
 use Rattle.fdb_audit.specs.private.Followed.{AreTaken}
 use Rattle.fdb_audit.proofs.taking.Taking.take.Goals as goal
 
 pub returns-in-Ok-clause-taken : goal.returns-in-Ok-clause-taken
 returns-in-Ok-clause-taken c =
-    subst (λ (read : Result ReadLine Why). OnOk c.add.result ((kept : KeptNumbers) (lines : List (Result SaidLine Why)) → AreTaken kept c.args.self.now lines → AreTaken kept c.add.new.self (lines ++ said_in read ∷ [])))
+    subst (λ (read : Result ReadLine Why). OnOk c.add.result ((start : Start) (lines : List (Result SaidLine Why)) (told : List Found) → AreTaken start c.args.self.now lines told → AreTaken start c.add.new.self (lines ++ said_in read ∷ []) told))
     (sym c.in-Ok.is) c.add.ensures.taken
 
 pub returns-in-Err-clause-taken : goal.returns-in-Err-clause-taken
 returns-in-Err-clause-taken c =
-    subst (λ (read : Result ReadLine Why). OnOk c.leave_out.result ((kept : KeptNumbers) (lines : List (Result SaidLine Why)) → AreTaken kept c.args.self.now lines → AreTaken kept c.leave_out.new.self (lines ++ said_in read ∷ [])))
+    subst (λ (read : Result ReadLine Why). OnOk c.leave_out.result ((start : Start) (lines : List (Result SaidLine Why)) (told : List Found) → AreTaken start c.args.self.now lines told → AreTaken start c.leave_out.new.self (lines ++ said_in read ∷ []) told))
     (sym c.in-Err.is) c.leave_out.ensures.taken

@@ -10,8 +10,8 @@ pub returns : goal.returns
 returns c = λ kept read to part margin numbered same told.
     let entry = c.args.entry.now in
     let names = (line_names c.args.reader.now).clients in
-    tells_for kept c.args.self.now c.add.new.self margin to read names entry part (map string_bytes c.deref-3.result.now) c.deref-4.result.now
-    (map beside_of c.deref-5.result.now) c.deref-6.result.now
-    (ap (map string_bytes) c.deref-3.ensures.value ∙ (c.in_ok-names.ensures.printed ∙ ap (map printed) c.names.ensures))
-    (c.deref-4.ensures.value ∙ subst (λ kept. AreNumbersOf kept c.args.taking.now.numbering.above.items entry.settled.numbers.items c.in_ok-numbers.numbers.items) numbered.front c.in_ok-numbers.ensures read numbered.above numbered.few (kept_within to read entry part told))
-    c.deref-6.ensures.value same told c.in_ok-add.ensures.text c.in_ok-add.ensures.first c.add.ensures.wanted
+    tells_for kept c.args.self.now c.add.new.self margin to read names entry part (map string_bytes c.deref.result.now) c.deref-2.result.now
+    (map beside_of c.deref-3.result.now) c.deref-4.result.now
+    (ap (map string_bytes) c.deref.ensures.value ∙ (c.in_ok-names.ensures.printed ∙ ap (map printed) c.names.ensures))
+    (c.deref-2.ensures.value ∙ subst (λ kept. AreNumbersOf kept c.args.taking.now.numbering.above.items entry.settled.numbers.items c.in_ok-numbers.numbers.items) numbered.front c.in_ok-numbers.ensures read numbered.above numbered.few (kept_within to read entry part told))
+    c.deref-4.ensures.value same told c.in_ok-add.ensures.text c.in_ok-add.ensures.first c.in_ok-add.ensures.counts c.add.ensures.same

@@ -1,6 +1,7 @@
-use Rattle.std.proofs.Common.{◌≡◌, ℕ, All, List, Option, Result}
+use Rattle.std.proofs.Common.{◌≡◌, ℕ, All, List, Option, Result, take}
 use Rattle.fdb_lines.specs.declared.key_part.KeyPart.{KeyPart}
 use Rattle.fdb_lines.specs.KeyWatch.{AreTold}
+use Rattle.fdb_lines.specs.ToldByKey.{told_by_all}
 use Rattle.fdb_log_reader.specs.LineReader.{line_names}
 use Rattle.fdb_log_reader.specs.ReadLine.{SaidLine}
 use Rattle.fdb_log_reader.specs.declared.error.Why.{Why}
@@ -13,4 +14,4 @@ abbrev pub invariant-loop-entry : goal.invariant-loop-entry
 invariant-loop-entry l =
     (kept : KeptNumbers) (read : List (Result SaidLine Why)) (to : Option ℕ) (parts : List KeyPart) (margin : ℕ) → AreNumbered kept l.taking read
     → All (λ part. part.watch.margin ≡ margin) parts → AreTold to (lines_taken read) (keys_taken read) parts l.told
-    → TellsOn kept l.fn.self l.self margin read (line_names l.reader).clients
+    → TellsOn kept l.fn.self l.self margin read (line_names l.reader).clients (told_by_all (take l.entry-index l.told))

@@ -1,6 +1,6 @@
 use Rattle.std.proofs.Common.{refl}
-use Rattle.fdb_audit.specs.Following.{none_kept}
-use Rattle.fdb_c.specs.Watch.{Follows}
+use Rattle.fdb_audit.specs.Following.{fresh}
+use Rattle.fdb_audit.specs.Watched.{HasFollowed}
 use Rattle.fdb_c.proofs.Some.{at_both, of_some}
 use Rattle.fdb_c.proofs.watched.Watched.push.Goals as goal
 
@@ -8,11 +8,11 @@ use Rattle.fdb_c.proofs.watched.Watched.push.Goals as goal
 pub returns-in-Ok-clause-told : goal.returns-in-Ok-clause-told
 returns-in-Ok-clause-told c = λ _.
     let it = c.self.inside in
-    let followed = of_some (λ it. Follows c.self.inside.asked it c.self.inside.story.bytes c.self.inside.story.told) c.in-Some.ensures.value c.self.invariant in
+    let followed = of_some (λ follower. HasFollowed it.asked (fresh it.behind) follower it.story.bytes it.story.told) c.in-Some.ensures.value c.self.invariant in
     let now = c.with_bytes-self-inside.ensures in
     record {
       arguments = it.asked;
       are = refl;
       follower = c.feed.new.self;
-      followed = at_both (Follows it.asked c.feed.new.self) now.0 now.1 (c.in-Ok.ensures it.asked none_kept it.story.bytes it.story.told followed);
+      followed = at_both (HasFollowed it.asked (fresh it.behind) c.feed.new.self) now.0 now.1 (c.in-Ok.ensures it.asked (fresh it.behind) it.story.bytes it.story.told followed);
     }

@@ -11,9 +11,9 @@ returns-then-front-len c = λ seen lines are.
     let v = c.args.version in
     let front = c.partition_point-front.result in
     let point : IsPoint ends newest fault v front = rw c.deref.ensures.value at (IsPartitionPoint-from_clause (is_behind ends fault v) _ _ c.partition_point-front.ensures.partitioned
-    (rw c.deref.ensures.value (parted ends newest fault v c.requires.1 (one_group seen lines ends are)))
+    (rw c.deref.ensures.value (parted ends newest fault v c.args.self.now.are_newest (one_group seen lines ends are)))
     (λ a r q k. search rules)) in
-    found_first fault seen lines ends newest v front c.index.result.now c.requires.0 c.requires.1 are point (omega arith) c.index.ensures
+    found_first fault seen lines ends newest v front c.index.result.now c.args.self.now.in_order c.args.self.now.are_newest are point (omega arith) c.index.ensures
 
 pub returns-else-front-len : goal.returns-else-front-len
 returns-else-front-len c = λ seen lines are.
@@ -23,6 +23,6 @@ returns-else-front-len c = λ seen lines are.
     let v = c.args.version in
     let front = c.partition_point-front.result in
     let point : IsPoint ends newest fault v front = rw c.deref.ensures.value at (IsPartitionPoint-from_clause (is_behind ends fault v) _ _ c.partition_point-front.ensures.partitioned
-    (rw c.deref.ensures.value (parted ends newest fault v c.requires.1 (one_group seen lines ends are)))
+    (rw c.deref.ensures.value (parted ends newest fault v c.args.self.now.are_newest (one_group seen lines ends are)))
     (λ a r q k. search rules)) in
-    found_none fault seen lines ends newest v front c.requires.1 are point (omega arith)
+    found_none fault seen lines ends newest v front c.args.self.now.are_newest are point (omega arith)

@@ -7,8 +7,8 @@ pub newest_of-requires-clause-sorted : goal.newest_of-requires-clause-sorted
 newest_of-requires-clause-sorted c =
     rw c.deref.ensures.value (IsNonDecreasingBy-from_sort_by end_key _ c.sort_unstable_by.ensures.sorted (λ a r f k. search rules))
 
-pub returns-clause-settled : goal.returns-clause-settled
-returns-clause-settled c = (
-  IsNonDecreasingBy-from_sort_by end_key _ c.sort_unstable_by.ensures.sorted (λ a r f k. search rules),
-  rw c.deref.ensures.value at c.in_ok-newest.ensures,
-)
+pub invariant_of-result : goal.invariant_of-result
+invariant_of-result c = record {
+  in_order = IsNonDecreasingBy-from_sort_by end_key _ c.sort_unstable_by.ensures.sorted (λ a r f k. search rules);
+  are_newest = rw c.deref.ensures.value at c.in_ok-newest.ensures;
+}

@@ -12,12 +12,12 @@ returns-then-index-group c =
     let bound = rw c.deref.ensures.value at c.front_near-front.ensures.bound in
     let parts = rw (c.deref.ensures.value, c.new.ensures.group, c.new.ensures.time, c.new.ensures.place) at c.front_near-front.ensures.parts in
     let some = c.if-front-gt0.true in
-    let len = c.requires.1.0 in
+    let len = c.args.self.now.are_newest.0 in
     let inside : front - 1 < length newest = omega arith in
     rw (get_or_read newest (front - 1) c.index-then-index-group.result.now inside c.index-then-index-group.ensures 0)
     (found c.args.self.now.ends.items c.args.group c.args.time c.args.place front (get_or newest (front - 1) 0) c.ranges.place.fits bound parts some
     (rw (c.index.ensures ∙ get_or_default c.args.self.now.ends.items (front - 1) c.index.result.now no_end (omega arith)) at c.if-index-group.true)
-    (c.requires.1.1 (front - 1) inside))
+    (c.args.self.now.are_newest.1 (front - 1) inside))
 
 pub returns-else-front-gt0 : goal.returns-else-front-gt0
 returns-else-front-gt0 c =
@@ -25,7 +25,7 @@ returns-else-front-gt0 c =
     let front = c.front_near-front.result in
     let bound = rw c.deref.ensures.value at c.front_near-front.ensures.bound in
     let parts = rw (c.deref.ensures.value, c.new.ensures.group, c.new.ensures.time, c.new.ensures.place) at c.front_near-front.ensures.parts in
-    not_found ends c.requires.0 c.args.group c.args.time c.args.place front c.ranges.time.fits c.ranges.place.fits bound parts
+    not_found ends c.args.self.now.in_order c.args.group c.args.time c.args.place front c.ranges.time.fits c.ranges.place.fits bound parts
     (elim c.else-front-gt0.branch [
       | else-front-gt0-via-then-front-gt0+else-index-group w ↦
           inr (rw (w.index.ensures ∙ get_or_default ends (front - 1) w.index.result.now no_end (omega arith)) at w.if-index-group.false)

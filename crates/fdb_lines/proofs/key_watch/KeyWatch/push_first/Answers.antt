@@ -1,29 +1,49 @@
-use Rattle.std.proofs.Common.{◌≡◌, ◌++◌, ◌∷◌, [], Bool, true, List, length, ap, sym, subst, ◌∙◌, arith, length-append}
+use Rattle.std.proofs.Common.{◌≡◌, ◌++◌, ◌∷◌, [], Bool, true, List, Option, ℕ, length, ap, sym, subst, ◌∙◌, arith, length-append}
 use Rattle.std.proofs.lemmas.List.{length-map, map_push}
 use Rattle.std.specs.BTreeMap.{get}
 use Rattle.std.specs.List.{All}
 use Rattle.std.specs.Ordering.{nat_cmp}
 use Rattle.fdb_lines.specs.declared.key_part.KeyPart.{KeyPart}
-use Rattle.fdb_lines.specs.KeyParts.{names_of, HasSeenOne}
+use Rattle.fdb_lines.specs.declared.line.Line.{Line}
+use Rattle.fdb_lines.specs.KeyParts.{names_of}
+use Rattle.fdb_lines.specs.Watch.{HasSeen}
 use Rattle.fdb_lines.specs.private.Keys.{AreNumbered}
-use Rattle.fdb_lines.specs.private.KeyParts.{flags_of, AreOpen, IsAlike, IsFirst}
+use Rattle.fdb_lines.specs.private.KeyParts.{flags_of, AreOpen, HasOneMore, IsAlike, IsFirst}
 use Rattle.fdb_lines.proofs.Opened.{opened_first}
 use Rattle.fdb_lines.proofs.Parted.{numbered_more}
-use Rattle.fdb_lines.proofs.SeenByKey.{alike_first, numbered_same, popped, seen_first, stay_first, stay_same}
+use Rattle.fdb_lines.proofs.SeenByKey.{alike_first, numbered_same, seen_first, stay_first}
 use Rattle.fdb_lines.proofs.key_watch.KeyWatch.push_first.Goals as goal
+
+-- the part of a key with its first line
+first_part : (empty part : KeyPart) (name : Option ℕ) (margin horizon number : ℕ) (line : Line) → empty.key ≡ name → HasSeen empty.watch [] → empty.numbers.items ≡ []
+    → IsAlike margin horizon 0 empty → HasOneMore line number empty part → IsAlike empty.watch.margin empty.watch.horizon empty.watch.from part → part.is_open ≡ true
+    → IsFirst name margin horizon line number part
+first_part empty part name margin horizon number line named seen numbers was more now opened =
+    let low = was.its_from in
+    let up = now.its_from in
+    record {
+      empty = empty;
+      key = named;
+      seen = seen;
+      numbers = numbers;
+      more = more;
+      alike = record { its_margin = now.its_margin ∙ was.its_margin; its_horizon = now.its_horizon ∙ was.its_horizon; its_from = omega arith };
+      opened = opened;
+    }
 
 pub invariant_of-self-2 : goal.invariant_of-self-2
 invariant_of-self-2 c =
     let watch = c.args.self.now in
     let parts = watch.parts.items in
-    let part = c.in-Ok.part in
-    let first = c.in-Ok.ensures.first in
+    let part = c.push.new.self in
+    let first = (let its = c.new-part.ensures in
+    first_part c.new-part.result c.push.new.self c.args.key watch.margin watch.horizon watch.count c.args.line its.key its.seen its.numbers its.alike c.in_default.ensures.ok c.push.ensures.alike c.push.ensures.opened) in
     let key_is = λ (part : KeyPart). part.key in
     let open_flag = λ (part : KeyPart). part.is_open in
     let place_is : c.len-place.result ≡ length (flags_of parts) = (let sizes = length-map parts open_flag in let is = c.len-place.ensures in omega (arith, watch.parts.ok.0)) in
-    let pushed : c.push-2.new.self.items ≡ parts ++ part ∷ [] = c.in_default-push.ensures.items in
-    let listed : c.push.new.self.items ≡ watch.open_parts.items ++ length (flags_of parts) ∷ [] =
-    c.in_default.ensures.items ∙ ap (λ n. watch.open_parts.items ++ n ∷ []) place_is in
+    let pushed : c.push_reserved-2.new.self.items ≡ parts ++ part ∷ [] = c.push_reserved-2.ensures.items ∙ ap (λ (ps : List KeyPart). ps ++ part ∷ []) c.reserve-2.ensures.items in
+    let listed : c.push_reserved.new.self.items ≡ watch.open_parts.items ++ length (flags_of parts) ∷ [] =
+    c.push_reserved.ensures.items ∙ (ap (λ (ps : List ℕ). ps ++ c.len-place.result ∷ []) c.reserve.ensures.items ∙ ap (λ n. watch.open_parts.items ++ n ∷ []) place_is) in
     let named : names_of (parts ++ part ∷ []) ≡ names_of parts ++ c.args.key ∷ [] = map_push key_is parts part ∙ ap (λ q. names_of parts ++ q ∷ []) (first.more.key ∙ first.key) in
     let flagged : flags_of (parts ++ part ∷ []) ≡ flags_of parts ++ true ∷ [] = map_push open_flag parts part ∙ ap (λ b. flags_of parts ++ b ∷ []) first.opened in
     let size : c.len-place.result ≡ length (names_of parts) = (let sizes = length-map parts key_is in let is = c.len-place.ensures in omega (arith, watch.parts.ok.0)) in
@@ -34,7 +54,7 @@ invariant_of-self-2 c =
       numbered = subst (AreNumbered (λ q. get nat_cmp c.give_number.new.numbers q)) (sym (ap names_of pushed ∙ named)) more;
       alike = subst (All (IsAlike watch.margin watch.horizon watch.from)) (sym pushed)
           (alike_first c.args.key watch.margin watch.horizon watch.from c.args.line watch.count parts part watch.alike first);
-      opened = subst (λ (fs : List Bool). AreOpen fs c.push.new.self.items) (sym (ap flags_of pushed ∙ flagged))
+      opened = subst (λ (fs : List Bool). AreOpen fs c.push_reserved.new.self.items) (sym (ap flags_of pushed ∙ flagged))
           (subst (AreOpen (flags_of parts ++ true ∷ [])) (sym listed) (opened_first (flags_of parts) watch.open_parts.items watch.opened));
     }
 
@@ -42,12 +62,13 @@ pub returns-clause-ok : goal.returns-clause-ok
 returns-clause-ok c = λ lines keys seen.
     let watch = c.args.self.now in
     let parts = watch.parts.items in
-    let part = c.in-Ok.part in
+    let part = c.push.new.self in
     let line = c.args.line in
-    let new = c.push-2.new.self.items in
-    let pushed : new ≡ parts ++ part ∷ [] = c.in_default-push.ensures.items in
+    let new = c.push_reserved-2.new.self.items in
+    let pushed : new ≡ parts ++ part ∷ [] = c.push_reserved-2.ensures.items ∙ ap (λ (ps : List KeyPart). ps ++ part ∷ []) c.reserve-2.ensures.items in
     let first : IsFirst c.args.key watch.margin watch.horizon line (length lines) part =
-    subst (λ n. IsFirst c.args.key watch.margin watch.horizon line n part) seen.count c.in-Ok.ensures.first in
+    subst (λ n. IsFirst c.args.key watch.margin watch.horizon line n part) seen.count (let its = c.new-part.ensures in
+    first_part c.new-part.result c.push.new.self c.args.key watch.margin watch.horizon watch.count c.args.line its.key its.seen its.numbers its.alike c.in_default.ensures.ok c.push.ensures.alike c.push.ensures.opened) in
     let it = seen_first lines keys seen.as_many line c.args.key parts seen.names seen.each watch.margin watch.horizon part new
     (λ i lt. watch.numbered.absent c.args.key c.requires.absent i lt) first pushed in
     let count = seen.count in
@@ -62,46 +83,18 @@ returns-clause-ok c = λ lines keys seen.
 pub invariant_of-self-in-Err-give_number : goal.invariant_of-self-in-Err-give_number
 invariant_of-self-in-Err-give_number c =
     let watch = c.args.self.now in
-    let parts = watch.parts.items in
-    let pushed : c.push-2.new.self.items ≡ parts ++ c.in-Ok.part ∷ [] = c.in_default-push.ensures.items in
-    let back : c.pop-in-Err-give_number-2.new.self.items ≡ parts =
-    popped parts c.in-Ok.part c.push-2.new.self.items c.pop-in-Err-give_number-2.new.self.items c.push-2.new.self.len pushed (omega (arith, c.push-2.new.self.ok.0))
-    c.pop-in-Err-give_number-2.ensures.rest in
-    let places = watch.open_parts.items in
-    let listed : c.push.new.self.items ≡ places ++ c.len-place.result ∷ [] = c.in_default.ensures.items in
-    let closed : c.pop-in-Err-give_number.new.self.items ≡ places =
-    popped places c.len-place.result c.push.new.self.items c.pop-in-Err-give_number.new.self.items c.push.new.self.len listed (omega (arith, c.push.new.self.ok.0))
-    c.pop-in-Err-give_number.ensures.rest in
+    let back = c.reserve-2.ensures.items in
     record {
       numbered = subst (AreNumbered (λ q. get nat_cmp c.give_number.new.numbers q)) (sym (ap names_of back))
-          (numbered_same (λ q. get nat_cmp watch.numbers q) (λ q. get nat_cmp c.give_number.new.numbers q) (names_of parts) watch.numbered c.in-Err-give_number.ensures.err);
+          (numbered_same (λ q. get nat_cmp watch.numbers q) (λ q. get nat_cmp c.give_number.new.numbers q) (names_of watch.parts.items) watch.numbered c.in-Err-give_number.ensures.err);
       alike = subst (All (IsAlike watch.margin watch.horizon watch.from)) (sym back) watch.alike;
-      opened = subst (λ (ps : List KeyPart). AreOpen (flags_of ps) c.pop-in-Err-give_number.new.self.items) (sym back)
-          (subst (AreOpen (flags_of parts)) (sym closed) watch.opened);
+      opened = subst (λ (ps : List KeyPart). AreOpen (flags_of ps) c.reserve.new.self.items) (sym back)
+          (subst (AreOpen (flags_of watch.parts.items)) (sym c.reserve.ensures.items) watch.opened);
     }
-
-pub returns-in-Err-give_number-clause-err : goal.returns-in-Err-give_number-clause-err
-returns-in-Err-give_number-clause-err c = λ lines keys seen.
-    let watch = c.args.self.now in
-    let parts = watch.parts.items in
-    let pushed : c.push-2.new.self.items ≡ parts ++ c.in-Ok.part ∷ [] = c.in_default-push.ensures.items in
-    let back : c.pop-in-Err-give_number-2.new.self.items ≡ parts =
-    popped parts c.in-Ok.part c.push-2.new.self.items c.pop-in-Err-give_number-2.new.self.items c.push-2.new.self.len pushed (omega (arith, c.push-2.new.self.ok.0))
-    c.pop-in-Err-give_number-2.ensures.rest in
-    record { count = seen.count; as_many = seen.as_many; names = ap names_of back ∙ seen.names; each = subst (All (HasSeenOne lines keys)) (sym back) seen.each }
-
-pub returns-in-Err-give_number-clause-stays : goal.returns-in-Err-give_number-clause-stays
-returns-in-Err-give_number-clause-stays c =
-    let watch = c.args.self.now in
-    let parts = watch.parts.items in
-    let pushed : c.push-2.new.self.items ≡ parts ++ c.in-Ok.part ∷ [] = c.in_default-push.ensures.items in
-    let back : c.pop-in-Err-give_number-2.new.self.items ≡ parts =
-    popped parts c.in-Ok.part c.push-2.new.self.items c.pop-in-Err-give_number-2.new.self.items c.push-2.new.self.len pushed (omega (arith, c.push-2.new.self.ok.0))
-    c.pop-in-Err-give_number-2.ensures.rest in
-    stay_same parts c.pop-in-Err-give_number-2.new.self.items back
 
 pub returns-clause-stays : goal.returns-clause-stays
 returns-clause-stays c =
     let watch = c.args.self.now in
-    stay_first c.args.key watch.margin watch.horizon c.args.line watch.count watch.parts.items c.push-2.new.self.items c.in-Ok.part c.in-Ok.ensures.first
-    c.in_default-push.ensures.items
+    stay_first c.args.key watch.margin watch.horizon c.args.line watch.count watch.parts.items c.push_reserved-2.new.self.items c.push.new.self (let its = c.new-part.ensures in
+    first_part c.new-part.result c.push.new.self c.args.key watch.margin watch.horizon watch.count c.args.line its.key its.seen its.numbers its.alike c.in_default.ensures.ok c.push.ensures.alike c.push.ensures.opened)
+    (c.push_reserved-2.ensures.items ∙ ap (λ (ps : List KeyPart). ps ++ c.push.new.self ∷ []) c.reserve-2.ensures.items)

@@ -6,8 +6,9 @@ use Rattle.fdb_lines.specs.declared.key_part.KeyPart.{KeyPart}
 use Rattle.fdb_lines.specs.KeyWatch.{AreTold, GoesOn}
 use Rattle.fdb_lines.specs.private.Keys.{AreNumbered}
 use Rattle.fdb_lines.specs.private.KeyParts.{flag_at, flags_of, AreNext, AreOpen, ArePut}
+use Rattle.fdb_lines.proofs.OnceTold.{settled_on, told_came, told_of_each}
 use Rattle.fdb_lines.proofs.Opened.{open_within, opened_kept}
-use Rattle.fdb_lines.proofs.SettledByKey.{alike_on, entries_on, flags_on, goes_on, names_on, nothing, seen_on, told_by_key}
+use Rattle.fdb_lines.proofs.SettledByKey.{alike_on, entries_on, flags_on, goes_on, keeps_on, names_on, nothing, rest_by_key, seen_on, told_by_key}
 use Rattle.fdb_lines.proofs.key_watch.KeyWatch.settle.Goals as goal
 
 pub next_parts-requires : goal.next_parts-requires
@@ -70,6 +71,21 @@ returns c =
           subst (λ m. GoesOn m lines keys given (get_or old i d) (get_or new i d)) most
           (goes_on at old places nexts entries new given watch.opened next put watch.margin watch.horizon watch.from late watch.alike lines keys
           (nothing (Some at) old places given watch.opened are lines keys seen.names seen.each) i d lt);
+      once = λ lines keys told seen has.
+          let tell = told_by_key (Some at) old places given watch.opened are lines keys seen.names seen.each in
+          record {
+            each = settled_on lines keys seen.as_many old new seen.names seen.each at watch.margin given told tell put.as_many
+                (goes_on at old places nexts entries new given watch.opened next put watch.margin watch.horizon watch.from late watch.alike lines keys
+                (nothing (Some at) old places given watch.opened are lines keys seen.names seen.each))
+                (λ i d lt. let is = watch.alike i d lt in let low = is.its_from in (is.its_margin, omega arith))
+                (λ i d lt. (alike_on at old places nexts entries new given watch.opened next put watch.margin watch.horizon watch.from late watch.alike i d lt).its_margin)
+                has.each;
+            came = told_came lines keys seen.as_many old seen.names seen.each (Some at) given tell told has.came;
+            all = told_of_each lines keys seen.as_many old seen.names seen.each watch.margin (Some at) given told tell
+                (rest_by_key (Some at) old places given watch.opened are lines keys seen.names seen.each)
+                (λ i d lt. (watch.alike i d lt).its_margin) (λ i d lt. let low = (watch.alike i d lt).its_from in omega (arith, low, late)) has.each has.came;
+          };
+      kept = keeps_on at old places nexts entries new given watch.opened next put;
       seen = λ lines keys seen. record {
         count = seen.count;
         as_many = seen.as_many;

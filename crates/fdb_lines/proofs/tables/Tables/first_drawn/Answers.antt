@@ -7,4 +7,4 @@ use Rattle.fdb_lines.proofs.tables.Tables.first_drawn.Goals as goal
 pub returns-in-Some : goal.returns-in-Some
 returns-in-Some c =
     let are = are_asked c.self.view_is c.self.invariant in
-    inl (c.first_that.ensures Drawn (lines_of c.args.self.now.log).lines (rw c.in-Some.is at are.drawn).2)
+    inl (c.first_that.ensures Drawn (lines_of c.args.self.now.log).lines (rw c.in-Some.is at are.drawn).1)

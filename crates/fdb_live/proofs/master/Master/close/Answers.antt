@@ -17,4 +17,5 @@ returns g c =
         },
         sym after.count,
       );
+      count = c.look_each.ensures.count;
     }

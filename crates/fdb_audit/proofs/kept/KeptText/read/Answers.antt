@@ -1,0 +1,41 @@
+use Rattle.std.proofs.Common.{◌≡◌, ◌∙◌, ◌++◌, ◌∷◌, [], List, MatchOption, None, Option, Result, ap, append-nil, map, option_map, string_bytes, subst, sym, ℕ}
+use Rattle.fdb_log_reader.specs.declared.error.Why.{Why}
+use Rattle.fdb_log_reader.specs.declared.read_line.ReadLine.{ReadLine}
+use Rattle.fdb_log_reader.specs.LineReader.{lines_on}
+use Rattle.fdb_log_reader.specs.ReadLine.{SaidLine, lines_read, no_names, said_in}
+use Rattle.fdb_log_reader.specs.Reading.{lines_in}
+use Rattle.fdb_audit.specs.Following.{taken}
+use Rattle.fdb_audit.specs.Kept.{kept_members, kept_said}
+use Rattle.fdb_audit.proofs.KeptTexts.{ends_so, on_not_err}
+use Rattle.fdb_audit.proofs.kept.KeptText.read.Goals as goal
+
+none_left : (left : List (Result SaidLine Why)) (last : Option (Result ReadLine Why)) → last ≡ None
+    → MatchOption last (left ≡ []) (λ read. left ≡ said_in read ∷ []) → left ≡ []
+none_left left last is found = subst (λ last. MatchOption last (left ≡ []) (λ read. left ≡ said_in read ∷ [])) is found
+
+pub returns-clause-said : goal.returns-clause-said
+returns-clause-said c =
+    let text = c.args.text.now in
+    let names = no_names (option_map (λ key. key.now) c.args.key) in
+    let reader = c.feed.new.self in
+    let lines = map said_in c.in_ok-lines.lines.items in
+    let members : map string_bytes c.deref.result.now ≡ kept_members = ap (map string_bytes) c.deref.ensures.value ∙ c.in_ok-members.ensures in
+    let goes = λ (more : List ℕ).
+    sym (c.in_ok-reader.ensures.read (text ++ more) ∙ ap (λ (shown : List (List ℕ)). lines_read shown names (lines_in (text ++ more))) members) ∙ c.in_ok-lines.ensures.read more in
+    let last : lines_on reader [] ≡ [] = none_left (lines_on reader []) c.in_ok-finish.field-0 c.in-None.is c.in_ok-finish.ensures.read in
+    let all : lines_read kept_members names (lines_in text) ≡ lines =
+    ap (λ (text : List ℕ). lines_read kept_members names (lines_in text)) (sym (append-nil text)) ∙ (goes [] ∙ (ap (λ (rest : List (Result SaidLine Why)). lines ++ rest) last ∙ append-nil lines)) in
+    on_not_err c.in_ok-refused.field-0 c.in_default.not-Err c.in_ok-refused.ensures [] c.new-kept.ensures
+    ∙ ap (λ (lines : List (Result SaidLine Why)). kept_said (taken lines)) (sym all)
+
+pub returns-clause-ends : goal.returns-clause-ends
+returns-clause-ends c =
+    let text = c.args.text.now in
+    let names = no_names (option_map (λ key. key.now) c.args.key) in
+    let reader = c.feed.new.self in
+    let lines = map said_in c.in_ok-lines.lines.items in
+    let members : map string_bytes c.deref.result.now ≡ kept_members = ap (map string_bytes) c.deref.ensures.value ∙ c.in_ok-members.ensures in
+    ends_so kept_members names reader text lines
+    (λ (more : List ℕ). sym (c.in_ok-reader.ensures.read (text ++ more) ∙ ap (λ (shown : List (List ℕ)). lines_read shown names (lines_in (text ++ more))) members) ∙ c.in_ok-lines.ensures.read more)
+    (c.a_space_more_is_of_one_line.ensures reader)
+    (none_left (lines_on reader []) c.in_ok-finish.field-0 c.in-None.is c.in_ok-finish.ensures.read)

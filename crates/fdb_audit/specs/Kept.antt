@@ -1,0 +1,95 @@
+-- What a text says that has the lines which are kept of a log that is followed. (this product's own)
+use Rattle.std.specs.Prelude.{◌≡◌, ℕ, ◌+◌, ◌-◌, nat_lt, false, IsPermutation, List, [], ◌∷◌, Option, codes, count_by, drop, is_some, length, map, option_and_then, option_map, slice_get, string_bytes, take, unwrap_or, Result, if◌then◌else◌}
+use Rattle.std.specs.List.{flat_map}
+use Rattle.std.specs.Option.{option_flatten}
+use Rattle.fdb_lines.specs.declared.key_part.KeyPart.{KeyPart}
+use Rattle.fdb_lines.specs.declared.key_watch.KeyWatch.{KeyWatch}
+use Rattle.fdb_lines.specs.declared.line.Line.{Line}
+use Rattle.fdb_lines.specs.Before.{began}
+use Rattle.fdb_lines.specs.ToldByKey.{audited_to}
+use Rattle.fdb_log_reader.specs.declared.error.Why.{Why}
+use Rattle.fdb_log_reader.specs.Members.{whole}
+use Rattle.fdb_log_reader.specs.ReadLine.{SaidLine, lines_read, no_names}
+use Rattle.fdb_log_reader.specs.Reading.{lines_in}
+use Rattle.fdb_audit.specs.declared.arguments.AuditArguments.{AuditArguments}
+use Rattle.fdb_audit.specs.declared.taking.Taking.{Taking}
+use Rattle.fdb_audit.specs.Following.{KeptNumbers, Start, keys_taken, lines_taken, number_in, taken}
+use Rattle.fdb_audit.specs.Watched.{lines_asked}
+
+-- the members that say as what a line is kept: its number among all lines that were read, counted from 1; how many had been
+-- read; and up to when all was told, which is left out in lines that came since
+abbrev pub kept_members : List (List ℕ)
+kept_members = codes "kept_line" ∷ codes "kept_lines" ∷ codes "kept_settled" ∷ []
+
+-- the lines that a text keeps, where a member has the keys, if they are kept
+abbrev pub lines_kept : Option (List ℕ) → List ℕ → List SaidLine
+lines_kept key text = taken (lines_read kept_members (no_names key) (lines_in text))
+
+-- the whole number that stands in one of these members, if one does
+abbrev pub number_kept : ℕ → SaidLine → Option ℕ
+number_kept member said = option_and_then whole (option_flatten (slice_get said.shown member))
+
+-- how many lines had been read, as the last line says that does
+abbrev pub read_by : ℕ → List SaidLine → ℕ
+read_by count [] = count
+read_by count (said ∷ lines) = read_by (unwrap_or (number_kept 1 said) count) lines
+
+-- and up to when all was told
+abbrev pub settled_by : ℕ → List SaidLine → ℕ
+settled_by at [] = at
+settled_by at (said ∷ lines) = settled_by (unwrap_or (number_kept 2 said) at) lines
+
+-- What is said of lines that are kept: their numbers, and how many more had been read; how many had come when it settled last,
+-- and up to when it had.
+pub record KeptSaid : Type 0 where
+  pub numbers : KeptNumbers
+  pub told : ℕ
+  pub settled : ℕ
+
+abbrev pub kept_said : List SaidLine → KeptSaid
+kept_said lines = record {
+  numbers = record { numbers = map (λ said. unwrap_or (number_kept 0 said) 0) lines; more = read_by 0 lines - length lines };
+  told = count_by (λ said. is_some (number_kept 2 said)) lines;
+  settled = settled_by 0 lines;
+}
+
+-- how many of some lines began before a moment
+abbrev pub early_at : ℕ → List Line → ℕ
+early_at at lines = count_by (λ line. nat_lt (began line) at) lines
+
+-- From where a log is followed on of which lines were kept: of those that had come when it settled what there was to tell has been
+-- told, up to when it had; and of the others those are early that began before.
+abbrev pub start_from : ℕ → ℕ → KeptSaid → List (Result SaidLine Why) → Start
+start_from behind margin kept read = record {
+  behind = behind;
+  anew = false;
+  numbers = kept.numbers;
+  lines = length read;
+  early = early_at kept.settled (lines_taken (drop kept.told read));
+  told = audited_to margin kept.settled (lines_taken (take kept.told read)) (keys_taken (take kept.told read));
+}
+
+-- and by the text that keeps them
+abbrev pub start_of : AuditArguments → ℕ → List ℕ → Start
+start_of asked behind text =
+    start_from behind asked.opts.margin (kept_said (lines_kept (option_map string_bytes asked.key) text)) (lines_asked asked text)
+
+-- What is to be said of the lines that are kept of those that were taken, by their places: so many had come when it settled last.
+abbrev pub kept_at : KeptNumbers → List (Result SaidLine Why) → List ℕ → ℕ → ℕ → KeptSaid
+kept_at before read places come settled =
+    let told = count_by (λ place. nat_lt place come) places in
+    record {
+      numbers = record { numbers = map (number_in before read) places; more = length read + before.more - length places };
+      told = told;
+      settled = if nat_lt 0 told then settled else 0;
+    }
+
+-- the places of the lines that a watch keeps, key by key
+abbrev pub places_kept : KeyWatch → List ℕ
+places_kept watch = flat_map (λ (part : KeyPart). part.numbers.items) watch.parts.items
+
+-- A text says which lines are kept, in an order, each under its number, how many lines were read, and up to when all was told.
+pub record Keeps (key : Option (List ℕ)) (before : KeptNumbers) (taking : Taking) (read : List (Result SaidLine Why)) (text : List ℕ) : Type 0 where
+  pub places : List ℕ
+  pub all : IsPermutation (places_kept taking.watch) places
+  pub said : kept_said (lines_kept key text) ≡ kept_at before read places taking.settled taking.watch.from

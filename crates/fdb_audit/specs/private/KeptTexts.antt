@@ -1,0 +1,12 @@
+-- What was read of a text that keeps lines. (this product's own)
+use Rattle.std.specs.Prelude.{ℕ}
+use Rattle.fdb_lines.specs.declared.key_part.KeptLine.{KeptLine}
+use Rattle.fdb_audit.specs.declared.kept.KeptText.{KeptText}
+use Rattle.fdb_audit.specs.Kept.{KeptSaid}
+
+abbrev pub said_of : KeptText → KeptSaid
+said_of kept = record { numbers = record { numbers = kept.numbers.items; more = kept.more }; told = kept.told; settled = kept.settled }
+
+-- the place of a line that is kept among all that were taken
+abbrev pub number_of : KeptLine → ℕ
+number_of kept = kept.number

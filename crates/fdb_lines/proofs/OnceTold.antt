@@ -1,0 +1,671 @@
+-- Of each key is told, each fault once, what there is to tell.
+use Rattle.std.proofs.Common.{◌≡◌, ◌≢◌, ◌⊎◌, ℕ, zero, suc, ◌==◌, ◌<◌, ◌≤◌, nat_le, Bool, true, false, cond, ◌&&◌, ◌||◌, List, [], ◌∷◌, ◌++◌, Option, None, Some, IfSome, length, map, get_or, slice_index, refl, ap, sym, subst, ◌∙◌, inl, inr, arith, append-nil, length-append}
+use Rattle.std.specs.Prelude.{IsPermutation}
+use Rattle.std.specs.List.{All, AllPairs, filter}
+use Rattle.std.proofs.lemmas.Bool.{both_ways, cases_lt, false_from_ne_true}
+use Rattle.std.proofs.lemmas.Bool.Decides.{nat_tests}
+use Rattle.std.proofs.lemmas.List.{get_or_append_left, get_or-map, length-map, map-append}
+use Rattle.std.proofs.lemmas.List.Elements.{All-append, All-cons, All-filter, All-head, All-map, All-nil, All-tail, All-weaker, filter-append, filter_agree}
+use Rattle.std.proofs.lemmas.List.Sorted.{IsPermutation-append, IsPermutation-map, IsPermutation-refl, IsPermutation-sym, IsPermutation-trans}
+use Rattle.std.proofs.lemmas.Simd.{map-map}
+use Rattle.fdb_lines.specs.declared.fault.Found.{Found}
+use Rattle.fdb_lines.specs.declared.key_part.KeyPart.{KeyPart}
+use Rattle.fdb_lines.specs.declared.key_part.SettledKey.{SettledKey}
+use Rattle.fdb_lines.specs.declared.key_watch.KeyWatch.{KeyWatch}
+use Rattle.fdb_lines.specs.declared.line.Line.{Line}
+use Rattle.fdb_lines.specs.declared.opts.AuditOpts.{AuditOpts}
+use Rattle.fdb_lines.specs.declared.reason.Finding.{Finding}
+use Rattle.fdb_lines.specs.Before.{began}
+use Rattle.fdb_lines.specs.Carried.{with_times}
+use Rattle.fdb_lines.specs.KeyParts.{lines_of_one, names_of, HasSeenOne, HasStayed, HaveStayed}
+use Rattle.fdb_lines.specs.Keys.{case_of_key, faults_at_by_key, faults_below_by_key, faults_by_key, key_at, keys_of, place_among, placed_found, places_of, same_key, told_at as placed_at}
+use Rattle.fdb_lines.specs.KeyWatch.{AreTold, GoesOn, HasEntry, HasNothingToTell, HasSeenByKey, IsToldOf}
+use Rattle.fdb_lines.specs.Lines.{Case, Lines, line_at, lines_in, nobody}
+use Rattle.fdb_lines.specs.Listing.{faults_at, faults_of}
+use Rattle.fdb_lines.specs.Reasons.{found_of}
+use Rattle.fdb_lines.specs.ToldByKey.{HasTold, HasToldOne, at_key, audited, audited_to, to_tell, told_by, told_by_all}
+use Rattle.fdb_lines.specs.Watch.{due}
+use Rattle.fdb_lines.specs.Watching.{begins_before, is_due, is_watched, opts_of, told_of, watched}
+use Rattle.fdb_lines.specs.private.Due.{told_at, told_below}
+use Rattle.fdb_lines.proofs.Carried.{at_part}
+use Rattle.fdb_lines.proofs.Kept.{kept_of_key}
+use Rattle.fdb_lines.proofs.Keyed.{each_once, has_key, has_none, of_key, same_is, same_self, HasKey}
+use Rattle.fdb_lines.proofs.Permuted.{all_pass, both_parts, filter_both, filter_mapped, none_pass, permuted_by_key}
+use Rattle.fdb_lines.proofs.SeenByKey.{in_more, its_lines, names_more, other_places, places_more}
+use Rattle.fdb_lines.proofs.Watched.{all_told, filtered, told_stays, IsToldAt}
+use Rattle.fdb_lines.proofs.Windows.{told_after, told_before}
+
+-- ---- what there is to tell is of lines that are there
+
+pub told_there : (margin : ℕ) (test : ℕ → Line → Bool) (lines : List Line) → All (λ (found : Found). found.line < length lines) (told_of margin test lines)
+told_there margin test lines =
+    let at = λ (k : ℕ). test k (line_at lines k) in
+    let c = watched margin lines in
+    subst (All (λ (found : Found). found.line < length lines)) (filtered at c (length lines))
+    (All-weaker (IsToldAt at c (length lines)) (λ (found : Found). found.line < length lines) (λ found is. is.there) (told_below at c (length lines)) (all_told at c (length lines)))
+
+none_of_none : (n : ℕ) (found : List Found) → n ≡ 0 → All (λ (one : Found). one.line < n) found → found ≡ []
+none_of_none n [] is all = refl
+none_of_none n (one ∷ found) is all = let lt = All-head (λ (one : Found). one.line < n) one found all in absurd (omega (arith, lt, is))
+
+-- ---- in windows
+
+pub below_same : (test other : ℕ → Bool) (c : Case) (n : ℕ) → ((k : ℕ) → k < n → test k ≡ other k) → told_below test c n ≡ told_below other c n
+below_same test other c zero same = refl
+below_same test other c (suc n) same =
+    ap (λ (l : List Found). l ++ cond (test n) (told_at c n) []) (below_same test other c n (λ k lt. same k (omega (arith, lt))))
+    ∙ ap (λ b. told_below other c n ++ cond {A = List Found} b (told_at c n) []) (same n (omega arith))
+
+pub told_same : (margin : ℕ) (test other : ℕ → Line → Bool) (lines : List Line) → ((k : ℕ) → k < length lines → test k (line_at lines k) ≡ other k (line_at lines k))
+    → told_of margin test lines ≡ told_of margin other lines
+told_same margin test other lines same =
+    let c = watched margin lines in
+    sym (filtered (λ k. test k (line_at lines k)) c (length lines))
+    ∙ (below_same (λ k. test k (line_at lines k)) (λ k. other k (line_at lines k)) c (length lines) same ∙ filtered (λ k. other k (line_at lines k)) c (length lines))
+
+in_time_due : (any : Bool) (from early since many k began : ℕ) → k < many → (since ≤ k → from ≤ began)
+    → (any && (nat_le from began || (nat_le since k && nat_le early began))) ≡ (any && (nat_le from began || (nat_le many k && nat_le early began)))
+in_time_due false from early since many k began lt timely = refl
+in_time_due true from early since many k began lt timely = elim (cases_lt k since) [
+  | inl before ↦ grind (arith, nat_tests)
+  | inr ge ↦ let late = timely ge in grind (arith, nat_tests)
+]
+
+-- what was told before a moment, and what is told then of lines that came in time, is all there is to tell
+pub window_more : (margin from early since : ℕ) (to : Option ℕ) (lines : List Line) → IfSome to (λ last. from ≤ last)
+    → ((j : ℕ) → since ≤ j → j < length lines → from ≤ began (line_at lines j))
+    → IsPermutation (told_of margin (is_due 0 0 0 (Some from)) lines ++ told_of margin (is_due from early since to) lines) (told_of margin (is_due 0 0 0 to) lines)
+window_more margin from early since to lines after timely =
+    let all = told_of margin (is_due 0 0 0 to) lines in
+    let before = λ (found : Found). begins_before (Some from) (line_at lines found.line) in
+    let one = told_before margin 0 0 0 from to lines after in
+    let same = told_same margin (is_due from early since to) (is_due from early (length lines) to) lines (λ k lt.
+    in_time_due (begins_before to (line_at lines k)) from early since (length lines) k (began (line_at lines k)) lt (λ ge. timely k ge lt)) in
+    let other = same ∙ told_after margin 0 0 0 from early to lines (omega arith) in
+    subst (λ l. IsPermutation (l ++ told_of margin (is_due from early since to) lines) all) (sym one)
+    (subst (λ l. IsPermutation (filter before all ++ l) all) (sym other) (both_parts before all))
+
+-- none began before the first moment
+never : (k : ℕ) (line : Line) → is_due 0 0 0 (Some 0) k line ≡ false
+never k line = grind (arith, nat_tests)
+
+none_yet : (margin : ℕ) (lines : List Line) → told_of margin (is_due 0 0 0 (Some 0)) lines ≡ []
+none_yet margin lines =
+    none_pass (λ (found : Found). is_watched found.fault && is_due 0 0 0 (Some 0) found.line (line_at lines found.line)) (faults_of (watched margin lines))
+    (λ k d lt. let found = get_or (faults_of (watched margin lines)) k d in not_due (is_watched found.fault) (is_due 0 0 0 (Some 0) found.line (line_at lines found.line)) (never found.line (line_at lines found.line)))
+  where
+    not_due : (a b : Bool) → b ≡ false → (a && b) ≡ false
+    not_due true b is = is
+    not_due false b is = refl
+
+-- and all are due in the end
+at_last : (fault : Bool) (k : ℕ) (line : Line) → fault ≡ (fault && is_due 0 0 0 None k line)
+at_last true k line = grind (arith, nat_tests)
+at_last false k line = refl
+
+pub all_due : (margin : ℕ) (lines : List Line) → filter (λ (found : Found). is_watched found.fault) (faults_of (watched margin lines)) ≡ told_of margin (is_due 0 0 0 None) lines
+all_due margin lines =
+    filter_agree (λ (found : Found). is_watched found.fault) (λ (found : Found). is_watched found.fault && is_due 0 0 0 None found.line (line_at lines found.line))
+    (λ found. at_last (is_watched found.fault) found.line (line_at lines found.line)) (faults_of (watched margin lines))
+
+-- ---- what an entry tells
+
+maps_same : {X Y : Type 0} (f g : X → Y) (xs : List X) → All (λ x. f x ≡ g x) xs → map f xs ≡ map g xs
+maps_same f g [] same = refl
+maps_same {X} {Y} f g (x ∷ xs) same =
+    ap (λ (y : Y). y ∷ map f xs) (All-head (λ x. f x ≡ g x) x xs same) ∙ ap (λ (ys : List Y). g x ∷ ys) (maps_same f g xs (All-tail (λ x. f x ≡ g x) x xs same))
+
+placed_twice : (mine numbers : List ℕ) (found : Found) → found.line < length numbers → placed_found (map (slice_index mine) numbers) found ≡ placed_found mine (placed_found numbers found)
+placed_twice mine numbers found lt =
+    ap (λ (line : ℕ). let it : Found = record { line = line; fault = found.fault } in it) (get_or-map (slice_index mine) numbers found.line 0 0 lt)
+
+-- of lines of its key what there is to tell of them
+entry_told : (to : Option ℕ) (lines : List Line) (keys : List (Option ℕ)) (entry : SettledKey) (part : KeyPart) → IsToldOf to lines keys entry part
+    → told_by entry ≡ map (placed_found (places_of keys part.key)) (told_of part.watch.margin (due part.watch to) (lines_of_one lines keys part.key))
+entry_told to lines keys entry part is =
+    let mine = places_of keys part.key in
+    let numbers = part.watch.numbers.items in
+    let found = entry.settled.found.items in
+    ap (λ (ns : List ℕ). map (λ (finding : Finding). placed_found ns (found_of finding)) found) is.numbers
+    ∙ (maps_same (λ (finding : Finding). placed_found (map (slice_index mine) numbers) (found_of finding)) (λ (finding : Finding). placed_found mine (placed_found numbers (found_of finding))) found
+    (λ k d lt. placed_twice mine numbers (found_of (get_or found k d)) (is.told.within k d lt))
+    ∙ (sym (map-map (placed_found mine) (λ (finding : Finding). placed_found numbers (found_of finding)) found) ∙ ap (map (placed_found mine)) is.told.told))
+
+record IsOf (keys : List (Option ℕ)) (key : Option ℕ) (found : Found) : Type 0 where
+  there : found.line < length keys
+  its : key_at keys found.line ≡ key
+
+placed_of : (keys : List (Option ℕ)) (key : Option ℕ) (found : List Found) → All (λ (one : Found). one.line < length (places_of keys key)) found
+    → All (IsOf keys key) (map (placed_found (places_of keys key)) found)
+placed_of keys key found within =
+    All-map (IsOf keys key) (placed_found (places_of keys key)) found (λ k d lt.
+    let is = of_key keys key (places_of keys key) refl (get_or found k d).line (within k d lt) in record { there = is.0; its = is.1 })
+
+entry_of : (to : Option ℕ) (lines : List Line) (keys : List (Option ℕ)) (entry : SettledKey) (part : KeyPart) → IsToldOf to lines keys entry part
+    → All (IsOf keys entry.key) (told_by entry)
+entry_of to lines keys entry part is =
+    let mine = lines_of_one lines keys part.key in
+    let size = length-map (places_of keys part.key) (line_at lines) in
+    let found = told_of part.watch.margin (due part.watch to) mine in
+    subst (λ key. All (IsOf keys key) (told_by entry)) (sym is.key)
+    (subst (All (IsOf keys part.key)) (sym (entry_told to lines keys entry part is))
+    (placed_of keys part.key found (λ k d lt. let it = told_there part.watch.margin (due part.watch to) mine k d lt in omega (arith, size, it))))
+
+-- ---- of a key, what entries tell
+
+all_of_key : (keys : List (Option ℕ)) (key q : Option ℕ) (told : List Found) → All (IsOf keys key) told → same_key key q ≡ true → at_key keys q told ≡ told
+all_of_key keys key q told are same = all_pass (λ (found : Found). same_key (key_at keys found.line) q) told (λ k d lt. ap (λ key. same_key key q) (are k d lt).its ∙ same)
+
+none_of_key : (keys : List (Option ℕ)) (key q : Option ℕ) (told : List Found) → All (IsOf keys key) told → same_key key q ≡ false → at_key keys q told ≡ []
+none_of_key keys key q told are other = none_pass (λ (found : Found). same_key (key_at keys found.line) q) told (λ k d lt. ap (λ key. same_key key q) (are k d lt).its ∙ other)
+
+abbrev Is_told : List (Option ℕ) → SettledKey → Type 0
+Is_told keys entry = All (IsOf keys entry.key) (told_by entry)
+
+in_two : (keys : List (Option ℕ)) (q : Option ℕ) (one more : List Found) → at_key keys q (one ++ more) ≡ at_key keys q one ++ at_key keys q more
+in_two keys q one more = filter-append (λ (found : Found). same_key (key_at keys found.line) q) one more
+
+others_tell : (keys : List (Option ℕ)) (q : Option ℕ) (entries : List SettledKey) → All (Is_told keys) entries → All (λ (entry : SettledKey). same_key entry.key q ≡ false) entries
+    → at_key keys q (told_by_all entries) ≡ []
+others_tell keys q [] are others = refl
+others_tell keys q (entry ∷ entries) are others =
+    in_two keys q (told_by entry) (told_by_all entries)
+    ∙ (ap (λ (l : List Found). l ++ at_key keys q (told_by_all entries))
+    (none_of_key keys entry.key q (told_by entry) (All-head (Is_told keys) entry entries are) (All-head (λ (entry : SettledKey). same_key entry.key q ≡ false) entry entries others))
+    ∙ others_tell keys q entries (All-tail (Is_told keys) entry entries are) (All-tail (λ (entry : SettledKey). same_key entry.key q ≡ false) entry entries others))
+
+pub apart : (a q : Option ℕ) → (a ≡ q → ⊥) → same_key a q ≡ false
+apart a q differ = false_from_ne_true (same_key a q) (λ is. differ (same_is a q is))
+
+entries_tell : (keys : List (Option ℕ)) (q : Option ℕ) (told : List Found) (entries : List SettledKey) → All (Is_told keys) entries
+    → AllPairs (λ (one other : SettledKey). one.key ≢ other.key) entries → All (λ (entry : SettledKey). entry.key ≡ q → told_by entry ≡ told) entries
+    → HasEntry entries q ⊎ (told ≡ []) → at_key keys q (told_by_all entries) ≡ told
+entries_tell keys q told [] are once tell (inl (k, lt, is)) = absurd (omega (arith, lt))
+entries_tell keys q told [] are once tell (inr none) = sym none
+entries_tell keys q told (entry ∷ entries) are once tell has = by (same_key entry.key q) refl (λ other.
+    entries_tell keys q told entries rest (λ i j d less lt. once (suc i) (suc j) d (omega (arith, less)) (omega (arith, lt)))
+    (All-tail (λ (entry : SettledKey). entry.key ≡ q → told_by entry ≡ told) entry entries tell) (left other has))
+  where
+    here : All (IsOf keys entry.key) (told_by entry)
+    here = All-head (Is_told keys) entry entries are
+
+    rest : All (Is_told keys) entries
+    rest = All-tail (Is_told keys) entry entries are
+
+    left : same_key entry.key q ≡ false → HasEntry (entry ∷ entries) q ⊎ (told ≡ []) → HasEntry entries q ⊎ (told ≡ [])
+    left other (inl (zero, lt, is)) = absurd (both_ways (same_key entry.key q) other (ap (λ key. same_key key q) is ∙ same_self q))
+    left other (inl (suc k, lt, is)) = inl (k, omega (arith, lt), is)
+    left other (inr none) = inr none
+
+    by : (b : Bool) → same_key entry.key q ≡ b → (same_key entry.key q ≡ false → at_key keys q (told_by_all entries) ≡ told) → at_key keys q (told_by entry ++ told_by_all entries) ≡ told
+    by true same others =
+        let key = same_is entry.key q same in
+        in_two keys q (told_by entry) (told_by_all entries)
+        ∙ (ap (λ (l : List Found). l ++ at_key keys q (told_by_all entries)) (all_of_key keys entry.key q (told_by entry) here same)
+        ∙ (ap (λ (l : List Found). told_by entry ++ l) (others_tell keys q entries rest (λ k d lt.
+        apart (get_or entries k d).key q (λ is. once 0 (suc k) d (omega arith) (omega (arith, lt)) (key ∙ sym is))))
+        ∙ (append-nil (told_by entry) ∙ All-head (λ (entry : SettledKey). entry.key ≡ q → told_by entry ≡ told) entry entries tell key)))
+    by false other others =
+        in_two keys q (told_by entry) (told_by_all entries)
+        ∙ (ap (λ (l : List Found). l ++ at_key keys q (told_by_all entries)) (none_of_key keys entry.key q (told_by entry) here other) ∙ others other)
+
+abbrev key_is : KeyPart → Option ℕ
+key_is part = part.key
+
+-- ---- when all settle
+
+module _ (lines : List Line) (keys : List (Option ℕ)) (as_many : length keys ≡ length lines) (parts : List KeyPart) (named : names_of parts ≡ keys_of keys)
+    (each : All (HasSeenOne lines keys) parts) where
+  name_at : (i : ℕ) (d : KeyPart) → i < length parts → key_at (keys_of keys) i ≡ (get_or parts i d).key
+  name_at i d lt = ap (λ ks. key_at ks i) (sym named) ∙ get_or-map key_is parts i d None lt
+
+  names_size : length (keys_of keys) ≡ length parts
+  names_size = ap length (sym named) ∙ length-map parts key_is
+
+  same_part : (i j : ℕ) (d : KeyPart) → i < length parts → j < length parts → (get_or parts i d).key ≡ (get_or parts j d).key → i ≡ j
+  same_part i j d li lj same =
+      let size = names_size in
+      each_once keys (length keys) i j (omega (arith, size, li)) (omega (arith, size, lj)) (name_at i d li ∙ (same ∙ sym (name_at j d lj)))
+
+  -- the key of each line has a part
+  key_there : (found : Found) (d : KeyPart) → found.line < length lines → (i : ℕ) × (i < length parts) × ((get_or parts i d).key ≡ key_at keys found.line)
+  key_there found d lt =
+      let size = names_size in
+      let has = has_key keys (length keys) found.line (omega (arith, lt, as_many)) in
+      let within = has.1 in
+      let inside : has.0 < length parts = omega (arith, size, within) in
+      (has.0, inside, sym (name_at has.0 d inside) ∙ has.2)
+
+  -- of a key without a part nothing is told
+  nobody_tells : (q : Option ℕ) (d : KeyPart) (told : List Found) → ((i : ℕ) → i < length parts → (get_or parts i d).key ≢ q) → All (λ (found : Found). found.line < length lines) told
+      → at_key keys q told ≡ []
+  nobody_tells q d told none came =
+      none_pass (λ (found : Found). same_key (key_at keys found.line) q) told (λ k e lt.
+      let found = get_or told k e in
+      let has = key_there found d (came k e lt) in
+      apart (key_at keys found.line) q (λ is. none has.0 has.1 (has.2 ∙ is)))
+
+  module _ (to : Option ℕ) (entries : List SettledKey) (tell : AreTold to lines keys parts entries) where
+    are_of : All (Is_told keys) entries
+    are_of k e lt =
+        let it = tell.each k e lt in
+        let d = part_of parts it.0 it.1 in
+        entry_of to lines keys (get_or entries k e) (get_or parts it.0 d) (it.2 d)
+      where
+        part_of : (ps : List KeyPart) (i : ℕ) → i < length ps → KeyPart
+        part_of [] i lt = absurd (omega (arith, lt))
+        part_of (part ∷ ps) i lt = part
+
+    came_now : All (λ (found : Found). found.line < length lines) (told_by_all entries)
+    came_now = all_came entries are_of
+      where
+        all_came : (es : List SettledKey) → All (Is_told keys) es → All (λ (found : Found). found.line < length lines) (told_by_all es)
+        all_came [] are = All-nil (λ (found : Found). found.line < length lines)
+        all_came (e ∷ es) are =
+            All-append (λ (found : Found). found.line < length lines) (told_by e) (told_by_all es)
+            (λ k d lt. let there = (All-head (Is_told keys) e es are k d lt).there in omega (arith, there, as_many)) (all_came es (All-tail (Is_told keys) e es are))
+
+    new_told : (i : ℕ) (d : KeyPart) → i < length parts → HasEntry entries (get_or parts i d).key ⊎ HasNothingToTell to lines keys (get_or parts i d)
+        → at_key keys (get_or parts i d).key (told_by_all entries)
+        ≡ map (placed_found (places_of keys (get_or parts i d).key)) (told_of (get_or parts i d).watch.margin (due (get_or parts i d).watch to) (lines_of_one lines keys (get_or parts i d).key))
+    new_told i d lt has =
+        let part = get_or parts i d in
+        let mine = places_of keys part.key in
+        let found = told_of part.watch.margin (due part.watch to) (lines_of_one lines keys part.key) in
+        entries_tell keys part.key (map (placed_found mine) found) entries are_of tell.once (λ k e less same.
+        let it = tell.each k e less in
+        let at : it.0 ≡ i = same_part it.0 i d it.1 lt (sym (it.2 d).key ∙ same) in
+        entry_told to lines keys (get_or entries k e) part (subst (λ m. IsToldOf to lines keys (get_or entries k e) (get_or parts m d)) at (it.2 d)))
+        (either has)
+      where
+        either : HasEntry entries (get_or parts i d).key ⊎ HasNothingToTell to lines keys (get_or parts i d)
+            → HasEntry entries (get_or parts i d).key
+            ⊎ (map (placed_found (places_of keys (get_or parts i d).key)) (told_of (get_or parts i d).watch.margin (due (get_or parts i d).watch to) (lines_of_one lines keys (get_or parts i d).key)) ≡ [])
+        either (inl entry) = inl entry
+        either (inr nothing) = inr (ap (map (placed_found (places_of keys (get_or parts i d).key))) nothing)
+
+    -- all there is to tell of a key has been told then
+    pub told_to : (told : List Found) (i : ℕ) (d : KeyPart) → i < length parts → HasToldOne lines keys told (get_or parts i d)
+        → HasEntry entries (get_or parts i d).key ⊎ HasNothingToTell to lines keys (get_or parts i d) → IfSome to (λ last. (get_or parts i d).watch.from ≤ last)
+        → IsPermutation (at_key keys (get_or parts i d).key (told ++ told_by_all entries)) (to_tell (get_or parts i d).watch.margin to lines keys (get_or parts i d).key)
+    told_to told i d lt has entry after =
+        let part = get_or parts i d in
+        let q = part.key in
+        let mine = lines_of_one lines keys q in
+        let place = placed_found (places_of keys q) in
+        let margin = part.watch.margin in
+        let was = told_of margin (is_due 0 0 0 (Some part.watch.from)) mine in
+        let now = told_of margin (due part.watch to) mine in
+        let all = told_of margin (is_due 0 0 0 to) mine in
+        let more = new_told i d lt entry in
+        subst (λ l. IsPermutation l (map place all)) (sym (in_two keys q told (told_by_all entries) ∙ ap (λ (l : List Found). at_key keys q told ++ l) more))
+        (IsPermutation-trans (at_key keys q told ++ map place now) (map place was ++ map place now) (map place all)
+        (IsPermutation-append (at_key keys q told) (map place was) (map place now) (map place now) has.once (IsPermutation-refl (map place now)))
+        (subst (λ l. IsPermutation l (map place all)) (map-append place was now)
+        (IsPermutation-map place (was ++ now) all (window_more margin part.watch.from _ part.watch.settled to mine after has.in_time))))
+
+    pub told_came : (told : List Found) → All (λ (found : Found). found.line < length lines) told → All (λ (found : Found). found.line < length lines) (told ++ told_by_all entries)
+    told_came told came = All-append (λ (found : Found). found.line < length lines) told (told_by_all entries) came came_now
+
+-- how each key goes on
+pub settled_on : (lines : List Line) (keys : List (Option ℕ)) → length keys ≡ length lines → (old new : List KeyPart) → names_of old ≡ keys_of keys → All (HasSeenOne lines keys) old
+    → (at margin : ℕ) (entries : List SettledKey) (told : List Found) → AreTold (Some at) lines keys old entries → length new ≡ length old
+    → ((i : ℕ) (d : KeyPart) → i < length old → GoesOn at lines keys entries (get_or old i d) (get_or new i d))
+    → All (λ (part : KeyPart). (part.watch.margin ≡ margin) × (part.watch.from ≤ at)) old → All (λ (part : KeyPart). part.watch.margin ≡ margin) new
+    → All (HasToldOne lines keys told) old → All (HasToldOne lines keys (told ++ told_by_all entries)) new
+settled_on lines keys as_many old new named each at margin entries told tell size goes low same has i d lt =
+    let inside : i < length old = omega (arith, lt, size) in
+    by inside (goes i d inside)
+  where
+    by : i < length old → GoesOn at lines keys entries (get_or old i d) (get_or new i d) → HasToldOne lines keys (told ++ told_by_all entries) (get_or new i d)
+    by inside (inl (entry, on)) =
+        let it = told_to lines keys as_many old named each (Some at) entries tell told i d inside (has i d inside) (inl entry) (low i d inside).1 in
+        let margins : (get_or old i d).watch.margin ≡ (get_or new i d).watch.margin = (low i d inside).0 ∙ sym (same i d lt) in
+        let count = (each i d inside).seen.count in
+        record {
+          once = subst (λ from. IsPermutation (at_key keys (get_or new i d).key (told ++ told_by_all entries)) (to_tell (get_or new i d).watch.margin (Some from) lines keys (get_or new i d).key)) (sym on.from)
+              (subst (λ m. IsPermutation (at_key keys (get_or new i d).key (told ++ told_by_all entries)) (to_tell m (Some at) lines keys (get_or new i d).key)) margins
+              (subst (λ q. IsPermutation (at_key keys q (told ++ told_by_all entries)) (to_tell (get_or old i d).watch.margin (Some at) lines keys q)) (sym on.key) it));
+          in_time = λ j ge less.
+              let settled = on.settled in
+              let mine = ap (λ q. length (lines_of_one lines keys q)) on.key in
+              absurd (omega (arith, ge, less, settled, mine, count));
+        }
+    by inside (inr quiet) =
+        let had = has i d inside in
+        let none = new_told lines keys as_many old named each (Some at) entries tell i d inside (inr quiet.nothing)
+        ∙ ap (map (placed_found (places_of keys (get_or old i d).key))) quiet.nothing in
+        let still : at_key keys (get_or old i d).key (told ++ told_by_all entries) ≡ at_key keys (get_or old i d).key told =
+        in_two keys (get_or old i d).key told (told_by_all entries) ∙ (ap (λ (l : List Found). at_key keys (get_or old i d).key told ++ l) none ∙ append-nil (at_key keys (get_or old i d).key told)) in
+        subst (HasToldOne lines keys (told ++ told_by_all entries)) (sym quiet.same) (record {
+          once = subst (λ l. IsPermutation l (to_tell (get_or old i d).watch.margin (Some (get_or old i d).watch.from) lines keys (get_or old i d).key)) (sym still) had.once;
+          in_time = had.in_time;
+        })
+
+-- ---- for good
+
+is_there : (names : List (Option ℕ)) (q : Option ℕ) → HasKey names q ⊎ ((i : ℕ) → i < length names → key_at names i ≢ q)
+is_there [] q = inr (λ i lt. absurd (omega (arith, lt)))
+is_there (name ∷ names) q = by (same_key name q) refl (is_there names q)
+  where
+    by : (b : Bool) → same_key name q ≡ b → HasKey names q ⊎ ((i : ℕ) → i < length names → key_at names i ≢ q)
+        → HasKey (name ∷ names) q ⊎ ((i : ℕ) → i < length (name ∷ names) → key_at (name ∷ names) i ≢ q)
+    by true same rest = inl (0, omega arith, same_is name q same)
+    by false other (inl (i, lt, is)) = inl (suc i, omega (arith, lt), is)
+    by false other (inr none) = inr none_now
+      where
+        none_now : (i : ℕ) → i < length (name ∷ names) → key_at (name ∷ names) i ≢ q
+        none_now zero lt is = both_ways (same_key name q) other (ap (λ key. same_key key q) is ∙ same_self q)
+        none_now (suc i) lt is = none i (omega (arith, lt)) is
+
+pub and_other : (a b : Bool) → (a && b) ≡ (b && a)
+and_other true true = refl
+and_other true false = refl
+and_other false true = refl
+and_other false false = refl
+
+-- of what an audit finds, that of a key
+pub audited_of : (margin : ℕ) (lines : List Line) (keys : List (Option ℕ)) (q : Option ℕ) → length keys ≡ length lines
+    → at_key keys q (audited margin lines keys) ≡ to_tell margin None lines keys q
+audited_of margin lines keys q as_many =
+    let all = faults_by_key (with_times lines) keys (opts_of margin) in
+    let its = λ (found : Found). same_key (key_at keys found.line) q in
+    let wanted = λ (found : Found). is_watched found.fault in
+    let place = placed_found (places_of keys q) in
+    let mine = lines_of_one lines keys q in
+    filter_both its wanted all
+    ∙ (filter_agree (λ found. wanted found && its found) (λ found. its found && wanted found) (λ found. and_other (wanted found) (its found)) all
+    ∙ (sym (filter_both wanted its all)
+    ∙ (ap (filter wanted) (kept_of_key (with_times lines) keys (opts_of margin) q as_many)
+    ∙ (filter_mapped wanted place (faults_of (watched margin mine)) ∙ ap (map place) (all_due margin mine)))))
+
+-- of each key is told then what there is to tell up to a moment, or in all
+pub told_of_each : (lines : List Line) (keys : List (Option ℕ)) → length keys ≡ length lines → (parts : List KeyPart) → names_of parts ≡ keys_of keys → All (HasSeenOne lines keys) parts
+    → (margin : ℕ) (to : Option ℕ) (entries : List SettledKey) (told : List Found) → AreTold to lines keys parts entries
+    → All (λ (part : KeyPart). HasEntry entries part.key ⊎ HasNothingToTell to lines keys part) parts → All (λ (part : KeyPart). part.watch.margin ≡ margin) parts
+    → All (λ (part : KeyPart). IfSome to (λ last. part.watch.from ≤ last)) parts
+    → All (HasToldOne lines keys told) parts → All (λ (found : Found). found.line < length lines) told
+    → (q : Option ℕ) → IsPermutation (at_key keys q (told ++ told_by_all entries)) (to_tell margin to lines keys q)
+told_of_each lines keys as_many parts named each margin to entries told tell rest same after has came = of_one
+  where
+    some_part : (ps : List KeyPart) (i : ℕ) → i < length ps → KeyPart
+    some_part [] i lt = absurd (omega (arith, lt))
+    some_part (part ∷ ps) i lt = part
+
+    of_none : (q : Option ℕ) (ps : List KeyPart) → ps ≡ parts → ((i : ℕ) → i < length (names_of ps) → key_at (names_of ps) i ≢ q)
+        → IsPermutation (at_key keys q (told ++ told_by_all entries)) (to_tell margin to lines keys q)
+    of_none q ps is none =
+        let here : (i : ℕ) → i < length (keys_of keys) → key_at (keys_of keys) i ≢ q =
+        subst (λ (ns : List (Option ℕ)). (i : ℕ) → i < length ns → key_at ns i ≢ q) (ap names_of is ∙ named) none in
+        let empty = has_none keys (length keys) q here in
+        let mine = lines_of_one lines keys q in
+        let size = length-map (places_of keys q) (line_at lines) in
+        let found = told_of margin (is_due 0 0 0 to) mine in
+        let nothing : found ≡ [] = none_of_none (length mine) found (size ∙ empty) (told_there margin (is_due 0 0 0 to) mine) in
+        let quiet : at_key keys q (told ++ told_by_all entries) ≡ [] =
+        none_pass (λ (found : Found). same_key (key_at keys found.line) q) (told ++ told_by_all entries) (λ k e lt.
+        let one = get_or (told ++ told_by_all entries) k e in
+        let there = told_came lines keys as_many parts named each to entries tell told came k e lt in
+        let key = has_key keys (length keys) one.line (omega (arith, there, as_many)) in
+        apart (key_at keys one.line) q (λ is. here key.0 key.1 (key.2 ∙ is))) in
+        subst (λ l. IsPermutation l (to_tell margin to lines keys q)) (sym quiet)
+        (subst (λ l. IsPermutation [] (map (placed_found (places_of keys q)) l)) (sym nothing) (IsPermutation-refl []))
+
+    of_one : (q : Option ℕ) → IsPermutation (at_key keys q (told ++ told_by_all entries)) (to_tell margin to lines keys q)
+    of_one q = elim (is_there (names_of parts) q) [
+      | inl (i, lt, is) ↦
+          let inside : i < length parts = (let size = length-map parts key_is in omega (arith, lt, size)) in
+          let d = some_part parts i inside in
+          let key : (get_or parts i d).key ≡ q = sym (get_or-map key_is parts i d None inside) ∙ is in
+          subst (λ m. IsPermutation (at_key keys q (told ++ told_by_all entries)) (to_tell m to lines keys q)) (same i d inside)
+          (subst (λ k. IsPermutation (at_key keys k (told ++ told_by_all entries)) (to_tell (get_or parts i d).watch.margin to lines keys k)) key
+          (told_to lines keys as_many parts named each to entries tell told i d inside (has i d inside) (rest i d inside) (after i d inside)))
+      | inr none ↦ of_none q parts refl none
+    ]
+
+pub told_for_good : (lines : List Line) (keys : List (Option ℕ)) → length keys ≡ length lines → (parts : List KeyPart) → names_of parts ≡ keys_of keys → All (HasSeenOne lines keys) parts
+    → (margin : ℕ) (entries : List SettledKey) (told : List Found) → AreTold None lines keys parts entries
+    → All (λ (part : KeyPart). HasEntry entries part.key ⊎ HasNothingToTell None lines keys part) parts → All (λ (part : KeyPart). part.watch.margin ≡ margin) parts
+    → All (HasToldOne lines keys told) parts → All (λ (found : Found). found.line < length lines) told
+    → IsPermutation (told ++ told_by_all entries) (audited margin lines keys)
+told_for_good lines keys as_many parts named each margin entries told tell rest same has came =
+    permuted_by_key (λ (found : Found). key_at keys found.line) (length (told ++ told_by_all entries)) (told ++ told_by_all entries) (audited margin lines keys) (omega arith) (λ q.
+    subst (IsPermutation (at_key keys q (told ++ told_by_all entries))) (sym (audited_of margin lines keys q as_many))
+    (told_of_each lines keys as_many parts named each margin None entries told tell rest same (λ i d lt. tt) has came q))
+
+-- ---- with one more line
+
+module _ (lines : List Line) (keys : List (Option ℕ)) (as_many : length keys ≡ length lines) (line : Line) (key : Option ℕ) (told : List Found)
+    (came : All (λ (found : Found). found.line < length lines) told) where
+  abbrev more : List Line
+  more = lines ++ line ∷ []
+
+  abbrev names : List (Option ℕ)
+  names = keys ++ key ∷ []
+
+  pub came_still : All (λ (found : Found). found.line < length more) told
+  came_still k d lt = let there = came k d lt in let size = length-append lines (line ∷ []) in omega (arith, there, size)
+
+  -- what was told of a key was told of it
+  at_still : (q : Option ℕ) → at_key names q told ≡ at_key keys q told
+  at_still q = by told came
+    where
+      by : (found : List Found) → All (λ (one : Found). one.line < length lines) found → at_key names q found ≡ at_key keys q found
+      by [] all = refl
+      by (one ∷ found) all =
+          let there = All-head (λ (one : Found). one.line < length lines) one found all in
+          ap (λ k. cond (same_key k q) (one ∷ at_key names q found) (at_key names q found)) (get_or_append_left keys (key ∷ []) None one.line (omega (arith, there, as_many)))
+          ∙ ap (λ (l : List Found). cond (same_key (key_at keys one.line) q) (one ∷ l) l) (by found (All-tail (λ (one : Found). one.line < length lines) one found all))
+
+  -- the lines of a key are as they were, or there is one more
+  record IsMoreOf (q : Option ℕ) (mine : List Line) (places : List ℕ) : Type 0 where
+    later : List Line
+    beyond : List ℕ
+    lines_are : mine ≡ lines_of_one lines keys q ++ later
+    places_are : places ≡ places_of keys q ++ beyond
+    only : All (λ (one : Line). one ≡ line) later
+
+  of_each : (q : Option ℕ) → IsMoreOf q (lines_of_one more names q) (places_of names q)
+  of_each q = by (same_key key q) refl
+    where
+      by : (b : Bool) → same_key key q ≡ b → IsMoreOf q (lines_of_one more names q) (places_of names q)
+      by true same = subst (λ k. IsMoreOf k (lines_of_one more names k) (places_of names k)) (same_is key q same) (record {
+        later = line ∷ [];
+        beyond = cond (same_key key key) (length keys ∷ []) [];
+        lines_are = its_lines lines keys as_many line key;
+        places_are = places_more keys key key;
+        only = All-cons (λ (one : Line). one ≡ line) line [] refl (All-nil (λ (one : Line). one ≡ line));
+      })
+      by false other = record {
+        later = [];
+        beyond = [];
+        lines_are = ap (lines_in more) (other_places lines keys as_many line key q other)
+            ∙ (in_more lines line (places_of keys q) (λ i lt. let is = (of_key keys q (places_of keys q) refl i lt).0 in omega (arith, is, as_many))
+            ∙ sym (append-nil (lines_of_one lines keys q)));
+        places_are = other_places lines keys as_many line key q other ∙ sym (append-nil (places_of keys q));
+        only = All-nil (λ (one : Line). one ≡ line);
+      }
+
+  -- what there was to tell of a key up to a moment is the same, if the line did not begin before
+  to_tell_still : (q : Option ℕ) (margin from : ℕ) → from ≤ began line → to_tell margin (Some from) more names q ≡ to_tell margin (Some from) lines keys q
+  to_tell_still q margin from late =
+      let it = of_each q in
+      let mine = lines_of_one lines keys q in
+      let test = is_due 0 0 0 (Some from) in
+      let found = told_of margin test mine in
+      let size = length-map (places_of keys q) (line_at lines) in
+      let later : (j : ℕ) → j < length it.later → from ≤ began (line_at it.later j) = λ j lt. subst (λ (one : Line). from ≤ began one) (sym (it.only j nobody lt)) late in
+      ap (λ (ls : List Line). map (placed_found (places_of names q)) (told_of margin test ls)) it.lines_are
+      ∙ (ap (map (placed_found (places_of names q))) (told_stays margin from mine it.later later test (λ number one is. due_before number one is))
+      ∙ (ap (λ (ps : List ℕ). map (placed_found ps) found) it.places_are
+      ∙ maps_same (placed_found (places_of keys q ++ it.beyond)) (placed_found (places_of keys q)) found (λ k d lt.
+      let there = told_there margin test mine k d lt in
+      let one = get_or found k d in
+      ap (λ (place : ℕ). let found : Found = record { line = place; fault = one.fault } in found)
+      (get_or_append_left (places_of keys q) it.beyond 0 one.line (omega (arith, there, size))))))
+    where
+      due_before : (number : ℕ) (one : Line) → is_due 0 0 0 (Some from) number one ≡ true → began one < from
+      due_before number one is = grind (arith, nat_tests)
+
+  told_still : (q : Option ℕ) (margin from since : ℕ) → from ≤ began line
+      → IsPermutation (at_key keys q told) (to_tell margin (Some from) lines keys q)
+      → ((j : ℕ) → since ≤ j → j < length (lines_of_one lines keys q) → from ≤ began (line_at (lines_of_one lines keys q) j))
+      → IsPermutation (at_key names q told) (to_tell margin (Some from) more names q)
+      × ((j : ℕ) → since ≤ j → j < length (lines_of_one more names q) → from ≤ began (line_at (lines_of_one more names q) j))
+  told_still q margin from since late once timely =
+      let it = of_each q in
+      let mine = lines_of_one lines keys q in (
+        subst (λ l. IsPermutation l (to_tell margin (Some from) more names q)) (sym (at_still q))
+            (subst (IsPermutation (at_key keys q told)) (sym (to_tell_still q margin from late)) once),
+        subst (λ (ls : List Line). (j : ℕ) → since ≤ j → j < length ls → from ≤ began (line_at ls j)) (sym it.lines_are) (λ j ge lt. elim (cases_lt j (length mine)) [
+          | inl old ↦ subst (λ (one : Line). from ≤ began one) (sym (get_or_append_left mine it.later nobody j old)) (timely j ge old)
+          | inr past ↦ subst (λ (one : Line). from ≤ began one) (sym (last mine it.later it.only j past lt)) late
+        ]),
+      )
+    where
+      last : (mine later : List Line) → All (λ (one : Line). one ≡ line) later → (j : ℕ) → length mine ≤ j → j < length (mine ++ later) → line_at (mine ++ later) j ≡ line
+      last [] later only j ge lt = only j nobody lt
+      last (one ∷ mine) later only zero ge lt = absurd (omega (arith, ge))
+      last (one ∷ mine) later only (suc j) ge lt = last mine later only j (omega (arith, ge)) (omega (arith, lt))
+
+  -- each key
+  pub pushed_on : (old new : List KeyPart) → names_of old ≡ keys_of keys → All (HasSeenOne lines keys) old → names_of new ≡ keys_of names → HaveStayed old new
+      → (from margin : ℕ) → from ≤ began line → All (λ (part : KeyPart). (part.watch.margin ≡ margin) × (part.watch.from ≤ from)) old
+      → All (λ (part : KeyPart). part.watch.margin ≡ margin) new → length old ≤ length new
+      → All (HasToldOne lines keys told) old → All (HasToldOne more names told) new
+  pushed_on old new named each renamed stays from margin late low same longer has i d lt = by (stays i d lt)
+    where
+      by : ((i < length old) × HasStayed (get_or old i d) (get_or new i d)) ⊎ ((length old ≤ i) × ((get_or new i d).watch.from ≡ 0)) → HasToldOne more names told (get_or new i d)
+      by (inl (inside, stay)) =
+          let bound = (low i d inside).1 in
+          let margins : (get_or old i d).watch.margin ≡ (get_or new i d).watch.margin = (low i d inside).0 ∙ sym (same i d lt) in
+          let had = has i d inside in
+          let it = told_still (get_or old i d).key (get_or old i d).watch.margin (get_or old i d).watch.from (get_or old i d).watch.settled (omega (arith, bound, late)) had.once had.in_time in
+          let one = subst (λ q. IsPermutation (at_key names q told) (to_tell (get_or old i d).watch.margin (Some (get_or old i d).watch.from) more names q)) (sym stay.key) it.0 in
+          let two = subst (λ m. IsPermutation (at_key names (get_or new i d).key told) (to_tell m (Some (get_or old i d).watch.from) more names (get_or new i d).key)) margins one in
+          record {
+            once = subst (λ f. IsPermutation (at_key names (get_or new i d).key told) (to_tell (get_or new i d).watch.margin (Some f) more names (get_or new i d).key)) (sym stay.from) two;
+            in_time = subst (λ q. (j : ℕ) → (get_or new i d).watch.settled ≤ j → j < length (lines_of_one more names q) → (get_or new i d).watch.from ≤ began (line_at (lines_of_one more names q) j)) (sym stay.key)
+                (subst (λ f. (j : ℕ) → (get_or new i d).watch.settled ≤ j → j < length (lines_of_one more names (get_or old i d).key) → f ≤ began (line_at (lines_of_one more names (get_or old i d).key) j)) (sym stay.from)
+                (subst (λ s. (j : ℕ) → s ≤ j → j < length (lines_of_one more names (get_or old i d).key) → (get_or old i d).watch.from ≤ began (line_at (lines_of_one more names (get_or old i d).key) j)) (sym stay.settled) it.1));
+          }
+      by (inr (ge, first)) =
+          let q = (get_or new i d).key in
+          let none : at_key names q told ≡ [] = at_still q ∙ nobody_tells lines keys as_many old named each q d told (λ j less is.
+          let on = stays j d (omega (arith, less, longer)) in
+          let stay = stayed j less on in
+          let alike : (get_or new j d).key ≡ q = stay ∙ is in
+          let at : j ≡ i = once_named j less alike in
+          omega (arith, at, less, ge)) came in
+          let nothing : to_tell (get_or new i d).watch.margin (Some (get_or new i d).watch.from) more names q ≡ [] =
+          ap (λ f. to_tell (get_or new i d).watch.margin (Some f) more names q) first ∙ ap (map (placed_found (places_of names q))) (none_yet (get_or new i d).watch.margin (lines_of_one more names q)) in
+          record {
+            once = subst (λ l. IsPermutation l (to_tell (get_or new i d).watch.margin (Some (get_or new i d).watch.from) more names q)) (sym none)
+                (subst (IsPermutation []) (sym nothing) (IsPermutation-refl []));
+            in_time = λ j from_on less. omega (arith, first);
+          }
+        where
+          stayed : (j : ℕ) → j < length old → ((j < length old) × HasStayed (get_or old j d) (get_or new j d)) ⊎ ((length old ≤ j) × ((get_or new j d).watch.from ≡ 0))
+              → (get_or new j d).key ≡ (get_or old j d).key
+          stayed j less (inl (inside, stay)) = stay.key
+          stayed j less (inr (past, zero_from)) = absurd (omega (arith, less, past))
+
+          once_named : (j : ℕ) → j < length old → (get_or new j d).key ≡ (get_or new i d).key → j ≡ i
+          once_named j less is =
+              let size = ap length (sym renamed) ∙ length-map new key_is in
+              let at = λ (m : ℕ) (inside : m < length new). ap (λ ks. key_at ks m) (sym renamed) ∙ get_or-map key_is new m d None inside in
+              let lj : j < length new = omega (arith, less, longer) in
+              each_once names (length names) j i (omega (arith, size, lj)) (omega (arith, size, lt)) (at j lj ∙ (is ∙ sym (at i lt)))
+
+pub push_on : (old new : KeyWatch) (lines : List Line) (keys : List (Option ℕ)) (told : List Found) (line : Line) (key : Option ℕ) → HasSeenByKey old lines keys
+    → HasSeenByKey new (lines ++ line ∷ []) (keys ++ key ∷ []) → HaveStayed old.parts.items new.parts.items → new.margin ≡ old.margin → new.from ≡ old.from
+    → HasTold old lines keys told → old.from ≤ began line → HasTold new (lines ++ line ∷ []) (keys ++ key ∷ []) told
+push_on old new lines keys told line key seen now stays margin from has late =
+    let one = ap length seen.names in
+    let two = ap length now.names in
+    let more = ap length (names_more keys key) in
+    let sum = length-append (keys_of keys) (cond (length (places_of keys key) == 0) (key ∷ []) []) in
+    let were = length-map old.parts.items key_is in
+    let are = length-map new.parts.items key_is in
+    record {
+      each = pushed_on lines keys seen.as_many line key told has.came old.parts.items new.parts.items seen.names seen.each now.names stays old.from old.margin late
+          (λ i d lt. let is = old.alike i d lt in (is.its_margin, is.its_from)) (λ i d lt. (new.alike i d lt).its_margin ∙ margin) (omega arith) has.each;
+      came = came_still lines keys seen.as_many line key told has.came;
+      all = λ q.
+          subst (λ l. IsPermutation l (to_tell new.margin (Some new.from) (lines ++ line ∷ []) (keys ++ key ∷ []) q)) (sym (at_still lines keys seen.as_many line key told has.came q))
+          (subst (λ m. IsPermutation (at_key keys q told) (to_tell m (Some new.from) (lines ++ line ∷ []) (keys ++ key ∷ []) q)) (sym margin)
+          (subst (λ f. IsPermutation (at_key keys q told) (to_tell old.margin (Some f) (lines ++ line ∷ []) (keys ++ key ∷ []) q)) (sym from)
+          (subst (IsPermutation (at_key keys q told)) (sym (to_tell_still lines keys seen.as_many line key told has.came q old.margin old.from late)) (has.all q))));
+    }
+
+-- ---- what has been told in all is what an audit finds up to where all have settled
+
+filters_swap : (p q : Found → Bool) (xs : List Found) → filter p (filter q xs) ≡ filter q (filter p xs)
+filters_swap p q xs = filter_both p q xs ∙ (filter_agree (λ x. q x && p x) (λ x. p x && q x) (λ x. and_other (q x) (p x)) xs ∙ sym (filter_both q p xs))
+
+filter_same : (p q : Found → Bool) (xs : List Found) → All (λ x. p x ≡ q x) xs → filter p xs ≡ filter q xs
+filter_same p q [] same = refl
+filter_same p q (x ∷ xs) same =
+    ap (λ b. cond b (x ∷ filter p xs) (filter p xs)) (All-head (λ x. p x ≡ q x) x xs same)
+    ∙ ap (λ (l : List Found). cond (q x) (x ∷ l) l) (filter_same p q xs (All-tail (λ x. p x ≡ q x) x xs same))
+
+-- of a key it is what there is to tell of it
+pub audited_to_of : (margin to : ℕ) (lines : List Line) (keys : List (Option ℕ)) (q : Option ℕ) → length keys ≡ length lines
+    → at_key keys q (audited_to margin to lines keys) ≡ to_tell margin (Some to) lines keys q
+audited_to_of margin to lines keys q as_many =
+    let its = λ (found : Found). same_key (key_at keys found.line) q in
+    let before = λ (found : Found). begins_before (Some to) (line_at lines found.line) in
+    let places = places_of keys q in
+    let mine = lines_of_one lines keys q in
+    let place = placed_found places in
+    let found = told_of margin (is_due 0 0 0 None) mine in
+    let size = length-map places (line_at lines) in
+    filters_swap its before (audited margin lines keys)
+    ∙ (ap (filter before) (audited_of margin lines keys q as_many)
+    ∙ (filter_mapped before place found
+    ∙ (ap (map place) (filter_same (λ (one : Found). before (place one)) (λ (one : Found). begins_before (Some to) (line_at mine one.line)) found (λ k d lt.
+    let there = told_there margin (is_due 0 0 0 None) mine k d lt in
+    ap (begins_before (Some to)) (sym (at_part lines places (get_or found k d).line (omega (arith, there, size))))))
+    ∙ ap (map place) (sym (told_before margin 0 0 0 to None mine tt)))))
+
+at_lines : (log : Lines) (keys : List (Option ℕ)) (opts : AuditOpts) (n : ℕ) → All (λ (found : Found). found.line < n) (faults_below_by_key log keys opts n)
+at_lines log keys opts zero = All-nil (λ (found : Found). found.line < 0)
+at_lines log keys opts (suc n) =
+    All-append (λ (found : Found). found.line < suc n) (faults_below_by_key log keys opts n) (faults_at_by_key log keys opts n)
+    (All-weaker (λ (found : Found). found.line < n) (λ (found : Found). found.line < suc n) (λ found lt. omega (arith, lt)) (faults_below_by_key log keys opts n) (at_lines log keys opts n))
+    (All-map (λ (found : Found). found.line < suc n) (placed_at n) (faults_at (case_of_key log keys opts (key_at keys n)) (place_among keys n)) (λ k d lt. omega arith))
+
+pub audited_there : (margin to : ℕ) (lines : List Line) (keys : List (Option ℕ)) → All (λ (found : Found). found.line < length lines) (audited_to margin to lines keys)
+audited_there margin to lines keys =
+    let is = λ (found : Found). found.line < length lines in
+    let all = faults_by_key (with_times lines) keys (opts_of margin) in
+    All-filter (λ (found : Found). begins_before (Some to) (line_at lines found.line)) is (audited margin lines keys)
+    (All-filter (λ (found : Found). is_watched found.fault) is all (at_lines (with_times lines) keys (opts_of margin) (length lines)))
+
+-- all that was told, each once
+pub told_is : (watch : KeyWatch) (lines : List Line) (keys : List (Option ℕ)) (told : List Found) → HasSeenByKey watch lines keys → HasTold watch lines keys told
+    → IsPermutation told (audited_to watch.margin watch.from lines keys)
+told_is watch lines keys told seen has =
+    permuted_by_key (λ (found : Found). key_at keys found.line) (length told) told (audited_to watch.margin watch.from lines keys) (omega arith) (λ q.
+    subst (IsPermutation (at_key keys q told)) (sym (audited_to_of watch.margin watch.from lines keys q seen.as_many)) (has.all q))
+
+-- and so it may as well be said to have been told that
+pub told_so : (watch : KeyWatch) (lines : List Line) (keys : List (Option ℕ)) (told : List Found) → HasSeenByKey watch lines keys → HasTold watch lines keys told
+    → HasTold watch lines keys (audited_to watch.margin watch.from lines keys)
+told_so watch lines keys told seen has =
+    let all = audited_to watch.margin watch.from lines keys in
+    let its = λ (q : Option ℕ). audited_to_of watch.margin watch.from lines keys q seen.as_many in
+    record {
+      each = λ i d lt.
+          let part = get_or watch.parts.items i d in
+          let had = has.each i d lt in
+          let mine = to_tell watch.margin (Some watch.from) lines keys part.key in
+          record {
+            once = IsPermutation-trans (at_key keys part.key all) (at_key keys part.key told) (to_tell part.watch.margin (Some part.watch.from) lines keys part.key)
+                (subst (λ l. IsPermutation l (at_key keys part.key told)) (sym (its part.key)) (IsPermutation-sym (at_key keys part.key told) mine (has.all part.key)))
+                had.once;
+            in_time = had.in_time;
+          };
+      came = audited_there watch.margin watch.from lines keys;
+      all = λ q. subst (λ l. IsPermutation l (to_tell watch.margin (Some watch.from) lines keys q)) (sym (its q)) (IsPermutation-refl (to_tell watch.margin (Some watch.from) lines keys q));
+    }

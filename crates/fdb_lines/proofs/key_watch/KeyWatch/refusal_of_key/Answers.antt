@@ -1,0 +1,41 @@
+use Rattle.std.proofs.Common.{◌≡◌, ◌<◌, ◌∙◌, None, Option, Some, ap, arith, inl, inr, length, refl, sym, ℕ}
+use Rattle.std.proofs.lemmas.Grind.{common_steps}
+use Rattle.std.proofs.lemmas.List.{get_or-map, length-map}
+use Rattle.std.specs.BTreeMap.{get}
+use Rattle.std.specs.Ordering.{nat_cmp}
+use Rattle.fdb_lines.specs.declared.key_part.KeyPart.{KeyPart}
+use Rattle.fdb_lines.specs.declared.key_watch.KeyWatch.{KeyWatch}
+use Rattle.fdb_lines.specs.KeyParts.{names_of}
+use Rattle.fdb_lines.specs.Keys.{key_at}
+use Rattle.fdb_lines.specs.Log.{lines_of, no_lines}
+use Rattle.fdb_lines.specs.private.Keys.{number_of}
+use Rattle.fdb_lines.proofs.key_watch.KeyWatch.refusal_of_key.Goals as goal
+
+-- a key that has a number has a part
+part_there : (watch : KeyWatch) (key : Option ℕ) (place : ℕ) → get nat_cmp watch.numbers (number_of key) ≡ Some place
+    → (place < length watch.parts.items) × (key_at (names_of watch.parts.items) place ≡ key)
+part_there watch key place is =
+    let there = watch.numbered.there key place is in
+    let size = length-map watch.parts.items (λ (part : KeyPart). part.key) in
+    (let lt = there.0 in omega arith, there.1)
+
+pub index-requires : goal.index-requires
+index-requires c =
+    let its = part_there c.args.self.now c.args.key c.in-Some.place.now (grind (arith, common_steps, c.in-Some.ensures.value, c.number_of.ensures)) in
+    let lt = its.0 in omega (arith, lt, c.args.self.now.parts.ok.0)
+
+pub returns-in-Some : goal.returns-in-Some
+returns-in-Some c =
+    let watch = c.args.self.now in
+    let place = c.in-Some.place.now in
+    let its = part_there watch c.args.key place (grind (arith, common_steps, c.in-Some.ensures.value, c.number_of.ensures)) in
+    let part = c.index.result.now in
+    let key_is = λ (part : KeyPart). part.key in (
+      lines_of part.watch.log,
+      inl (part, (place, its.0, sym c.index.ensures), ap key_is c.index.ensures ∙ (sym (get_or-map key_is watch.parts.items place part None its.0) ∙ its.1), refl),
+      c.refusal.ensures,
+    )
+
+pub returns-in-None : goal.returns-in-None
+returns-in-None c =
+    (no_lines, inr (c.args.self.now.numbered.absent c.args.key (grind (arith, common_steps, c.in-None.ensures.value, c.number_of.ensures)), refl), c.refusal_alone.ensures)
