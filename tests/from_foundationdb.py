@@ -13,7 +13,7 @@ from harness import EXAMPLES, OTHER_ARGUMENTS, ROOT, read, run
 TOOL = f"{ROOT}/tools/from_foundationdb"
 # The seconds after which what does not come is taken as lost; and the lines of a large file, and in
 # how few pieces at most they come.
-BOUND, LARGE, PIECES = 60, 20_000, 1_000
+BOUND, LARGE, PIECES = 300, 20_000, 1_000
 # Python may be told to hold nothing back, which would hide what the tool does.
 BUFFERED = {name: it for name, it in os.environ.items() if name != "PYTHONUNBUFFERED"}
 

@@ -9,8 +9,8 @@ from typing import NamedTuple
 from answers import do
 from audit_logs import PROGRAM as AUDIT
 from audit_logs import example_cases, large_log, learnt_log
-from harness import ARGUMENTS_REFUSED, EXAMPLES, NOT_ENDED, OUT_OF_MEMORY, READING_FAILED, ROOT, Ran
-from harness import done, fault_of, first_output, first_script, read, run, written
+from harness import ARGUMENTS_REFUSED, EXAMPLES, NOT_ENDED, OUT_OF_MEMORY, READING_FAILED, ROOT
+from harness import TRIES, Ran, done, fault_of, first_output, first_script, read, run, written
 from harness import refused as refused_script
 from judge import Lawful
 from model import expected
@@ -66,7 +66,7 @@ BEARING = {
 WITHOUT = r"::without_memory$"
 PASSED = done(b"\ntest result: ok\n")
 # What a test prints where one request alone was refused memory in its offer and all others had
-# their replies. How many such requests there have to be over a sweep: the queue grows twice.
+# their replies. How many such requests there have to be over the sweeps: the queue grows twice.
 ALONE = re.compile(rb"request (\d+) alone was refused memory\n")
 OFTEN = {"refused_memory::a_proxy_bears_it": 2}
 # The library in use, and how it ends where it is refused what it can't do without.
@@ -193,7 +193,10 @@ def used(_program):
 
     with tempfile.TemporaryDirectory(prefix="refuse-") as folder:
         preloaded, threads, failed = built(folder), 0, 0
-        for goes_on in (False, True):
+        for at, goes_on in enumerate((False, True) * TRIES):
+            # (once in each way; again where too few threads were met, as their order changes)
+            if at > 1 and threads > 1 and failed > 1:
+                break
             for it in swept([USES], preloaded, b"", FAILED, ended, goes_on, each, needed=()):
                 threads += it.what == THREAD
                 failed += it.what == THREAD and statuses[-1] == FAILED.status
@@ -268,13 +271,26 @@ def borne(_program):
             yield f"{crate}'s tests", None if names else f"none matches {pattern!r}"
             for name in names:
                 alone = set()
-                for goes_on in (False, True) if re.search(WITHOUT, name) else (False,):
+                for goes_on in sweeps_of(name, alone):
                     what = f"{name}, {'from ' if goes_on else ''}allocation or thread"
                     words = ([tests, name], preloaded, b"", PASSED, passed(alone), goes_on, each)
                     for it in swept(*words):
                         yield f"{what} {it.number}", it.fault
                 fault = f"only of {sorted(alone)}" if len(alone) < OFTEN.get(name, 0) else None
                 yield f"{name}, requests that alone are refused memory", fault
+
+
+def sweeps_of(name, alone):
+    """Whether all is refused from one on, in each sweep of a test.
+
+    Threads do not allocate in the same order in each run, so that one sweep may miss requests.
+    """
+    yield False
+    if re.search(WITHOUT, name):
+        yield True
+    for _ in range(TRIES):
+        if len(alone) < OFTEN.get(name, 0):
+            yield False
 
 
 def passed(alone):

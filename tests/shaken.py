@@ -1,4 +1,5 @@
 """Scripts whose clients race, while their threads yield and sleep at random places."""
+import itertools
 import json
 import os
 import random
@@ -13,10 +14,11 @@ from races import WORKED, commit
 
 SOURCE = f"{ROOT}/tests/shake.c"
 RANDOM, AGAIN = 150, 8
-# A race of few calls, how often it is run on one core, and how many texts there have to be.
+# A race of few calls, how often it is run on one core, and how many texts there have to be, which
+# may take some more runs.
 CALLS = lambda who: (*commit(who, 1), do("grv", who), *commit(who, 2))
 SMALL = [[it for who in range(3) for it in CALLS(who)]]
-SMALL_RUNS, TEXTS = 40, 6
+SMALL_RUNS, TEXTS, MOST_RUNS = 40, 6, 400
 
 
 def ran_shaken(program, preloaded, given, proxies, seed, cores=None):
@@ -58,9 +60,10 @@ def cases():
 def often(program, preloaded):
     """One core gives many texts of a race, so that the threads are held up indeed."""
     given, texts = written(SMALL, clients=3), set()
-    for seed in range(SMALL_RUNS):
+    is_wanted = lambda seed: seed < SMALL_RUNS or len(texts) < TEXTS
+    for seed in itertools.takewhile(is_wanted, range(MOST_RUNS)):
         ran = ran_shaken(program, preloaded, given, 1, seed, one_core())
         texts.add(ran.out)
         yield f"a small race on one core, seed {seed}", Lawful(given).fault_of(ran)
-    few = f"only {len(texts)} of {SMALL_RUNS} runs" if len(texts) < TEXTS else None
+    few = f"only {len(texts)} of {MOST_RUNS} runs" if len(texts) < TEXTS else None
     yield "different texts of a small race on one core", few

@@ -7,7 +7,7 @@ import random
 import tempfile
 
 from audit_logs import PROGRAM
-from harness import spent
+from harness import processor_time, spent
 
 LINES = 100_000
 # How many times the time and the memory of an ordinary log, and seconds that are never too many.
@@ -125,23 +125,22 @@ def shapes():
     yield "deep learning", ["--history"], list(told((at % 2, 1 - at % 2) for at in places))
 
 
-def audited(arguments, lines, folder):
-    """What an audit of these lines takes."""
+def audited(arguments, lines, folder, most=0):
+    """What an audit of these lines takes, and processor time: the least of a few audits, or of
+    those up to one that takes at most so much."""
     log = f"{folder}/log"
     with open(log, "w", encoding="utf-8") as file:
         file.write(text_of_lines(lines))
-    return spent([PROGRAM, *arguments, log], 10, 2**30)
+    return processor_time(lambda: spent([PROGRAM, *arguments, log], 10, 2**30), most)
 
 
 def no_shape_is_slow(_program):
     """Each takes at most a few times the time and the memory of an ordinary log of its size."""
     with tempfile.TemporaryDirectory() as folder:
-        usual = list(overlapping(random.Random(1)))
-        runs = [audited([], usual, folder) for _ in range(3)]
-        seconds, memory = (max(getattr(it, of) for it in runs) for of in ("processor", "memory"))
+        usual, seconds = audited([], list(overlapping(random.Random(1))), folder)
+        most = max(MOST * seconds, FEW_SECONDS)
         for name, arguments, lines in shapes():
-            it = audited(arguments, lines, folder)
-            said = f"{it} beside {seconds:.2f} s and {memory} KiB of an ordinary log"
-            is_quick = it.processor <= max(MOST * seconds, FEW_SECONDS)
-            is_so = it.status in (0, 4) and is_quick and it.memory <= MOST * memory
+            it, took = audited(arguments, lines, folder, most)
+            said = f"{took:.2f} s, {it} beside {seconds:.2f} s and {usual} of an ordinary log"
+            is_so = it.status in (0, 4) and took <= most and it.memory <= MOST * usual.memory
             yield name, None if len(lines) == LINES and is_so else said

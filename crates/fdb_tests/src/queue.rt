@@ -59,13 +59,13 @@ impl Queue {
         match GrvQueue::with_throttles(self.alloc, config, &copies) {
             Ok(made) => {
                 self.queue = made;
+                self.tags = Vec::new(self.alloc);
                 line.say("ok");
             }
             Err(cause) => say_cause(line, cause, cause == QueueError::Memory),
         }
     }
 
-    /// Sets the throttles that were told, one after the other.
     fn set(&mut self, line: &mut TableLine<'_>) {
         let throttles = mem::replace(&mut self.throttles, Vec::new(self.alloc));
         for throttle in throttles {

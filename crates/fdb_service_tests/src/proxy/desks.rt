@@ -6,7 +6,7 @@ use crossbeam_channel::{Receiver, bounded, unbounded};
 use fdb_checks::TableLine;
 use fdb_history::{GrvOpts, Priority, Sequence, Tag};
 use fdb_live::{Live, Seen};
-use fdb_proxy::{Answer, Desk, ProxyError, Request, serve_batch};
+use fdb_proxy::{Addressed, Answer, Desk, ProxyError, Request, serve_batch};
 use fdb_queue::{GrvQueue, QueueConfig, Req};
 use std::alloc::{AllocError, Global};
 use std::mem;
@@ -210,9 +210,9 @@ fn serve_requests<J: Live, R: Wait>(
     match serve_batch(rt, line.alloc, live, served, queue, requests) {
         Ok(replies) => {
             line.holds(replies.len() == stand.waiters.len(), "replies");
-            for addressed in replies {
+            for Addressed { to, reply } in replies {
                 // one that does not come is not heard
-                let _ = addressed.to.send(rt, Answer::Reply(addressed.reply));
+                let _ = to.send(rt, Answer::Reply(reply));
             }
             say_answers(stand, line);
         }
