@@ -46,3 +46,4 @@ pub mod StillReasoned
 pub mod Permuted
 pub mod OnceTold
 pub mod GoneOn
+pub mod Renumbered

@@ -21,4 +21,5 @@ pub mod Watch
 pub mod KeyParts
 pub mod KeyWatch
 pub mod ToldByKey
+pub mod Renumbered
 pub mod private

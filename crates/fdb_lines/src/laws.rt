@@ -26,7 +26,8 @@ ghost use Rattle.fdb_lines.specs.Steps.{runs, fresh};
 ghost use Rattle.fdb_lines.specs.Faults.{stands, IsFaultless};
 ghost use Rattle.fdb_lines.specs.Order.{IsRanked, history};
 ghost use Rattle.fdb_lines.specs.Reasons.{HasReason};
-ghost use Rattle.fdb_lines.specs.ToldByKey.{audited_to, HasTold};
+ghost use Rattle.fdb_lines.specs.Renumbered.{AreSameButForNumbers};
+ghost use Rattle.fdb_lines.specs.ToldByKey.{audited, audited_to, HasTold};
 ghost use Rattle.fdb_lines.specs.Watching.{begins_before, is_due, is_watched, opts_of};
 ghost use Rattle.fdb_lines.specs.Watching.{told_of, watched};
 
@@ -193,4 +194,20 @@ pub fn who_goes_on_from_them_tells_the_rest()
         (lines_in lines places ++ more)))
         (filter (λ (found : Found). is_watched found.fault)
         (faults_of (watched margin (lines ++ more)))) }
+{}
+
+/// How clients and keys are numbered does not matter. Of two logs that are the same but for that, an
+/// audit finds the same faults at the same lines; so it does of those that a watch tells, of all lines
+/// or of those that began before a moment.
+pub fn how_clients_and_keys_are_numbered_does_not_matter()
+    ensures found { (lines others : List Line) (keys other_keys : List (Option ℕ)) (opts : AuditOpts)
+        → AreSameButForNumbers lines keys others other_keys
+        → faults_by_key (with_times lines) keys opts
+        ≡ faults_by_key (with_times others) other_keys opts }
+    ensures all { (lines others : List Line) (keys other_keys : List (Option ℕ)) (margin : ℕ)
+        → AreSameButForNumbers lines keys others other_keys
+        → audited margin lines keys ≡ audited margin others other_keys }
+    ensures up_to { (lines others : List Line) (keys other_keys : List (Option ℕ)) (margin to : ℕ)
+        → AreSameButForNumbers lines keys others other_keys
+        → audited_to margin to lines keys ≡ audited_to margin to others other_keys }
 {}
