@@ -47,3 +47,5 @@ pub mod Permuted
 pub mod OnceTold
 pub mod GoneOn
 pub mod Renumbered
+pub mod StandByKey
+pub mod GoneOnByKey

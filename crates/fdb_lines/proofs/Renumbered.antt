@@ -17,6 +17,7 @@ use Rattle.fdb_lines.specs.Keys.{faults_at_by_key, faults_below_by_key, faults_b
 use Rattle.fdb_lines.specs.Lines.{Case, client_at, draws, is_commit, is_read, is_report, kind_at, kind_of, line_at, lines_in, may_be_same_client, nobody, reports, shows, version_at, version_of}
 use Rattle.fdb_lines.specs.Listing.{faults_at, found_if}
 use Rattle.fdb_lines.specs.Renumbered.{AreSameButForNumbers}
+use Rattle.fdb_lines.specs.StandByKey.{audited_from}
 use Rattle.fdb_lines.specs.ToldByKey.{audited, audited_to}
 use Rattle.fdb_lines.specs.Watching.{begins_before, is_watched, opts_of}
 use Rattle.fdb_lines.proofs.Carried.{at_part, here}
@@ -142,7 +143,7 @@ module _ (lines others : List Line) (alike : AreAlike lines others) (opts : Audi
 
 -- ---- the lines of a key
 
-places_same : (keys others : List (Option ℕ)) (key other : Option ℕ) (n : ℕ) → ((j : ℕ) → j < n → same_key (key_at keys j) key ≡ same_key (key_at others j) other)
+pub places_same : (keys others : List (Option ℕ)) (key other : Option ℕ) (n : ℕ) → ((j : ℕ) → j < n → same_key (key_at keys j) key ≡ same_key (key_at others j) other)
     → places_below keys key n ≡ places_below others other n
 places_same keys others key other zero same = refl
 places_same keys others key other (suc n) same = λ i.
@@ -218,3 +219,9 @@ module _ (lines others : List Line) (keys other_keys : List (Option ℕ)) (same 
       filter_agree (λ (found : Found). begins_before (Some to) (line_at lines found.line)) (λ (found : Found). begins_before (Some to) (line_at others found.line))
       (λ found. ap (λ began. nat_lt began to) (begins_alike found.line)) (audited margin lines keys)
       ∙ ap (filter (λ (found : Found). begins_before (Some to) (line_at others found.line))) (audited_alike margin)
+
+  pub audited_from_alike : (margin from : ℕ) → audited_from margin from lines keys ≡ audited_from margin from others other_keys
+  audited_from_alike margin from =
+      filter_agree (λ (found : Found). not (begins_before (Some from) (line_at lines found.line))) (λ (found : Found). not (begins_before (Some from) (line_at others found.line)))
+      (λ found. ap (λ began. not (nat_lt began from)) (begins_alike found.line)) (audited margin lines keys)
+      ∙ ap (filter (λ (found : Found). not (begins_before (Some from) (line_at others found.line)))) (audited_alike margin)

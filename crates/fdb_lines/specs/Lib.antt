@@ -22,4 +22,5 @@ pub mod KeyParts
 pub mod KeyWatch
 pub mod ToldByKey
 pub mod Renumbered
+pub mod StandByKey
 pub mod private

@@ -27,6 +27,7 @@ ghost use Rattle.fdb_lines.specs.Faults.{stands, IsFaultless};
 ghost use Rattle.fdb_lines.specs.Order.{IsRanked, history};
 ghost use Rattle.fdb_lines.specs.Reasons.{HasReason};
 ghost use Rattle.fdb_lines.specs.Renumbered.{AreSameButForNumbers};
+ghost use Rattle.fdb_lines.specs.StandByKey.{StandForByKey, audited_from, keys_in};
 ghost use Rattle.fdb_lines.specs.ToldByKey.{audited, audited_to, HasTold};
 ghost use Rattle.fdb_lines.specs.Watching.{begins_before, is_due, is_watched, opts_of};
 ghost use Rattle.fdb_lines.specs.Watching.{told_of, watched};
@@ -197,8 +198,8 @@ pub fn who_goes_on_from_them_tells_the_rest()
 {}
 
 /// How clients and keys are numbered does not matter. Of two logs that are the same but for that, an
-/// audit finds the same faults at the same lines; so it does of those that a watch tells, of all lines
-/// or of those that began before a moment.
+/// audit finds the same faults at the same lines; so it does of those that a watch tells, of all lines,
+/// or of those that began before a moment, or from it on.
 pub fn how_clients_and_keys_are_numbered_does_not_matter()
     ensures found { (lines others : List Line) (keys other_keys : List (Option ℕ)) (opts : AuditOpts)
         → AreSameButForNumbers lines keys others other_keys
@@ -210,4 +211,33 @@ pub fn how_clients_and_keys_are_numbered_does_not_matter()
     ensures up_to { (lines others : List Line) (keys other_keys : List (Option ℕ)) (margin to : ℕ)
         → AreSameButForNumbers lines keys others other_keys
         → audited_to margin to lines keys ≡ audited_to margin to others other_keys }
+    ensures since { (lines others : List Line) (keys other_keys : List (Option ℕ)) (margin from : ℕ)
+        → AreSameButForNumbers lines keys others other_keys
+        → audited_from margin from lines keys ≡ audited_from margin from others other_keys }
+{}
+
+/// Lines that stand for all, each key by itself, do so for whoever goes on from them: of the lines
+/// that begin from a moment on an audit of them finds what an audit of all finds, each fault once;
+/// and they go on to stand for all with one line more. Where none that comes since began before the
+/// moment, what was found up to it, and what is found then by them and all that came since, however
+/// clients and keys are numbered there, are, together, what an audit of all lines finds.
+pub fn by_key_they_tell_the_rest_too()
+    ensures rest { (margin at from : ℕ) (lines : List Line) (keys : List (Option ℕ))
+        (places : List ℕ) → at ≤ from → StandForByKey margin at lines keys places
+        → IsPermutation (audited_from margin from lines keys) (map (placed_found places)
+        (audited_from margin from (lines_in lines places) (keys_in keys places))) }
+    ensures one_more { (margin at : ℕ) (lines : List Line) (keys : List (Option ℕ))
+        (places : List ℕ) (line : Line) (key : Option ℕ)
+        → StandForByKey margin at lines keys places → StandForByKey margin at
+        (lines ++ line ∷ []) (keys ++ key ∷ []) (places ++ length lines ∷ []) }
+    ensures all { (margin at from : ℕ) (lines more others : List Line)
+        (keys more_keys other_keys : List (Option ℕ)) (places : List ℕ)
+        → at ≤ from → StandForByKey margin at lines keys places → length more_keys ≡ length more
+        → ((j : ℕ) → j < length more → from ≤ began (line_at more j))
+        → AreSameButForNumbers (lines_in lines places ++ more)
+        (keys_in keys places ++ more_keys) others other_keys
+        → let beyond = places ++ range_with_len (length lines) (length more) in
+        IsPermutation (audited_to margin from lines keys
+        ++ map (placed_found beyond) (audited_from margin from others other_keys))
+        (audited margin (lines ++ more) (keys ++ more_keys)) }
 {}
