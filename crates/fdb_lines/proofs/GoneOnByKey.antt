@@ -6,7 +6,7 @@ use Rattle.std.proofs.lemmas.Bool.{cases_lt}
 use Rattle.std.proofs.lemmas.List.{ext_get_or, get_or-append-add, get_or_append_left, get_or_push, length_push, length-map, map-append}
 use Rattle.std.proofs.lemmas.List.Elements.{All-filter, All-from_get_or, All-nil, filter-append}
 use Rattle.std.proofs.lemmas.List.FromFn.{get_or-map-range_with_len, length-map-range_with_len}
-use Rattle.std.proofs.lemmas.List.Sorted.{IsPermutation-append, IsPermutation-refl, IsPermutation-sym, IsPermutation-trans}
+use Rattle.std.proofs.lemmas.List.Sorted.{IsPermutation-append, IsPermutation-append_left, IsPermutation-refl, IsPermutation-sym, IsPermutation-trans}
 use Rattle.fdb_lines.specs.declared.fault.Found.{Found}
 use Rattle.fdb_lines.specs.declared.line.Line.{Line}
 use Rattle.fdb_lines.specs.Before.{began}
@@ -26,6 +26,7 @@ use Rattle.fdb_lines.proofs.Permuted.{both_parts, permuted_by_key}
 use Rattle.fdb_lines.proofs.Renumbered.{audited_from_alike, places_same}
 use Rattle.fdb_lines.proofs.SeenByKey.{in_more, its_lines, other_places}
 use Rattle.fdb_lines.proofs.StandByKey.{one_if, told_by_key}
+use Rattle.fdb_lines.proofs.TakenAway.{the_rest}
 
 -- ---- with one line more
 
@@ -199,3 +200,17 @@ module _ (margin from : ℕ) (lines : List Line) (keys : List (Option ℕ)) (as_
       (IsPermutation-append was before (place (audited_from margin from others other_keys)) after (audited_to_on later)
       (subst (λ (found : List Found). IsPermutation (place found) after) renamed (IsPermutation-sym after (place (audited_from margin from (lines_in both beyond) (keys_in both_keys beyond))) told)))
       (both_parts (λ (found : Found). begins_before (Some from) (line_at both found.line)) (audited margin both both_keys))
+
+  -- what is told once what there was to tell up to a moment has been told is what stands at lines that began from then on
+  pub told_then : ((j : ℕ) → j < length more → from ≤ began (line_at more j)) → (told new : List Found) → IsPermutation told (audited_to margin from lines keys)
+      → IsPermutation (told ++ new) (audited margin both both_keys) → IsPermutation new (audited_from margin from both both_keys)
+  told_then later told new was all =
+      let before = audited_to margin from both both_keys in
+      let after = audited_from margin from both both_keys in
+      let every = audited margin both both_keys in
+      let old = IsPermutation-trans told (audited_to margin from lines keys) before was (audited_to_on later) in
+      the_rest told new after
+      (IsPermutation-trans (told ++ new) every (told ++ after) all
+      (IsPermutation-trans every (before ++ after) (told ++ after)
+      (IsPermutation-sym (before ++ after) every (both_parts (λ (found : Found). begins_before (Some from) (line_at both found.line)) every))
+      (IsPermutation-append_left after before told (IsPermutation-sym told before old))))

@@ -49,3 +49,6 @@ pub mod GoneOn
 pub mod Renumbered
 pub mod StandByKey
 pub mod GoneOnByKey
+pub mod Named
+pub mod TakenAway
+pub mod WatchStands

@@ -222,7 +222,7 @@ module _ (lines : List Line) (keys : List (Option ℕ)) (as_many : length keys �
   names_size : length (keys_of keys) ≡ length parts
   names_size = ap length (sym named) ∙ length-map parts key_is
 
-  same_part : (i j : ℕ) (d : KeyPart) → i < length parts → j < length parts → (get_or parts i d).key ≡ (get_or parts j d).key → i ≡ j
+  pub same_part : (i j : ℕ) (d : KeyPart) → i < length parts → j < length parts → (get_or parts i d).key ≡ (get_or parts j d).key → i ≡ j
   same_part i j d li lj same =
       let size = names_size in
       each_once keys (length keys) i j (omega (arith, size, li)) (omega (arith, size, lj)) (name_at i d li ∙ (same ∙ sym (name_at j d lj)))
@@ -344,7 +344,7 @@ settled_on lines keys as_many old new named each at margin entries told tell siz
 
 -- ---- for good
 
-is_there : (names : List (Option ℕ)) (q : Option ℕ) → HasKey names q ⊎ ((i : ℕ) → i < length names → key_at names i ≢ q)
+pub is_there : (names : List (Option ℕ)) (q : Option ℕ) → HasKey names q ⊎ ((i : ℕ) → i < length names → key_at names i ≢ q)
 is_there [] q = inr (λ i lt. absurd (omega (arith, lt)))
 is_there (name ∷ names) q = by (same_key name q) refl (is_there names q)
   where

@@ -170,7 +170,7 @@ part_alike lines others places alike within = record {
 
 module _ (lines others : List Line) (keys other_keys : List (Option ℕ)) (same : AreSameButForNumbers lines keys others other_keys) where
   alike : AreAlike lines others
-  alike = record { many = same.as_many; calls = same.calls; times = same.times; clients = same.clients }
+  alike = record { many = same.calls.as_many; calls = same.calls.calls; times = same.calls.times; clients = same.clients }
 
   -- the lines of a key stand at the same places
   places_alike : (k n : ℕ) → k < length lines → n ≤ length lines → places_below keys (key_at keys k) n ≡ places_below other_keys (key_at other_keys k) n
@@ -178,14 +178,14 @@ module _ (lines others : List Line) (keys other_keys : List (Option ℕ)) (same 
 
   all_places : (k : ℕ) → k < length lines → places_of keys (key_at keys k) ≡ places_of other_keys (key_at other_keys k)
   all_places k lk =
-      places_alike k (length keys) lk (let many = same.keyed in omega arith)
-      ∙ ap (places_below other_keys (key_at other_keys k)) (same.keyed ∙ (same.as_many ∙ sym same.others_keyed))
+      places_alike k (length keys) lk (let many = same.calls.keyed in omega arith)
+      ∙ ap (places_below other_keys (key_at other_keys k)) (same.calls.keyed ∙ (same.calls.as_many ∙ sym same.calls.others_keyed))
 
   line_alike : (opts : AuditOpts) (k : ℕ) → k < length lines
       → faults_at_by_key (with_times lines) keys opts k ≡ faults_at_by_key (with_times others) other_keys opts k
   line_alike opts k lk =
       let places = places_of keys (key_at keys k) in
-      let many = same.keyed in
+      let many = same.calls.keyed in
       let has = has_place keys (key_at keys k) (length keys) k (same_self (key_at keys k)) (omega arith) in
       let within : (i : ℕ) → i < length places → slice_index places i < length lines = λ i li.
       let there = (of_key keys (key_at keys k) places refl i li).0 in omega arith in
@@ -201,16 +201,16 @@ module _ (lines others : List Line) (keys other_keys : List (Option ℕ)) (same 
 
   pub found_alike : (opts : AuditOpts) → faults_by_key (with_times lines) keys opts ≡ faults_by_key (with_times others) other_keys opts
   found_alike opts =
-      below_alike opts (length lines) (omega arith) ∙ ap (faults_below_by_key (with_times others) other_keys opts) same.as_many
+      below_alike opts (length lines) (omega arith) ∙ ap (faults_below_by_key (with_times others) other_keys opts) same.calls.as_many
 
   pub audited_alike : (margin : ℕ) → audited margin lines keys ≡ audited margin others other_keys
   audited_alike margin = ap (filter (λ (found : Found). is_watched found.fault)) (found_alike (opts_of margin))
 
   begins_alike : (k : ℕ) → began (line_at lines k) ≡ began (line_at others k)
   begins_alike k = elim (cases_lt k (length lines)) [
-    | inl lt ↦ ap began_of (same.times k lt)
+    | inl lt ↦ ap began_of (same.calls.times k lt)
     | inr ge ↦
-        let many = same.as_many in
+        let many = same.calls.as_many in
         ap began (get_or_past lines k nobody ge ∙ sym (get_or_past others k nobody (omega arith)))
   ]
 
