@@ -19,7 +19,7 @@ use Rattle.fdb_lines.proofs.Watched.{filtered, told_of_all, told_stays}
 
 -- ---- the lines that were kept, and those that come since, stand for all
 
-numbers_on : (places : List ℕ) (lines more : List Line) (line : Line)
+pub numbers_on : (places : List ℕ) (lines more : List Line) (line : Line)
     → (places ++ length lines ∷ []) ++ range_with_len (length (lines ++ line ∷ [])) (length more) ≡ places ++ range_with_len (length lines) (length (line ∷ more))
 numbers_on places lines more line =
     append_assoc places (length lines ∷ []) (range_with_len (length (lines ++ line ∷ [])) (length more))
@@ -47,7 +47,7 @@ they_are margin at lines places (line ∷ more) stand =
 
 -- ---- what is told of lines that began from a moment on
 
-any_number : (from one other : ℕ) (line : Line) → is_due from from 0 None one line ≡ is_due from from other None one line
+pub any_number : (from one other : ℕ) (line : Line) → is_due from from 0 None one line ≡ is_due from from other None one line
 any_number from one other line = grind (arith, nat_tests)
 
 same_due : (from one other : ℕ) (line : Line) → is_due from from 0 None one line ≡ is_due from from 0 None other line
@@ -56,7 +56,7 @@ same_due from one other line = grind (arith, nat_tests)
 begins : (from at number : ℕ) (line : Line) → at ≤ from → is_due from from 0 None number line ≡ true → at ≤ began line
 begins from at number line le is = grind (arith, nat_tests)
 
-by_part : (margin at from : ℕ) (lines : List Line) (places : List ℕ) → at ≤ from → StandFor margin at lines places
+pub by_part : (margin at from : ℕ) (lines : List Line) (places : List ℕ) → at ≤ from → StandFor margin at lines places
     → map (placed_found places) (told_of margin (is_due from from 0 None) (lines_in lines places)) ≡ told_of margin (is_due from from 0 None) lines
 by_part margin at from lines places le stand =
     let due = is_due from from 0 None in

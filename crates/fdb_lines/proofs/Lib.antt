@@ -46,3 +46,9 @@ pub mod StillReasoned
 pub mod Permuted
 pub mod OnceTold
 pub mod GoneOn
+pub mod Renumbered
+pub mod StandByKey
+pub mod GoneOnByKey
+pub mod Named
+pub mod TakenAway
+pub mod WatchStands

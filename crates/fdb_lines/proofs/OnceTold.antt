@@ -110,12 +110,12 @@ all_due margin lines =
 
 -- ---- what an entry tells
 
-maps_same : {X Y : Type 0} (f g : X → Y) (xs : List X) → All (λ x. f x ≡ g x) xs → map f xs ≡ map g xs
+pub maps_same : {X Y : Type 0} (f g : X → Y) (xs : List X) → All (λ x. f x ≡ g x) xs → map f xs ≡ map g xs
 maps_same f g [] same = refl
 maps_same {X} {Y} f g (x ∷ xs) same =
     ap (λ (y : Y). y ∷ map f xs) (All-head (λ x. f x ≡ g x) x xs same) ∙ ap (λ (ys : List Y). g x ∷ ys) (maps_same f g xs (All-tail (λ x. f x ≡ g x) x xs same))
 
-placed_twice : (mine numbers : List ℕ) (found : Found) → found.line < length numbers → placed_found (map (slice_index mine) numbers) found ≡ placed_found mine (placed_found numbers found)
+pub placed_twice : (mine numbers : List ℕ) (found : Found) → found.line < length numbers → placed_found (map (slice_index mine) numbers) found ≡ placed_found mine (placed_found numbers found)
 placed_twice mine numbers found lt =
     ap (λ (line : ℕ). let it : Found = record { line = line; fault = found.fault } in it) (get_or-map (slice_index mine) numbers found.line 0 0 lt)
 
@@ -222,7 +222,7 @@ module _ (lines : List Line) (keys : List (Option ℕ)) (as_many : length keys �
   names_size : length (keys_of keys) ≡ length parts
   names_size = ap length (sym named) ∙ length-map parts key_is
 
-  same_part : (i j : ℕ) (d : KeyPart) → i < length parts → j < length parts → (get_or parts i d).key ≡ (get_or parts j d).key → i ≡ j
+  pub same_part : (i j : ℕ) (d : KeyPart) → i < length parts → j < length parts → (get_or parts i d).key ≡ (get_or parts j d).key → i ≡ j
   same_part i j d li lj same =
       let size = names_size in
       each_once keys (length keys) i j (omega (arith, size, li)) (omega (arith, size, lj)) (name_at i d li ∙ (same ∙ sym (name_at j d lj)))
@@ -344,7 +344,7 @@ settled_on lines keys as_many old new named each at margin entries told tell siz
 
 -- ---- for good
 
-is_there : (names : List (Option ℕ)) (q : Option ℕ) → HasKey names q ⊎ ((i : ℕ) → i < length names → key_at names i ≢ q)
+pub is_there : (names : List (Option ℕ)) (q : Option ℕ) → HasKey names q ⊎ ((i : ℕ) → i < length names → key_at names i ≢ q)
 is_there [] q = inr (λ i lt. absurd (omega (arith, lt)))
 is_there (name ∷ names) q = by (same_key name q) refl (is_there names q)
   where
@@ -487,7 +487,7 @@ module _ (lines : List Line) (keys : List (Option ℕ)) (as_many : length keys �
       }
 
   -- what there was to tell of a key up to a moment is the same, if the line did not begin before
-  to_tell_still : (q : Option ℕ) (margin from : ℕ) → from ≤ began line → to_tell margin (Some from) more names q ≡ to_tell margin (Some from) lines keys q
+  pub to_tell_still : (q : Option ℕ) (margin from : ℕ) → from ≤ began line → to_tell margin (Some from) more names q ≡ to_tell margin (Some from) lines keys q
   to_tell_still q margin from late =
       let it = of_each q in
       let mine = lines_of_one lines keys q in
@@ -600,14 +600,14 @@ push_on old new lines keys told line key seen now stays margin from has late =
 
 -- ---- what has been told in all is what an audit finds up to where all have settled
 
-filters_swap : (p q : Found → Bool) (xs : List Found) → filter p (filter q xs) ≡ filter q (filter p xs)
+pub filters_swap : (p q : Found → Bool) (xs : List Found) → filter p (filter q xs) ≡ filter q (filter p xs)
 filters_swap p q xs = filter_both p q xs ∙ (filter_agree (λ x. q x && p x) (λ x. p x && q x) (λ x. and_other (q x) (p x)) xs ∙ sym (filter_both q p xs))
 
-filter_same : (p q : Found → Bool) (xs : List Found) → All (λ x. p x ≡ q x) xs → filter p xs ≡ filter q xs
+pub filter_same : {X : Type 0} (p q : X → Bool) (xs : List X) → All (λ x. p x ≡ q x) xs → filter p xs ≡ filter q xs
 filter_same p q [] same = refl
-filter_same p q (x ∷ xs) same =
+filter_same {X} p q (x ∷ xs) same =
     ap (λ b. cond b (x ∷ filter p xs) (filter p xs)) (All-head (λ x. p x ≡ q x) x xs same)
-    ∙ ap (λ (l : List Found). cond (q x) (x ∷ l) l) (filter_same p q xs (All-tail (λ x. p x ≡ q x) x xs same))
+    ∙ ap (λ (l : List X). cond (q x) (x ∷ l) l) (filter_same p q xs (All-tail (λ x. p x ≡ q x) x xs same))
 
 -- of a key it is what there is to tell of it
 pub audited_to_of : (margin to : ℕ) (lines : List Line) (keys : List (Option ℕ)) (q : Option ℕ) → length keys ≡ length lines
@@ -628,7 +628,7 @@ audited_to_of margin to lines keys q as_many =
     ap (begins_before (Some to)) (sym (at_part lines places (get_or found k d).line (omega (arith, there, size))))))
     ∙ ap (map place) (sym (told_before margin 0 0 0 to None mine tt)))))
 
-at_lines : (log : Lines) (keys : List (Option ℕ)) (opts : AuditOpts) (n : ℕ) → All (λ (found : Found). found.line < n) (faults_below_by_key log keys opts n)
+pub at_lines : (log : Lines) (keys : List (Option ℕ)) (opts : AuditOpts) (n : ℕ) → All (λ (found : Found). found.line < n) (faults_below_by_key log keys opts n)
 at_lines log keys opts zero = All-nil (λ (found : Found). found.line < 0)
 at_lines log keys opts (suc n) =
     All-append (λ (found : Found). found.line < suc n) (faults_below_by_key log keys opts n) (faults_at_by_key log keys opts n)

@@ -17,7 +17,7 @@ in_cons true y x zs (inr (k, lt, is)) = (suc k, omega arith, is)
 in_cons false y x zs (inl both) = absurd (both_ways false refl both.0)
 in_cons false y x zs (inr has) = has
 
-in_filter : (p : ℕ → Bool) (xs : List ℕ) (x : ℕ) → p x ≡ true → Contains xs x → Contains (filter p xs) x
+pub in_filter : (p : ℕ → Bool) (xs : List ℕ) (x : ℕ) → p x ≡ true → Contains xs x → Contains (filter p xs) x
 in_filter p [] x is (k, lt, at) = absurd (omega arith)
 in_filter p (y ∷ ys) x is (zero, lt, at) = in_cons (p y) y x (filter p ys) (inl (ap p at ∙ is, at))
 in_filter p (y ∷ ys) x is (suc k, lt, at) = in_cons (p y) y x (filter p ys) (inr (in_filter p ys x is (k, omega arith, at)))

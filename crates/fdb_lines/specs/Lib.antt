@@ -21,4 +21,6 @@ pub mod Watch
 pub mod KeyParts
 pub mod KeyWatch
 pub mod ToldByKey
+pub mod Renumbered
+pub mod StandByKey
 pub mod private

@@ -2,8 +2,8 @@
 
 ghost use Rattle.std.specs.Prelude.{ℕ, ◌<◌, ◌≤◌, ◌≡◌, ◌≢◌, ◌↔◌, ◌++◌, ◌∷◌, [], List, Option};
 ghost use Rattle.std.specs.Prelude.{length, map, not, slice_index, true, IfSome, IsTrue, None};
-ghost use Rattle.std.specs.Prelude.{IsPermutation, Some};
-ghost use Rattle.std.specs.List.{filter, range_with_len};
+ghost use Rattle.std.specs.Prelude.{◌-◌, IsPermutation, Some};
+ghost use Rattle.std.specs.List.{filter, flat_map, range_with_len};
 ghost use Rattle.fdb_lines.specs.declared.effect.Effect.{Effect};
 ghost use Rattle.fdb_lines.specs.declared.fault.Fault.{Fault};
 ghost use Rattle.fdb_lines.specs.declared.fault.Fault.TheVariants.{Order, NotAbove, Twice};
@@ -26,7 +26,9 @@ ghost use Rattle.fdb_lines.specs.Steps.{runs, fresh};
 ghost use Rattle.fdb_lines.specs.Faults.{stands, IsFaultless};
 ghost use Rattle.fdb_lines.specs.Order.{IsRanked, history};
 ghost use Rattle.fdb_lines.specs.Reasons.{HasReason};
-ghost use Rattle.fdb_lines.specs.ToldByKey.{audited_to, HasTold};
+ghost use Rattle.fdb_lines.specs.Renumbered.{AreNamedApart, AreSameButForNumbers, Naming, SayTheSame};
+ghost use Rattle.fdb_lines.specs.StandByKey.{StandForByKey, audited_from, keys_in};
+ghost use Rattle.fdb_lines.specs.ToldByKey.{audited, audited_to, HasTold};
 ghost use Rattle.fdb_lines.specs.Watching.{begins_before, is_due, is_watched, opts_of};
 ghost use Rattle.fdb_lines.specs.Watching.{told_of, watched};
 
@@ -193,4 +195,107 @@ pub fn who_goes_on_from_them_tells_the_rest()
         (lines_in lines places ++ more)))
         (filter (λ (found : Found). is_watched found.fault)
         (faults_of (watched margin (lines ++ more)))) }
+{}
+
+/// How clients and keys are numbered does not matter. Of two logs that are the same but for that, an
+/// audit finds the same faults at the same lines; so it does of those that a watch tells, of all lines,
+/// or of those that began before a moment, or from it on.
+pub fn how_clients_and_keys_are_numbered_does_not_matter()
+    ensures found { (lines others : List Line) (keys other_keys : List (Option ℕ)) (opts : AuditOpts)
+        → AreSameButForNumbers lines keys others other_keys
+        → faults_by_key (with_times lines) keys opts
+        ≡ faults_by_key (with_times others) other_keys opts }
+    ensures all { (lines others : List Line) (keys other_keys : List (Option ℕ)) (margin : ℕ)
+        → AreSameButForNumbers lines keys others other_keys
+        → audited margin lines keys ≡ audited margin others other_keys }
+    ensures up_to { (lines others : List Line) (keys other_keys : List (Option ℕ)) (margin to : ℕ)
+        → AreSameButForNumbers lines keys others other_keys
+        → audited_to margin to lines keys ≡ audited_to margin to others other_keys }
+    ensures since { (lines others : List Line) (keys other_keys : List (Option ℕ)) (margin from : ℕ)
+        → AreSameButForNumbers lines keys others other_keys
+        → audited_from margin from lines keys ≡ audited_from margin from others other_keys }
+{}
+
+/// Lines that stand for all, each key by itself, do so for whoever goes on from them: of the lines
+/// that begin from a moment on an audit of them finds what an audit of all finds, each fault once;
+/// and they go on to stand for all with one line more. Where none that comes since began before the
+/// moment, what was found up to it, and what is found then by them and all that came since, however
+/// clients and keys are numbered there, are, together, what an audit of all lines finds.
+pub fn by_key_they_tell_the_rest_too()
+    ensures rest { (margin at from : ℕ) (lines : List Line) (keys : List (Option ℕ))
+        (places : List ℕ) → at ≤ from → StandForByKey margin at lines keys places
+        → IsPermutation (audited_from margin from lines keys) (map (placed_found places)
+        (audited_from margin from (lines_in lines places) (keys_in keys places))) }
+    ensures one_more { (margin at : ℕ) (lines : List Line) (keys : List (Option ℕ))
+        (places : List ℕ) (line : Line) (key : Option ℕ)
+        → StandForByKey margin at lines keys places → StandForByKey margin at
+        (lines ++ line ∷ []) (keys ++ key ∷ []) (places ++ length lines ∷ []) }
+    ensures all { (margin at from : ℕ) (lines more others : List Line)
+        (keys more_keys other_keys : List (Option ℕ)) (places : List ℕ)
+        → at ≤ from → StandForByKey margin at lines keys places → length more_keys ≡ length more
+        → ((j : ℕ) → j < length more → from ≤ began (line_at more j))
+        → AreSameButForNumbers (lines_in lines places ++ more)
+        (keys_in keys places ++ more_keys) others other_keys
+        → let beyond = places ++ range_with_len (length lines) (length more) in
+        IsPermutation (audited_to margin from lines keys
+        ++ map (placed_found beyond) (audited_from margin from others other_keys))
+        (audited margin (lines ++ more) (keys ++ more_keys)) }
+{}
+
+/// What is told once all that there was to tell up to a moment has been told, so that all is told in
+/// the end, each fault once, is what stands at lines that began from the moment on, where none that
+/// came since began before.
+pub fn what_is_told_then_began_then()
+    ensures { (margin from : ℕ) (lines more : List Line) (keys more_keys : List (Option ℕ))
+        (told new : List Found) → length keys ≡ length lines → length more_keys ≡ length more
+        → ((j : ℕ) → j < length more → from ≤ began (line_at more j))
+        → IsPermutation told (audited_to margin from lines keys)
+        → IsPermutation (told ++ new) (audited margin (lines ++ more) (keys ++ more_keys))
+        → IsPermutation new (audited_from margin from (lines ++ more) (keys ++ more_keys)) }
+{}
+
+/// The lines that a watch keeps, in the order in which they came, stand for all that it has seen,
+/// each key by itself.
+pub fn what_a_watch_keeps_stands_for_all()
+    ensures { (watch : KeyWatch) (lines : List Line) (keys : List (Option ℕ)) (places : List ℕ)
+        → HasSeenByKey watch lines keys
+        → IsPermutation (flat_map (λ part. part.numbers.items) watch.parts.items) places
+        → ((i j : ℕ) → i < j → j < length places → slice_index places i < slice_index places j)
+        → StandForByKey watch.margin (watch.from - watch.horizon) lines keys places }
+{}
+
+/// Who goes on from what a watch kept tells the rest. A watch is stopped. The lines that it keeps and
+/// those that come since are read by themselves, with whatever numbers for clients and keys; the first
+/// of them are said to have been told of up to the moment up to which the watch had settled, and then
+/// all there is to tell of them is told. Where none but these first began before that moment, what the
+/// watch had told, and what is told then, are, together, what an audit of all lines finds, each fault
+/// once.
+pub fn who_goes_on_from_what_a_watch_kept_tells_the_rest()
+    ensures { (watch : KeyWatch) (lines more first rest : List Line)
+        (keys more_keys first_keys rest_keys : List (Option ℕ)) (places : List ℕ)
+        (told was now : List Found) → HasSeenByKey watch lines keys → HasTold watch lines keys told
+        → IsPermutation (flat_map (λ part. part.numbers.items) watch.parts.items) places
+        → ((i j : ℕ) → i < j → j < length places → slice_index places i < slice_index places j)
+        → length more_keys ≡ length more → length first_keys ≡ length first
+        → length rest_keys ≡ length rest
+        → ((j : ℕ) → j < length more → watch.from ≤ began (line_at more j))
+        → ((j : ℕ) → j < length rest → watch.from ≤ began (line_at rest j))
+        → AreSameButForNumbers (lines_in lines places ++ more)
+        (keys_in keys places ++ more_keys) (first ++ rest) (first_keys ++ rest_keys)
+        → IsPermutation was (audited_to watch.margin watch.from first first_keys)
+        → IsPermutation (was ++ now)
+        (audited watch.margin (first ++ rest) (first_keys ++ rest_keys))
+        → let beyond = places ++ range_with_len (length lines) (length more) in
+        IsPermutation (told ++ map (placed_found beyond) now)
+        (audited watch.margin (lines ++ more) (keys ++ more_keys)) }
+{}
+
+/// Two logs that say the same, by whatever numbers of the names of clients and keys, are the same but
+/// for numbers, where in each of them one name is that of one client, and of one key.
+pub fn logs_that_say_the_same_differ_in_numbers_alone()
+    ensures { (naming other_naming : Naming) (lines others : List Line)
+        (keys other_keys : List (Option ℕ)) → AreNamedApart naming lines keys
+        → AreNamedApart other_naming others other_keys
+        → SayTheSame naming other_naming lines keys others other_keys
+        → AreSameButForNumbers lines keys others other_keys }
 {}
