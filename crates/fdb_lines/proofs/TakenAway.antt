@@ -1,5 +1,5 @@
 -- Where two lists of faults have the same elements, and the same are taken from both, the rest have the same.
-use Rattle.std.proofs.Common.{◌≡◌, ◌∙◌, ℕ, zero, suc, ◌+◌, ◌*◌, ◌<◌, ◌≤◌, Bool, cond, List, [], ◌∷◌, ◌++◌, Option, Some, length, get_or, refl, ap, sym, subst, arith}
+use Rattle.std.proofs.Common.{◌≡◌, ◌∙◌, ℕ, zero, suc, ◌+◌, ◌*◌, ◌<◌, Bool, cond, List, [], ◌∷◌, ◌++◌, Option, Some, length, get_or, refl, ap, sym, subst, arith}
 use Rattle.std.specs.Prelude.{IsPermutation}
 use Rattle.std.specs.List.{filter, sum_by}
 use Rattle.std.proofs.lemmas.List.Elements.{filter_passes}

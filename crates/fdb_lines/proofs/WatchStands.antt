@@ -1,7 +1,7 @@
 -- The lines that a watch keeps stand for all that came, each key by itself.
-use Rattle.std.proofs.Common.{◌≡◌, ◌≢◌, ◌∙◌, ◌⊎◌, ℕ, zero, suc, ◌-◌, ◌<◌, ◌≤◌, Bool, true, false, cond, List, [], ◌∷◌, ◌++◌, Option, None, Some, length, map, get_or, slice_index, refl, ap, sym, subst, inl, inr, arith, length-append}
+use Rattle.std.proofs.Common.{◌≡◌, ◌≢◌, ◌∙◌, ℕ, zero, suc, ◌-◌, ◌<◌, ◌≤◌, Bool, true, cond, List, [], ◌∷◌, ◌++◌, Option, None, length, map, get_or, slice_index, refl, ap, sym, subst, inl, inr, arith, length-append}
 use Rattle.std.specs.Prelude.{IsPermutation}
-use Rattle.std.specs.List.{All, AllPairs, Contains, filter, flat_map, range_with_len}
+use Rattle.std.specs.List.{AllPairs, Contains, filter, flat_map, range_with_len}
 use Rattle.std.proofs.lemmas.Bool.{cases_lt}
 use Rattle.std.proofs.lemmas.List.{get_or_default, get_or-map, length-map, map-id}
 use Rattle.std.proofs.lemmas.List.Elements.{All-contains, All-contains_itself, All-filter, All-map, Contains-append_cases, Contains-append_left, Contains-append_right, Contains-get_or, filter_passes}
