@@ -96,6 +96,7 @@ module _ (keys : List (Option ℕ)) (places : List ℕ) (q : Option ℕ) where
         let low = All-filter is_its (λ k. k < length keys) places within i d lt in
         ap (λ key. slice_index (places_of keys q) (length (places_below keys key k))) (same_is (key_at keys k) q same) ∙ (has_place keys q (length keys) k same low).1)
         ∙ map-id its)
+
 -- ---- what they tell, told at the places of all
 
 placed_on : (mine numbers : List ℕ) (found : List Found) → All (λ (one : Found). one.line < length numbers) found

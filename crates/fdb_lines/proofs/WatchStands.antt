@@ -88,7 +88,7 @@ lines_rise : (keys : List (Option ℕ)) (key : Option ℕ) (n m : ℕ) → n ≤
 lines_rise keys key n zero le = let is : n ≡ 0 = omega arith in let same = ap (λ k. length (places_below keys key k)) is in omega arith
 lines_rise keys key n (suc m) le = elim (cases_lt m n) [
   | inl more ↦ let is : n ≡ suc m = omega arith in let same = ap (λ k. length (places_below keys key k)) is in omega arith
-  | inr less ↦ 
+  | inr less ↦
       let before = lines_rise keys key n m less in
       let one = length-append (places_below keys key m) (cond (same_key (key_at keys m) key) (m ∷ []) []) in
       omega arith
