@@ -454,5 +454,5 @@ def large(_program):
         yield f"{LARGE} lines", None if is_so else f"{it}, where {MOST_MEMORY} KiB are the most"
     told = "".join(told_of(TOLD, 64, end) for end in ("", "; judging"))
     said = b"audit ok lines 64 reads 64 commits 0 asks 0 reports 0 refused 0 early 0\n"
-    ran = run([PROGRAM, "--follow", "1", "--progress"], MUCH, 60)
+    ran = run([PROGRAM, "--follow", "1", "--progress"], MUCH)
     yield "how far it is read", fault_of(ran, Ran(OK, said, told.encode()))
