@@ -1,16 +1,17 @@
 -- What texts say that keep lines.
-use Rattle.std.proofs.Common.{◌≡◌, ◌∙◌, ℕ, zero, suc, ◌+◌, ◌-◌, nat_lt, Bool, List, [], ◌∷◌, ◌++◌, Option, None, Some, Result, Ok, Err, ap, cond, append-nil, arith, drop, inl, inr, is_some, length, map, min, option_map, refl, string_bytes, sym, take, unwrap_or}
+use Rattle.std.proofs.Common.{◌≡◌, ◌∙◌, ℕ, zero, suc, ◌+◌, ◌-◌, ◌<◌, nat_lt, Bool, List, [], ◌∷◌, ◌++◌, Option, None, Some, Result, Ok, Err, ap, cond, append-nil, arith, drop, get_or, inl, inr, is_some, length, map, min, option_map, refl, string_bytes, sym, take, unwrap_or}
 use Rattle.std.specs.Prelude.{OnOk, count_by}
 use Rattle.std.proofs.lemmas.Bool.{cases_lt}
 use Rattle.std.proofs.lemmas.Bool.Decides.{nat_tests}
-use Rattle.std.proofs.lemmas.List.{drop_all, length-append, length-map, length_push, map-append, map_push, take_all}
+use Rattle.std.proofs.lemmas.List.{drop_all, length-append, length-map, length_push, map-append, map_push, take_all, take_more}
 use Rattle.std.proofs.lemmas.List.Sums.{sum_by-append, sum_by-cons}
 use Rattle.fdb_lines.specs.declared.line.Line.{Line}
 use Rattle.fdb_lines.specs.Before.{began}
 use Rattle.fdb_log_reader.specs.declared.error.Why.{Why}
 use Rattle.fdb_log_reader.specs.declared.line_reader.LineReader.{LineReader}
+use Rattle.fdb_log_reader.specs.declared.read_line.ReadLine.{ReadLine}
 use Rattle.fdb_log_reader.specs.LineReader.{line_names, lines_on}
-use Rattle.fdb_log_reader.specs.ReadLine.{LineNames, SaidLine, line_read, lines_read, member_in, names_after, names_behind, no_names}
+use Rattle.fdb_log_reader.specs.ReadLine.{LineNames, SaidLine, line_read, lines_read, member_in, names_after, names_behind, no_names, said_in}
 use Rattle.fdb_log_reader.specs.Reading.{lines_in}
 use Rattle.fdb_audit.specs.declared.arguments.AuditArguments.{AuditArguments}
 use Rattle.fdb_audit.specs.declared.follower.Follower.{Follower}
@@ -24,6 +25,13 @@ use Rattle.fdb_audit.specs.private.Kept.{EndsALine}
 as_many : (shown : List (List ℕ)) (names : LineNames) (lines : List (List ℕ)) → length (lines_read shown names lines) ≡ length lines
 as_many shown names [] = refl
 as_many shown names (line ∷ lines) = let rest = as_many shown (names_after names (line_read shown names line)) lines in omega (arith, rest)
+
+-- where nothing is pending, what has been read is all that becomes of the lines of a text
+pub all_read : (shown : List (List ℕ)) (names : LineNames) (reader : LineReader) (bytes : List ℕ) (lines : List (Result SaidLine Why))
+    → lines_read shown names (lines_in (bytes ++ [])) ≡ lines ++ lines_on reader [] → lines_on reader [] ≡ [] → lines_read shown names (lines_in bytes) ≡ lines
+all_read shown names reader bytes lines goes none =
+    ap (λ (text : List ℕ). lines_read shown names (lines_in text)) (sym (append-nil bytes))
+    ∙ (goes ∙ (ap (λ (rest : List (Result SaidLine Why)). lines ++ rest) none ∙ append-nil lines))
 
 module _ (shown : List (List ℕ)) (names : LineNames) (reader : LineReader) (bytes : List ℕ) (lines : List (Result SaidLine Why))
     (goes : (text : List ℕ) → lines_read shown names (lines_in (bytes ++ text)) ≡ lines ++ lines_on reader text) (one : length (lines_on reader (32 ∷ [])) ≡ 1) where
@@ -88,6 +96,13 @@ early_on at xs ys =
     let line = λ (said : SaidLine). said.line in
     ap (λ (l : List SaidLine). early_at at (map line l)) (taken_on xs ys)
     ∙ (ap (early_at at) (map-append line (taken xs) (taken ys)) ∙ sum_by-append (λ (one : Line). cond (nat_lt (began one) at) 1 0) (lines_taken xs) (lines_taken ys))
+
+pub taken_next : (lines : List (Result ReadLine Why)) (i : ℕ) (read : Result ReadLine Why) → i < length lines → read ≡ get_or lines i read
+    → taken (map said_in (take (i + 1) lines)) ≡ taken (map said_in (take i lines)) ++ taken (said_in read ∷ [])
+taken_next lines i read lt is =
+    ap (λ (all : List (Result ReadLine Why)). taken (map said_in all))
+    (take_more lines i read lt ∙ ap (λ (one : Result ReadLine Why). take i lines ++ one ∷ []) (sym is))
+    ∙ (ap taken (map_push said_in (take i lines) read) ∙ taken_on (map said_in (take i lines)) (said_in read ∷ []))
 
 pub on_not_err : {T E P : Type 0} (result : Result T E) → ((error : E) → result ≡ Err error → ⊥) → OnOk result P → P
 on_not_err (Ok value) not holds = holds

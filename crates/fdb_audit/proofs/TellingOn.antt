@@ -1,7 +1,11 @@
 -- What a follower has told stays told while it reads on, and what it tells next comes behind it.
-use Rattle.std.proofs.Common.{◌≡◌, ◌∙◌, ◌≤◌, ℕ, List, [], ◌++◌, Bool, false, ap, append-nil, append_assoc, arith, is_some, true, length, not, refl, string_bytes, subst, sym, ◌&&◌, Option, Result, map}
+use Rattle.std.proofs.Common.{◌≡◌, ◌∙◌, ◌≤◌, ℕ, List, [], ◌++◌, Bool, false, IsPermutation, ap, append-nil, append_assoc, arith, is_some, true, length, not, refl, string_bytes, subst, sym, ◌&&◌, Option, Result, map}
 use Rattle.std.specs.Option.{option_or}
 use Rattle.fdb_lines.specs.declared.fault.Found.{Found}
+use Rattle.fdb_lines.specs.declared.key_watch.KeyWatch.{KeyWatch}
+use Rattle.fdb_lines.specs.declared.line.Line.{Line}
+use Rattle.fdb_lines.specs.KeyWatch.{HasSeenByKey}
+use Rattle.fdb_lines.specs.ToldByKey.{HasTold, audited_to}
 use Rattle.fdb_log_reader.specs.declared.error.Why.{Why}
 use Rattle.fdb_log_reader.specs.LineReader.{AreMore, line_names, lines_on, names_on}
 use Rattle.fdb_log_reader.specs.Printed.{printed}
@@ -12,7 +16,7 @@ use Rattle.fdb_audit.specs.declared.arguments.AuditArguments.{AuditArguments}
 use Rattle.fdb_audit.specs.declared.fault.LogFault.{LogFault}
 use Rattle.fdb_audit.specs.declared.follower.Follower.{Follower}
 use Rattle.fdb_audit.specs.declared.teller.Teller.{Teller}
-use Rattle.fdb_audit.specs.Following.{AreWindows, FollowArguments, IsCounted, IsEnd, Start, Window, first_told, kinds_told, lines_taken, lines_told, out_of_reach, told_in_all}
+use Rattle.fdb_audit.specs.Following.{AreWindows, FollowArguments, IsCounted, IsEnd, Start, Window, first_told, keys_taken, kinds_told, lines_taken, lines_told, out_of_reach, told_in_all}
 use Rattle.fdb_audit.specs.Watched.{HasFollowed, HasToldAll, IsComplete, IsFollowed, IsTelling, IsTold, followed_by, lines_asked, members_asked, names_asked}
 use Rattle.fdb_audit.specs.private.Followed.{AreTaken, HasTotals, IsUnread, TellsOn, counted_of, told_with}
 use Rattle.fdb_audit.proofs.Windows.{first_on, first_stays, kinds_on, lines_on as all_lines_on, lines_stay, told_on, told_stays, windows_on, windows_stay, windows_within}
@@ -197,16 +201,23 @@ settled_all start asked ends old new read told faults is reader more behind coun
     }
 
 -- and where it is to be followed on
-pub told_so_far : (start : Start) (asked : AuditArguments) (old : Follower) (read : List (Result SaidLine Why)) (told : List ℕ) → (is : IsTelling asked start old read told)
-    → (start.early ≡ 0 → old.taking.counts.early ≡ 0 → IsComplete false asked.opts.margin read (start.told ++ told_in_all read is.windows))
+abbrev pub told_so_far : (start : Start) (asked : AuditArguments) (old : Follower) (read : List (Result SaidLine Why)) (told : List ℕ) → IsTelling asked start old read told
+    → ((watch : KeyWatch) (lines : List Line) (keys : List (Option ℕ)) (told : List Found) → HasSeenByKey watch lines keys → HasTold watch lines keys told
+    → IsPermutation told (audited_to watch.margin watch.from lines keys))
     → HasToldAll asked start false old read told
-told_so_far start asked old read told is whole = record {
+told_so_far start asked old read told is each_once = record {
   behind = is.behind;
   windows = is.windows;
   tells = is.tells;
   are = is.are;
   counted = counted_for start old read is.taken old refl refl;
-  whole = whole;
+  whole = λ none_before none.
+      let watch = old.taking.watch in
+      let all = start.told ++ told_in_all read is.windows in (
+        watch.from,
+        subst (λ margin. IsPermutation all (audited_to margin watch.from (lines_taken read) (keys_taken read))) is.margin
+            (each_once watch (lines_taken read) (keys_taken read) all is.taken.seen (is.taken.once none_before none)),
+      );
   before = is.taken.before;
   early = λ anew. early_for start old read is.taken old refl anew;
 }
@@ -224,30 +235,32 @@ pub all_told : (asked : AuditArguments) (start : Start) (ends : Bool) (last : Fo
     → text ≡ string_bytes last.teller.text ++ end → found ≡ last.teller.first
     → IsEnd (not (is_some last.teller.first) && not last.teller.wanted.json) last.teller.wanted.totals last.teller.wanted.json (counted_of last.taking) (told_with last.behind last.teller (members_asked asked))
     (map printed (line_names last.reader).clients) (lines_told (lines_asked asked bytes) is.windows) (kinds_told is.windows) end
-    → IsFollowed asked start ends bytes (told ++ text) found
+    → (followed : IsFollowed asked start ends bytes (told ++ text) found) × (followed.windows ≡ is.windows)
 all_told asked start ends last bytes told text end found is names texts first end_is =
     let read = lines_asked asked bytes in
     let lines = lines_told read is.windows in
-    let kinds = kinds_told is.windows in
-    record {
-      windows = is.windows;
-      told = told ++ string_bytes last.teller.text;
-      counts = counted_of last.taking;
-      end = end;
-      text_is = ap (λ text. told ++ text) texts ∙ sym (append_assoc told (string_bytes last.teller.text) end);
-      tells = subst (λ names. AreWindows start.numbers asked.opts.margin asked.wanted read names.clients is.windows (told ++ string_bytes last.teller.text)) (sym names) is.tells;
-      first = first ∙ is.are.first;
-      counted = is.counted;
-      end_is =
-          subst (λ found. IsEnd (not (is_some found) && not asked.wanted.json) asked.wanted.totals asked.wanted.json (counted_of last.taking) (followed_by asked start.behind)
-          (map printed (names_asked asked bytes).clients) lines kinds end) (sym first)
-          (subst (λ names. IsEnd (not (is_some last.teller.first) && not asked.wanted.json) asked.wanted.totals asked.wanted.json (counted_of last.taking) (followed_by asked start.behind)
-          (map printed names.clients) lines kinds end) (sym names)
-          (subst (λ arguments. IsEnd (not (is_some last.teller.first) && not asked.wanted.json) asked.wanted.totals asked.wanted.json (counted_of last.taking) arguments
-          (map printed (line_names last.reader).clients) lines kinds end) (same_arguments asked start last is.behind is.are.margin is.are.by_key)
-          (subst (λ wanted. IsEnd (not (is_some last.teller.first) && not wanted.json) wanted.totals wanted.json (counted_of last.taking) (told_with last.behind last.teller (members_asked asked))
-          (map printed (line_names last.reader).clients) lines kinds end) is.are.wanted end_is)));
-      whole = is.whole;
-      before = is.before;
-      early = is.early;
-    }
+    let kinds = kinds_told is.windows in (
+      record {
+        windows = is.windows;
+        told = told ++ string_bytes last.teller.text;
+        counts = counted_of last.taking;
+        end = end;
+        text_is = ap (λ text. told ++ text) texts ∙ sym (append_assoc told (string_bytes last.teller.text) end);
+        tells = subst (λ names. AreWindows start.numbers asked.opts.margin asked.wanted read names.clients is.windows (told ++ string_bytes last.teller.text)) (sym names) is.tells;
+        first = first ∙ is.are.first;
+        counted = is.counted;
+        end_is =
+            subst (λ found. IsEnd (not (is_some found) && not asked.wanted.json) asked.wanted.totals asked.wanted.json (counted_of last.taking) (followed_by asked start.behind)
+            (map printed (names_asked asked bytes).clients) lines kinds end) (sym first)
+            (subst (λ names. IsEnd (not (is_some last.teller.first) && not asked.wanted.json) asked.wanted.totals asked.wanted.json (counted_of last.taking) (followed_by asked start.behind)
+            (map printed names.clients) lines kinds end) (sym names)
+            (subst (λ arguments. IsEnd (not (is_some last.teller.first) && not asked.wanted.json) asked.wanted.totals asked.wanted.json (counted_of last.taking) arguments
+            (map printed (line_names last.reader).clients) lines kinds end) (same_arguments asked start last is.behind is.are.margin is.are.by_key)
+            (subst (λ wanted. IsEnd (not (is_some last.teller.first) && not wanted.json) wanted.totals wanted.json (counted_of last.taking) (told_with last.behind last.teller (members_asked asked))
+            (map printed (line_names last.reader).clients) lines kinds end) is.are.wanted end_is)));
+        whole = is.whole;
+        before = is.before;
+        early = is.early;
+      },
+      refl,
+    )

@@ -1,15 +1,20 @@
 -- What a text says that has the lines which are kept of a log that is followed. (this product's own)
 use Rattle.std.specs.Prelude.{◌≡◌, ℕ, ◌+◌, ◌-◌, nat_lt, false, IsPermutation, List, [], ◌∷◌, Option, codes, count_by, drop, is_some, length, map, option_and_then, option_map, slice_get, string_bytes, take, unwrap_or, Result, if◌then◌else◌}
 use Rattle.std.specs.List.{flat_map}
+use Rattle.std.specs.List.Sorted.{IsNonDecreasing}
 use Rattle.std.specs.Option.{option_flatten}
 use Rattle.fdb_lines.specs.declared.key_part.KeyPart.{KeyPart}
 use Rattle.fdb_lines.specs.declared.key_watch.KeyWatch.{KeyWatch}
 use Rattle.fdb_lines.specs.declared.line.Line.{Line}
+use Rattle.fdb_lines.specs.declared.line.Operation.{Operation}
+use Rattle.fdb_lines.specs.declared.line.Times.{Times}
 use Rattle.fdb_lines.specs.Before.{began}
+use Rattle.fdb_lines.specs.Keys.{key_at}
+use Rattle.fdb_lines.specs.Lines.{line_at}
 use Rattle.fdb_lines.specs.ToldByKey.{audited_to}
 use Rattle.fdb_log_reader.specs.declared.error.Why.{Why}
 use Rattle.fdb_log_reader.specs.Members.{whole}
-use Rattle.fdb_log_reader.specs.ReadLine.{SaidLine, lines_read, no_names}
+use Rattle.fdb_log_reader.specs.ReadLine.{LineNames, SaidLine, lines_read, names_behind, no_names}
 use Rattle.fdb_log_reader.specs.Reading.{lines_in}
 use Rattle.fdb_audit.specs.declared.arguments.AuditArguments.{AuditArguments}
 use Rattle.fdb_audit.specs.declared.taking.Taking.{Taking}
@@ -84,12 +89,45 @@ kept_at before read places come settled =
       settled = if nat_lt 0 told then settled else 0;
     }
 
+-- the name of a client, and that of a key, by its number, if there is one
+abbrev pub client_named : LineNames → Option ℕ → Option (List ℕ)
+client_named names client = option_and_then (slice_get names.clients) client
+
+abbrev pub key_named : LineNames → Option ℕ → Option (List ℕ)
+key_named names key = option_and_then (λ keys. option_and_then (slice_get keys.names) key) names.keys
+
+-- What a line says, whatever numbers its client and its key have: their names, its call, and its times.
+pub record Named : Type 0 where
+  pub client : Option (List ℕ)
+  pub key : Option (List ℕ)
+  pub call : Operation
+  pub times : Option Times
+
+abbrev pub named : LineNames → Line → Option ℕ → Named
+named names line key = record { client = client_named names line.client; key = key_named names key; call = line.call; times = line.times }
+
+abbrev pub named_said : LineNames → SaidLine → Named
+named_said names said = named names said.line said.key
+
+-- what the lines of a text say, where a member has the keys, and these members are shown
+abbrev pub named_in : Option (List ℕ) → List (List ℕ) → List ℕ → List Named
+named_in key shown text =
+    map (named_said (names_behind shown (no_names key) (lines_in text))) (taken (lines_read shown (no_names key) (lines_in text)))
+
+-- what the line at a place says, of those that were taken
+abbrev pub named_at : LineNames → List (Result SaidLine Why) → ℕ → Named
+named_at names read place = named names (line_at (lines_taken read) place) (key_at (keys_taken read) place)
+
 -- the places of the lines that a watch keeps, key by key
 abbrev pub places_kept : KeyWatch → List ℕ
 places_kept watch = flat_map (λ (part : KeyPart). part.numbers.items) watch.parts.items
 
--- A text says which lines are kept, in an order, each under its number, how many lines were read, and up to when all was told.
-pub record Keeps (key : Option (List ℕ)) (before : KeptNumbers) (taking : Taking) (read : List (Result SaidLine Why)) (text : List ℕ) : Type 0 where
+-- A text says which lines are kept, in the order in which they came, each under its number, how many lines were read, and up to
+-- when all was told; and of each line, whatever is shown of it, what it said when it was taken, by these names.
+pub record Keeps (key : Option (List ℕ)) (names : LineNames) (before : KeptNumbers) (taking : Taking) (read : List (Result SaidLine Why)) (text : List ℕ)
+    : Type 0 where
   pub places : List ℕ
   pub all : IsPermutation (places_kept taking.watch) places
+  pub rise : IsNonDecreasing places
   pub said : kept_said (lines_kept key text) ≡ kept_at before read places taking.settled taking.watch.from
+  pub lines : (shown : List (List ℕ)) → named_in key shown text ≡ map (named_at names read) places

@@ -4,7 +4,7 @@ ghost use Rattle.std.specs.Prelude.{◌≡◌, ◌++◌, ℕ, [], Bool, IfOk, Li
 ghost use Rattle.std.specs.Prelude.{◌<◌, Option, Result, option_map, string_bytes};
 ghost use Rattle.fdb_log_reader.specs.ReadLine.{SaidLine};
 ghost use Rattle.fdb_log_reader.specs.declared.error.Why.{Why};
-ghost use Rattle.fdb_audit.specs.Following.{Start, fresh, left_out, start_with};
+ghost use Rattle.fdb_audit.specs.Following.{Start, fresh, left_out, start_with, told_in_all};
 ghost use Rattle.fdb_lines.specs.declared.fault.Found.{Found};
 ghost use Rattle.fdb_audit.specs.Kept.{KeptSaid, start_from, start_of, Keeps};
 ghost use Rattle.fdb_audit.specs.Taken.{AreTaken};
@@ -17,7 +17,7 @@ use crate::arguments::AuditArguments;
 use crate::fault::LogFault;
 use crate::kept::{KeptText, kept_text};
 use crate::numbering::Numbering;
-use crate::read_back::{kept_in_order, places_of, refusal_of};
+use crate::read_back::{kept_in_order, refusal_of};
 use crate::refused::KeptRefused;
 use crate::taking::Taking;
 use crate::teller::Teller;
@@ -125,7 +125,7 @@ impl Follower {
             (start_of asked.now behind text.now) follower text.now [])) }
     {
         let kept = match KeptText::read(alloc, asked.key.as_deref(), text)? {
-            Ok(kept) => kept,
+            Ok(read) => read.said,
             Err(refused) => return Ok(Err(refused)),
         };
         let numbering = Numbering::new(alloc, kept.numbers, kept.more);
@@ -186,8 +186,8 @@ impl Follower {
     pub fn kept(&self) -> Result<Result<String, KeptRefused>, AllocError>
         ensures { IfOk result (λ it. IfOk it (λ text. (asked : AuditArguments) → (start : Start)
             → (bytes told : List ℕ) → (has : HasFollowed asked start self.now bytes told)
-            → Keeps (option_map string_bytes asked.key) start.numbers self.now.taking has.read
-            (string_bytes text))) }
+            → Keeps (option_map string_bytes asked.key) (line_names self.now.reader) start.numbers
+            self.now.taking has.read (string_bytes text))) }
     {
         keys_stay_in_one_member();
         self.read_back()
@@ -198,18 +198,17 @@ impl Follower {
         ensures { IfOk result (λ it. IfOk it (λ text. (start : Start)
             → (read : List (Result SaidLine Why)) → (told : List Found)
             → AreTaken start self.now.taking read told
-            → Keeps (member_in (line_names self.now.reader)) start.numbers self.now.taking read
-            (string_bytes text))) }
+            → let names = line_names self.now.reader in
+            Keeps (member_in names) names start.numbers self.now.taking read (string_bytes text))) }
     {
         let kept = kept_in_order(self.alloc, &self.taking.watch)?;
-        let places = places_of(self.alloc, &kept)?;
         let key = self.teller.key.as_deref();
         let text = kept_text(self.alloc, &self.reader, &self.taking, key, &kept)?;
         match refusal_of(
             self.alloc,
             &self.reader,
             &self.taking,
-            &places,
+            &kept,
             text.as_bytes(),
         )? {
             Some(refused) => Ok(Err(refused)),
@@ -295,10 +294,12 @@ impl Follower {
             → it.followed.refused ≡ left_out start.numbers (lines_asked asked bytes)) }
         ensures kept { IfOk result (λ it. IfOk it.kept (λ text. (asked : AuditArguments)
             → (start : Start) → (bytes told : List ℕ) → HasFollowed asked start self bytes told
-            → (taking : Taking) × (faults : List Found)
-            × AreTaken start taking (lines_asked asked bytes) faults
-            × Keeps (option_map string_bytes asked.key) start.numbers taking
-            (lines_asked asked bytes) (string_bytes text))) }
+            → (followed : IsFollowed asked start false bytes
+            (told ++ string_bytes it.followed.said.text) it.followed.found) × (taking : Taking)
+            × AreTaken start taking (lines_asked asked bytes)
+            (start.told ++ told_in_all (lines_asked asked bytes) followed.windows)
+            × Keeps (option_map string_bytes asked.key) (names_asked asked bytes) start.numbers
+            taking (lines_asked asked bytes) (string_bytes text))) }
     {
         self.take_last()?;
         let refused = self.taking.left_out();
@@ -344,10 +345,11 @@ impl Follower {
     /// Says how much was read, behind all that was told.
     fn conclude(mut self, refused: Option<ReadError>) -> Result<Followed, AllocError>
         ensures told { IfOk result (λ it. (asked : AuditArguments) → (start : Start)
-            → (bytes told : List ℕ)
-            → (ends : Bool) → HasToldAll asked start ends self (lines_asked asked bytes) told
-            → names_asked asked bytes ≡ line_names self.reader
-            → IsFollowed asked start ends bytes (told ++ string_bytes it.said.text) it.found) }
+            → (bytes told : List ℕ) → (ends : Bool)
+            → (all : HasToldAll asked start ends self (lines_asked asked bytes) told)
+            → names_asked asked bytes ≡ line_names self.reader → (followed : IsFollowed asked
+            start ends bytes (told ++ string_bytes it.said.text) it.found)
+            × (followed.windows ≡ all.windows)) }
         ensures refused { IfOk result (λ it. it.refused ≡ refused) }
     {
         self.teller

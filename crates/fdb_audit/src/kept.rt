@@ -4,9 +4,11 @@
 ghost use Rattle.std.specs.Prelude.{◌≡◌, ◌∷◌, ◌++◌, ◌<◌, ◌^◌, [], List, IfOk, IfSome, Ok, OnOk};
 ghost use Rattle.std.specs.Prelude.{Option, Some, codes, decimal, is_some, length, map, option_map};
 ghost use Rattle.std.specs.Prelude.{string_bytes, true};
+ghost use Rattle.fdb_log_reader.specs.LineReader.{line_names};
 ghost use Rattle.fdb_log_reader.specs.ReadLine.{SaidLine, said_by, said_in};
 ghost use Rattle.fdb_audit.specs.Following.{taken};
-ghost use Rattle.fdb_audit.specs.Kept.{kept_members, kept_said, lines_kept, number_kept};
+ghost use Rattle.fdb_audit.specs.Kept.{client_named, kept_members, kept_said, key_named};
+ghost use Rattle.fdb_audit.specs.Kept.{lines_kept, named_in, named_said, number_kept};
 ghost use Rattle.fdb_audit.specs.private.Kept.{EndsALine, IsKeptAs};
 
 use crate::figures::{Figure, push_figures};
@@ -14,7 +16,7 @@ use crate::refused::KeptRefused;
 use crate::taking::Taking;
 use fdb_lines::{KeptLine, Operation};
 use fdb_log_reader::laws::{a_space_more_is_of_one_line, digits_are_read_as_their_number};
-use fdb_log_reader::{LineReader, Names, ReadLine, Why, printed_name};
+use fdb_log_reader::{LineReader, ReadLine, Why, printed_name};
 use std::alloc::{AllocError, Global};
 use std::fmt::Write;
 
@@ -39,6 +41,17 @@ pub(crate) struct KeptText {
     /// The moment up to which it had settled.
     pub(crate) settled: u64,
     ghost few: { more < 18446744073709551615 },
+}
+
+/// A text that keeps lines, as it was read.
+#[derive(Drop)]
+pub(crate) struct KeptRead {
+    /// What it says of the lines that were kept.
+    pub(crate) said: KeptText,
+    /// The lines, none of which is refused.
+    pub(crate) lines: Vec<Result<ReadLine, Why>>,
+    /// The reader that has the names behind them.
+    pub(crate) reader: LineReader,
 }
 
 /// As what a line was kept.
@@ -69,22 +82,29 @@ impl KeptText {
         alloc: Global,
         key: Option<&str>,
         text: &[u8],
-    ) -> Result<Result<Self, KeptRefused>, AllocError>
-        ensures said { IfOk result (λ it. IfOk it (λ kept.
-            said_of kept ≡ kept_said (lines_kept (option_map (λ key. key.now) key.entry) text.now))) }
+    ) -> Result<Result<KeptRead, KeptRefused>, AllocError>
+        ensures said { IfOk result (λ it. IfOk it (λ read. said_of read.said
+            ≡ kept_said (lines_kept (option_map (λ key. key.now) key.entry) text.now))) }
+        ensures lines { IfOk result (λ it. IfOk it (λ read. map
+            (named_said (line_names read.reader)) (taken (map said_in read.lines.items))
+            ≡ named_in (option_map (λ key. key.now) key.entry) kept_members text.now)) }
         ensures ends { IfOk result (λ it. OnOk it (EndsALine text.now)) }
     {
         a_space_more_is_of_one_line();
         let members = members_kept(alloc)?;
         let mut reader = LineReader::new(alloc, key, &members)?;
         let lines = reader.feed(alloc, text)?;
-        let mut kept = KeptText::new(alloc);
-        if let Err(refused) = kept.add_all(alloc, lines)? {
+        let mut said = KeptText::new(alloc);
+        if let Err(refused) = said.add_all(alloc, &lines)? {
             return Ok(Err(refused));
         }
         match reader.finish(alloc)? {
-            Some(_) => Ok(Err(kept.refusal(Some(Why::NotJson)))),
-            None => Ok(Ok(kept)),
+            Some(_) => Ok(Err(said.refusal(Some(Why::NotJson)))),
+            None => Ok(Ok(KeptRead {
+                said,
+                lines,
+                reader,
+            })),
         }
     }
 
@@ -92,11 +112,11 @@ impl KeptText {
     fn add_all(
         &mut self,
         alloc: Global,
-        lines: Vec<Result<ReadLine, Why>>,
+        lines: &[Result<ReadLine, Why>],
     ) -> Result<Result<(), KeptRefused>, AllocError>
         ensures { IfOk result (λ it. OnOk it ((before : List SaidLine)
             → said_of self.old ≡ kept_said before
-            → said_of self.new ≡ kept_said (before ++ taken (map said_in lines.items)))) }
+            → said_of self.new ≡ kept_said (before ++ taken (map said_in lines.now)))) }
     {
         for read in lines {
             if let Err(refused) = self.add(alloc, read)? {
@@ -110,17 +130,17 @@ impl KeptText {
     fn add(
         &mut self,
         alloc: Global,
-        read: Result<ReadLine, Why>,
+        read: &Result<ReadLine, Why>,
     ) -> Result<Result<(), KeptRefused>, AllocError>
         ensures { IfOk result (λ it. OnOk it ((before : List SaidLine)
             → said_of self.old ≡ kept_said before
-            → said_of self.new ≡ kept_said (before ++ taken (said_in read ∷ [])))) }
+            → said_of self.new ≡ kept_said (before ++ taken (said_in read.now ∷ [])))) }
     {
         let read = match read {
             Ok(read) => read,
-            Err(why) => return Ok(Err(self.refusal(Some(why)))),
+            Err(why) => return Ok(Err(self.refusal(Some(*why)))),
         };
-        let Some(kept) = kept_as(alloc, &read)? else {
+        let Some(kept) = kept_as(alloc, read)? else {
             return Ok(Err(self.refusal(None)));
         };
         if !self.take(kept)? {
@@ -227,6 +247,21 @@ fn number_in(alloc: Global, text: &str) -> Result<Option<u64>, AllocError>
     Ok(Some(number))
 }
 
+/// The name of a client, if it is known.
+pub(crate) fn client_name(reader: &LineReader, client: Option<u32>) -> Option<&str>
+    ensures { option_map (λ name. name.now) result
+        ≡ client_named (line_names reader.now) client }
+{
+    reader.names().name(client?)
+}
+
+/// The name of a key, where keys are kept and there is one.
+pub(crate) fn key_name(reader: &LineReader, key: Option<u32>) -> Option<&str>
+    ensures { option_map (λ name. name.now) result ≡ key_named (line_names reader.now) key }
+{
+    reader.key_names()?.name(key?)
+}
+
 /// The members by which lines are written: the one that has the keys, as it is printed.
 pub(crate) fn kept_text(
     alloc: Global,
@@ -237,7 +272,7 @@ pub(crate) fn kept_text(
 ) -> Result<String, AllocError> {
     let mut text = String::new(alloc);
     for line in kept {
-        push_call(alloc, &mut text, reader.names(), line)?;
+        push_call(alloc, &mut text, reader, line)?;
         push_key(alloc, &mut text, reader, key, line)?;
         taking.rows.push_texts(&mut text, line.number)?;
         push_kept(&mut text, taking, line)?;
@@ -249,12 +284,12 @@ pub(crate) fn kept_text(
 fn push_call(
     alloc: Global,
     out: &mut String,
-    names: &Names,
+    reader: &LineReader,
     kept: &KeptLine,
 ) -> Result<(), AllocError> {
     let line = kept.line;
     write!(out, "{{")?;
-    if let Some(name) = line.client.and_then(|client| names.name(client)) {
+    if let Some(name) = client_name(reader, line.client) {
         let name = printed_name(alloc, name)?;
         write!(out, "\"client\":{name},")?;
     }
@@ -288,11 +323,7 @@ fn push_key(
     let Some(member) = member else {
         return Ok(());
     };
-    let name = reader
-        .key_names()
-        .zip(kept.key)
-        .and_then(|(names, key)| names.name(key));
-    if let Some(name) = name {
+    if let Some(name) = key_name(reader, kept.key) {
         let name = printed_name(alloc, name)?;
         write!(out, ",{member}:{name}")?;
     }

@@ -1,34 +1,37 @@
 //! Whether a text that was written says what is kept.
 
-ghost use Rattle.std.specs.Prelude.{◌≡◌, ◌<◌, ℕ, All, IfOk, IsPermutation, List, None, Option};
-ghost use Rattle.std.specs.Prelude.{Result};
+ghost use Rattle.std.specs.Prelude.{◌≡◌, ◌<◌, ◌∷◌, ℕ, [], All, IfOk, IsPermutation, List, None};
+ghost use Rattle.std.specs.Prelude.{Option, Result};
 ghost use Rattle.std.specs.Prelude.{count_by, length, map, nat_lt, true, if◌then◌else◌};
+ghost use Rattle.std.specs.List.Sorted.{IsNonDecreasing};
 ghost use Rattle.fdb_lines.specs.declared.fault.Found.{Found};
 ghost use Rattle.fdb_lines.specs.declared.line.Line.{Line};
-ghost use Rattle.fdb_lines.specs.KeyWatch.{HasSeenByKey};
+ghost use Rattle.fdb_lines.specs.KeyWatch.{HasSeenByKey, IsKept};
 ghost use Rattle.fdb_log_reader.specs.declared.error.Why.{Why};
 ghost use Rattle.fdb_log_reader.specs.LineReader.{line_names};
-ghost use Rattle.fdb_log_reader.specs.ReadLine.{SaidLine, member_in};
-ghost use Rattle.fdb_audit.specs.Following.{Start, taken};
-ghost use Rattle.fdb_audit.specs.Kept.{kept_at, kept_said, lines_kept, places_kept};
+ghost use Rattle.fdb_log_reader.specs.ReadLine.{SaidLine, member_in, said_in};
+ghost use Rattle.fdb_audit.specs.Following.{Start, keys_taken, lines_taken, taken};
+ghost use Rattle.fdb_audit.specs.Kept.{client_named, kept_at, kept_members, kept_said, key_named};
+ghost use Rattle.fdb_audit.specs.Kept.{lines_kept, named_in, named_said, places_kept};
 ghost use Rattle.fdb_audit.specs.Taken.{AreTaken, kept_by};
-ghost use Rattle.fdb_audit.specs.private.KeptTexts.{number_of};
+ghost use Rattle.fdb_audit.specs.private.KeptTexts.{named_kept, number_of, said_of};
 ghost use Rattle.fdb_audit.specs.private.Numbering.{AreNumbersOf};
 
-use crate::kept::KeptText;
+use crate::kept::{KeptText, client_name, key_name};
 use crate::numbering::Numbering;
 use crate::refused::KeptRefused;
 use crate::taking::Taking;
-use fdb_lines::{KeptLine, KeyWatch};
-use fdb_log_reader::LineReader;
+use fdb_lines::{KeptLine, KeyWatch, Line};
+use fdb_log_reader::{LineReader, ReadLine, Why};
 use std::alloc::{AllocError, Global};
 
 /// The lines that a watch keeps, in the order in which they came.
 pub(crate) fn kept_in_order(alloc: Global, watch: &KeyWatch) -> Result<Vec<KeptLine>, AllocError>
-    ensures { IfOk result (λ kept. (lines : List Line) → (keys : List (Option ℕ))
+    ensures rise { IfOk result (λ kept. IsNonDecreasing (map number_of kept.items)) }
+    ensures kept { IfOk result (λ kept. (lines : List Line) → (keys : List (Option ℕ))
         → HasSeenByKey watch.now lines keys
         → IsPermutation (places_kept watch.now) (map number_of kept.items)
-        × All (λ place. place < length lines) (map number_of kept.items)) }
+        × All (IsKept lines keys) kept.items) }
 {
     let mut kept = watch.kept(alloc)?;
     kept.sort_unstable_by_key(|line| line.number);
@@ -36,7 +39,7 @@ pub(crate) fn kept_in_order(alloc: Global, watch: &KeyWatch) -> Result<Vec<KeptL
 }
 
 /// Their places among all lines that were taken.
-pub(crate) fn places_of(alloc: Global, kept: &[KeptLine]) -> Result<Vec<u64>, AllocError>
+fn places_of(alloc: Global, kept: &[KeptLine]) -> Result<Vec<u64>, AllocError>
     ensures { IfOk result (λ places. places.items ≡ map number_of kept.now) }
 {
     let mut places = Vec::with_capacity(alloc, kept.len())?;
@@ -46,33 +49,53 @@ pub(crate) fn places_of(alloc: Global, kept: &[KeptLine]) -> Result<Vec<u64>, Al
     Ok(places)
 }
 
-/// Reads back a text: why it does not say that the lines at these places are kept, if it does not.
+/// Reads back a text: why it does not say that these lines are kept, if it does not.
 pub(crate) fn refusal_of(
     alloc: Global,
     reader: &LineReader,
     taking: &Taking,
-    places: &[u64],
+    kept: &[KeptLine],
     text: &[u8],
 ) -> Result<Option<KeptRefused>, AllocError>
-    ensures { IfOk result (λ it. it ≡ None → (start : Start)
+    ensures said { IfOk result (λ it. it ≡ None → (start : Start)
         → (read : List (Result SaidLine Why)) → (told : List Found)
         → AreTaken start taking.now read told
-        → All (λ place. place < length (taken read)) places.now
-        → kept_said (lines_kept (member_in (line_names reader.now)) text.now)
-        ≡ kept_at start.numbers read places.now taking.now.settled taking.now.watch.from) }
+        → All (IsKept (lines_taken read) (keys_taken read)) kept.now
+        → kept_said (lines_kept (member_in (line_names reader.now)) text.now) ≡ kept_at
+        start.numbers read (map number_of kept.now) taking.now.settled taking.now.watch.from) }
+    ensures lines { IfOk result (λ it. it ≡ None → let names = line_names reader.now in
+        named_in (member_in names) kept_members text.now ≡ map (named_kept names) kept.now) }
 {
-    let said = match KeptText::read(alloc, reader.key_member(), text)? {
-        Ok(said) => said,
+    let read = match KeptText::read(alloc, reader.key_member(), text)? {
+        Ok(read) => read,
         Err(refused) => return Ok(Some(refused)),
     };
+    let places = places_of(alloc, kept)?;
+    let is_kept = says_kept(alloc, &read.said, taking, &places)?;
+    if is_kept && are_said(&read.lines, &read.reader, kept, reader) {
+        return Ok(None);
+    }
+    Ok(Some(KeptRefused { line: 0, why: None }))
+}
+
+/// Whether a text says that the lines at these places are kept.
+fn says_kept(
+    alloc: Global,
+    said: &KeptText,
+    taking: &Taking,
+    places: &[u64],
+) -> Result<bool, AllocError>
+    ensures { IfOk result (λ it. it ≡ true → (start : Start)
+        → (read : List (Result SaidLine Why)) → (told : List Found)
+        → AreTaken start taking.now read told
+        → All (λ place. place < length (taken read)) places.now → said_of said.now
+        ≡ kept_at start.numbers read places.now taking.now.settled taking.now.watch.from) }
+{
     let numbers = numbers_at(alloc, &taking.numbering, places)?;
     let come = count_below(places, taking.settled);
     let more = taking.line_count().saturating_sub(places.len() as u64);
     let at = settled_if(come > 0, taking.watch.settled_to());
-    if says(&said, &numbers, come, more, at) {
-        return Ok(None);
-    }
-    Ok(Some(KeptRefused { line: 0, why: None }))
+    Ok(says(said, &numbers, come, more, at))
 }
 
 /// Whether a text says this.
@@ -84,6 +107,69 @@ fn says(said: &KeptText, numbers: &[u64], told: usize, more: u64, settled: u64) 
         && said.told == told
         && said.more == more
         && said.settled == settled
+}
+
+/// Whether lines that were read back, by the names of a reader, say what those do that are kept, by
+/// the names of theirs.
+fn are_said(
+    said: &[Result<ReadLine, Why>],
+    reader: &LineReader,
+    kept: &[KeptLine],
+    theirs: &LineReader,
+) -> bool
+    ensures { result ≡ true → map (named_said (line_names reader.now)) (taken (map said_in said.now))
+        ≡ map (named_kept (line_names theirs.now)) kept.now }
+{
+    if said.len() != kept.len() {
+        return false;
+    }
+    for (one, other) in said.iter().zip(kept) {
+        if !is_said(one, reader, other, theirs) {
+            return false;
+        }
+    }
+    true
+}
+
+/// Whether one of them is read, and does.
+fn is_said(
+    said: &Result<ReadLine, Why>,
+    reader: &LineReader,
+    kept: &KeptLine,
+    theirs: &LineReader,
+) -> bool
+    ensures { result ≡ true → map (named_said (line_names reader.now)) (taken (said_in said.now ∷ []))
+        ≡ named_kept (line_names theirs.now) kept.now ∷ [] }
+{
+    match said {
+        Ok(said) => {
+            is_same_call(&said.line, &kept.line) && has_same_names(said, reader, kept, theirs)
+        }
+        Err(_) => false,
+    }
+}
+
+/// Whether two lines say that the same was done, at the same times.
+fn is_same_call(one: &Line, other: &Line) -> bool
+    ensures { result ≡ true → (one.now.call ≡ other.now.call) × (one.now.times ≡ other.now.times) }
+{
+    one.call == other.call && one.times == other.times
+}
+
+/// Whether a line that was read has the names of one that is kept, of its client and its key.
+fn has_same_names(
+    said: &ReadLine,
+    reader: &LineReader,
+    kept: &KeptLine,
+    theirs: &LineReader,
+) -> bool
+    ensures { result ≡ true → (client_named (line_names reader.now) said.now.line.client
+        ≡ client_named (line_names theirs.now) kept.now.line.client)
+        × (key_named (line_names reader.now) said.now.key
+        ≡ key_named (line_names theirs.now) kept.now.key) }
+{
+    client_name(reader, said.line.client) == client_name(theirs, kept.line.client)
+        && key_name(reader, said.key) == key_name(theirs, kept.key)
 }
 
 /// Up to when all was told, if that is said.

@@ -1,44 +1,44 @@
-use Rattle.std.proofs.Common.{◌≡◌, ◌∙◌, ◌<◌, ◌+◌, ◌-◌, ◌≤◌, ℕ, IfOk, ap, arith, if◌then◌else◌, length, map, nat_lt, option_map, subst, sym}
-use Rattle.std.specs.Prelude.{count_by}
-use Rattle.std.proofs.lemmas.List.Elements.{All-weaker}
+use Rattle.std.proofs.Common.{◌≡◌, ◌∙◌, ◌<◌, IfOk, List, Result, ap, length, map, option_map, subst, sym, ℕ}
+use Rattle.std.specs.List.{All}
+use Rattle.std.proofs.lemmas.List.{length-map}
+use Rattle.std.proofs.lemmas.List.Elements.{All-map, All-weaker}
+use Rattle.fdb_lines.specs.declared.key_part.KeptLine.{KeptLine}
+use Rattle.fdb_lines.specs.KeyWatch.{IsKept}
+use Rattle.fdb_log_reader.specs.declared.error.Why.{Why}
+use Rattle.fdb_log_reader.specs.declared.read_line.ReadLine.{ReadLine}
 use Rattle.fdb_log_reader.specs.LineReader.{line_names}
-use Rattle.fdb_log_reader.specs.ReadLine.{member_in}
-use Rattle.fdb_audit.specs.Following.{KeptNumbers, number_in, taken}
-use Rattle.fdb_audit.specs.Kept.{kept_said, lines_kept}
-use Rattle.fdb_audit.specs.private.KeptTexts.{said_of}
-use Rattle.fdb_audit.specs.private.Numbering.{AreNumbersOf}
-use Rattle.fdb_audit.proofs.Following.{counted}
-use Rattle.fdb_audit.proofs.KeptTexts.{said_same}
+use Rattle.fdb_log_reader.specs.ReadLine.{SaidLine, member_in, said_in}
+use Rattle.fdb_audit.specs.Following.{keys_taken, lines_taken, taken}
+use Rattle.fdb_audit.specs.Kept.{kept_at, kept_members, kept_said, lines_kept, named_in, named_said}
+use Rattle.fdb_audit.specs.private.KeptTexts.{number_of, said_of}
 use Rattle.fdb_audit.proofs.read_back.refusal_of.Goals as goal
 
-pub returns-then-says : goal.returns-then-says
-returns-then-says c = λ _ start read told are within.
-    let said = c.in-Ok.said in
+pub returns-then-are_said-clause-said : goal.returns-then-are_said-clause-said
+returns-then-are_said-clause-said c = λ _ start read told are each.
     let text = c.args.text.now in
-    let places = c.args.places.now in
     let taking = c.args.taking.now in
-    let same = c.says.ensures c.if-says.true in
-    let said_is : said_of said ≡ kept_said (lines_kept (member_in (line_names c.args.reader.now)) text) =
-    subst (λ read. IfOk read (λ kept. said_of kept ≡ kept_said (lines_kept (option_map (λ key. key.now) c.key_member.result) text))) c.in-Ok.is c.in_ok-said.ensures.said
+    let kept = c.args.kept.now in
+    let places : c.deref.result.now ≡ map number_of kept = c.deref.ensures.value ∙ c.in_ok-places.ensures in
+    let said : said_of c.in-Ok.read.said ≡ kept_said (lines_kept (member_in (line_names c.args.reader.now)) text) =
+    subst (λ it. IfOk it (λ read. said_of read.said ≡ kept_said (lines_kept (option_map (λ key. key.now) c.key_member.result) text))) c.in-Ok.is c.in_ok-read.ensures.said
     ∙ ap (λ key. kept_said (lines_kept key text)) c.key_member.ensures in
-    let numbers : c.in_ok-numbers.numbers.items ≡ map (number_in start.numbers read) places =
-    subst (λ (before : KeptNumbers). AreNumbersOf before taking.numbering.above.items places c.in_ok-numbers.numbers.items) are.numbered.front c.in_ok-numbers.ensures
-    read are.numbered.above are.numbered.few (All-weaker (λ place. place < length (taken read)) (λ place. place ≤ length (taken read)) (λ place lt. omega (arith, lt)) places within) in
-    let told_is : said.told ≡ count_by (λ place. nat_lt place taking.settled) places = same.1 ∙ c.count_below-come.ensures in
-    let more_is : said.more ≡ length read + start.numbers.more - length places =
-    (let is = same.2 in
-    let sub = c.saturating_sub-more.ensures in
-    let lines = c.line_count.ensures in
-    let count = are.count in
-    let above = ap length are.numbered.above in
-    let all = counted 0 read in
-    let more = ap (λ (before : KeptNumbers). before.more) are.numbered.front in
-    let few = are.numbered.few in
-    omega (arith, is, sub, lines, count, above, all, more, few)) in
-    let settled_is : said.settled ≡ (if nat_lt 0 (count_by (λ place. nat_lt place taking.settled) places) then taking.watch.from else 0) =
-    same.3 ∙ (c.settled_if-at.ensures
-    ∙ (ap (λ n. if nat_lt 0 n then c.settled_to.result else 0) c.count_below-come.ensures
-    ∙ ap (λ (at : ℕ). if nat_lt 0 (count_by (λ place. nat_lt place taking.settled) places) then at else 0) c.settled_to.ensures)) in
-    sym said_is
-    ∙ said_same said.numbers.items (map (number_in start.numbers read) places) said.more _ said.told _ said.settled _
-    (same.0 ∙ (c.deref.ensures.value ∙ numbers)) more_is told_is settled_is
+    let size = length-map (taken read) (λ (said : SaidLine). said.line) in
+    let came : All (λ place. place < length (lines_taken read)) (map number_of kept) =
+    All-map (λ place. place < length (lines_taken read)) number_of kept
+    (All-weaker (IsKept (lines_taken read) (keys_taken read)) (λ (one : KeptLine). number_of one < length (lines_taken read)) (λ one is. is.came) kept each) in
+    let within : All (λ place. place < length (taken read)) c.deref.result.now =
+    subst (λ (list : List ℕ). All (λ place. place < length (taken read)) list) (sym places) (subst (λ n. All (λ place. place < n) (map number_of kept)) size came) in
+    sym said ∙ (c.in_ok-is_kept.ensures c.if-is_kept.true start read told are within
+    ∙ ap (λ (list : List ℕ). kept_at start.numbers read list taking.settled taking.watch.from) places)
+
+pub returns-then-are_said-clause-lines : goal.returns-then-are_said-clause-lines
+returns-then-are_said-clause-lines c = λ _.
+    let text = c.args.text.now in
+    let read = c.in-Ok.read in
+    let own = line_names read.reader in
+    let lines : map (named_said own) (taken (map said_in read.lines.items)) ≡ named_in (option_map (λ key. key.now) c.key_member.result) kept_members text =
+    subst (λ it. IfOk it (λ read. map (named_said (line_names read.reader)) (taken (map said_in read.lines.items)) ≡ named_in (option_map (λ key. key.now) c.key_member.result) kept_members text))
+    c.in-Ok.is c.in_ok-read.ensures.lines in
+    ap (λ key. named_in key kept_members text) (sym c.key_member.ensures)
+    ∙ (sym lines
+    ∙ (ap (λ (items : List (Result ReadLine Why)). map (named_said own) (taken (map said_in items))) (sym c.deref-then-is_kept.ensures.value) ∙ c.are_said.ensures c.if-are_said.true))

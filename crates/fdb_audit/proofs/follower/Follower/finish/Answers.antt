@@ -5,9 +5,9 @@ use Rattle.fdb_audit.proofs.follower.Follower.finish.Goals as goal
 
 pub returns-clause-told : goal.returns-clause-told
 returns-clause-told c = λ asked start bytes told has.
-    c.in_ok-followed.ensures.told asked start bytes told true
+    (c.in_ok-followed.ensures.told asked start bytes told true
     (c.in_ok-settle_for_good.ensures.told asked start (lines_asked asked bytes) told (c.in_ok-take_last.ensures.told asked start bytes told has))
-    (c.in_ok-take_last.ensures.names asked start bytes told has ∙ ap line_names (sym c.settle_for_good.ensures.reader))
+    (c.in_ok-take_last.ensures.names asked start bytes told has ∙ ap line_names (sym c.settle_for_good.ensures.reader))).0
 
 pub returns-clause-refused : goal.returns-clause-refused
 returns-clause-refused c = λ asked start bytes told has.

@@ -1,12 +1,12 @@
 use Rattle.std.proofs.Common.{◌≡◌, ◌∙◌, ◌++◌, ◌∷◌, [], List, MatchOption, None, Option, Result, ap, append-nil, map, option_map, string_bytes, subst, sym, ℕ}
 use Rattle.fdb_log_reader.specs.declared.error.Why.{Why}
 use Rattle.fdb_log_reader.specs.declared.read_line.ReadLine.{ReadLine}
-use Rattle.fdb_log_reader.specs.LineReader.{lines_on}
-use Rattle.fdb_log_reader.specs.ReadLine.{SaidLine, lines_read, no_names, said_in}
+use Rattle.fdb_log_reader.specs.LineReader.{line_names, lines_on}
+use Rattle.fdb_log_reader.specs.ReadLine.{LineNames, SaidLine, lines_read, names_behind, no_names, said_in}
 use Rattle.fdb_log_reader.specs.Reading.{lines_in}
 use Rattle.fdb_audit.specs.Following.{taken}
-use Rattle.fdb_audit.specs.Kept.{kept_members, kept_said}
-use Rattle.fdb_audit.proofs.KeptTexts.{ends_so, on_not_err}
+use Rattle.fdb_audit.specs.Kept.{kept_members, kept_said, named_said}
+use Rattle.fdb_audit.proofs.KeptTexts.{all_read, ends_so, on_not_err}
 use Rattle.fdb_audit.proofs.kept.KeptText.read.Goals as goal
 
 none_left : (left : List (Result SaidLine Why)) (last : Option (Result ReadLine Why)) → last ≡ None
@@ -20,13 +20,31 @@ returns-clause-said c =
     let reader = c.feed.new.self in
     let lines = map said_in c.in_ok-lines.lines.items in
     let members : map string_bytes c.deref.result.now ≡ kept_members = ap (map string_bytes) c.deref.ensures.value ∙ c.in_ok-members.ensures in
-    let goes = λ (more : List ℕ).
-    sym (c.in_ok-reader.ensures.read (text ++ more) ∙ ap (λ (shown : List (List ℕ)). lines_read shown names (lines_in (text ++ more))) members) ∙ c.in_ok-lines.ensures.read more in
-    let last : lines_on reader [] ≡ [] = none_left (lines_on reader []) c.in_ok-finish.field-0 c.in-None.is c.in_ok-finish.ensures.read in
-    let all : lines_read kept_members names (lines_in text) ≡ lines =
-    ap (λ (text : List ℕ). lines_read kept_members names (lines_in text)) (sym (append-nil text)) ∙ (goes [] ∙ (ap (λ (rest : List (Result SaidLine Why)). lines ++ rest) last ∙ append-nil lines)) in
-    on_not_err c.in_ok-refused.field-0 c.in_default.not-Err c.in_ok-refused.ensures [] c.new-kept.ensures
-    ∙ ap (λ (lines : List (Result SaidLine Why)). kept_said (taken lines)) (sym all)
+    let goes : lines_read kept_members names (lines_in (text ++ [])) ≡ lines ++ lines_on reader [] =
+    sym (c.in_ok-reader.ensures.read (text ++ []) ∙ ap (λ (shown : List (List ℕ)). lines_read shown names (lines_in (text ++ []))) members) ∙ c.in_ok-lines.ensures.read [] in
+    let all = all_read kept_members names reader text lines goes (none_left (lines_on reader []) c.in_ok-finish.field-0 c.in-None.is c.in_ok-finish.ensures.read) in
+    on_not_err c.in_ok-refused.field-0 c.in_default.not-Err c.in_ok-refused.ensures [] c.new-said.ensures
+    ∙ (ap (λ (items : List (Result ReadLine Why)). kept_said (taken (map said_in items))) c.deref-2.ensures.value
+    ∙ ap (λ (lines : List (Result SaidLine Why)). kept_said (taken lines)) (sym all))
+
+pub returns-clause-lines : goal.returns-clause-lines
+returns-clause-lines c =
+    let text = c.args.text.now in
+    let names = no_names (option_map (λ key. key.now) c.args.key) in
+    let reader = c.feed.new.self in
+    let lines = map said_in c.in_ok-lines.lines.items in
+    let members : map string_bytes c.deref.result.now ≡ kept_members = ap (map string_bytes) c.deref.ensures.value ∙ c.in_ok-members.ensures in
+    let goes : lines_read kept_members names (lines_in (text ++ [])) ≡ lines ++ lines_on reader [] =
+    sym (c.in_ok-reader.ensures.read (text ++ []) ∙ ap (λ (shown : List (List ℕ)). lines_read shown names (lines_in (text ++ []))) members) ∙ c.in_ok-lines.ensures.read [] in
+    let all = all_read kept_members names reader text lines goes (none_left (lines_on reader []) c.in_ok-finish.field-0 c.in-None.is c.in_ok-finish.ensures.read) in
+    let behind : line_names c.finish.new.self ≡ names_behind kept_members names (lines_in text) =
+    sym c.in_ok-finish.ensures.behind
+    ∙ (sym (c.in_ok-lines.ensures.behind [])
+    ∙ (c.in_ok-reader.ensures.behind (text ++ [])
+    ∙ (ap (λ (shown : List (List ℕ)). names_behind shown names (lines_in (text ++ []))) members
+    ∙ ap (λ (text : List ℕ). names_behind kept_members names (lines_in text)) (append-nil text)))) in
+    ap (λ (names : LineNames). map (named_said names) (taken lines)) behind
+    ∙ ap (λ (lines : List (Result SaidLine Why)). map (named_said (names_behind kept_members names (lines_in text))) (taken lines)) (sym all)
 
 pub returns-clause-ends : goal.returns-clause-ends
 returns-clause-ends c =
