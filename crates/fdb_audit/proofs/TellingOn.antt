@@ -201,11 +201,11 @@ settled_all start asked ends old new read told faults is reader more behind coun
     }
 
 -- and where it is to be followed on
-abbrev pub told_so_far : (start : Start) (asked : AuditArguments) (old : Follower) (read : List (Result SaidLine Why)) (told : List ℕ) → IsTelling asked start old read told
+pub told_so_far : (start : Start) (asked : AuditArguments) (old : Follower) (read : List (Result SaidLine Why)) (told : List ℕ) → (is : IsTelling asked start old read told)
     → ((watch : KeyWatch) (lines : List Line) (keys : List (Option ℕ)) (told : List Found) → HasSeenByKey watch lines keys → HasTold watch lines keys told
     → IsPermutation told (audited_to watch.margin watch.from lines keys))
-    → HasToldAll asked start false old read told
-told_so_far start asked old read told is each_once = record {
+    → (all : HasToldAll asked start false old read told) × (all.windows ≡ is.windows)
+told_so_far start asked old read told is each_once = (record {
   behind = is.behind;
   windows = is.windows;
   tells = is.tells;
@@ -220,7 +220,7 @@ told_so_far start asked old read told is each_once = record {
       );
   before = is.taken.before;
   early = λ anew. early_for start old read is.taken old refl anew;
-}
+}, refl)
 
 same_arguments : (asked : AuditArguments) (start : Start) (last : Follower) → last.behind ≡ start.behind → last.teller.margin ≡ asked.opts.margin
     → is_some last.teller.key ≡ is_some asked.key → told_with last.behind last.teller (members_asked asked) ≡ followed_by asked start.behind

@@ -14,9 +14,9 @@ returns c =
     let behind = c.args.behind in
     let kept = c.in-Ok.read.said in
     let said : said_of kept ≡ kept_said (lines_kept (option_map string_bytes asked.key) text) =
-    subst (λ read. IfOk read (λ read. said_of read.said ≡ kept_said (lines_kept (option_map (λ key. key.now) c.as_deref.result) text))) c.in-Ok.is c.in_ok-kept.ensures.said
+    subst (λ read. IfOk read (λ read. said_of read.said ≡ kept_said (lines_kept (option_map (λ key. key.now) c.as_deref.result) text))) c.in-Ok.is c.in_ok-read.ensures.said
     ∙ ap (λ key. kept_said (lines_kept key text)) c.as_deref.ensures.value in
-    let ends : EndsALine text = subst (λ read. OnOk read (EndsALine text)) c.in-Ok.is c.in_ok-kept.ensures.ends in
+    let ends : EndsALine text = subst (λ read. OnOk read (EndsALine text)) c.in-Ok.is c.in_ok-read.ensures.ends in
     let unread = subst (λ numbers. IsUnread asked (start_with behind numbers) c.in_ok-follower.follower) c.new-numbering.ensures.kept c.in_ok-follower.ensures in
     subst (λ said. HasFollowed asked (start_from behind asked.opts.margin said (lines_asked asked text)) c.feed_kept.new.self text []) said
     (c.in_ok-feed_kept.ensures asked behind (said_of kept) refl refl ends unread)

@@ -12,7 +12,7 @@ use Rattle.fdb_audit.proofs.follower.Follower.stop.Goals as goal
 pub returns-clause-told : goal.returns-clause-told
 returns-clause-told c = λ asked start bytes told has.
     (c.in_ok-followed.ensures.told asked start bytes told false
-    (told_so_far start asked _ (lines_asked asked bytes) told (c.in_ok-take_last.ensures.told asked start bytes told has) c.all_is_told_up_to_where_it_settled.ensures.each_once)
+    (told_so_far start asked _ (lines_asked asked bytes) told (c.in_ok-take_last.ensures.told asked start bytes told has) c.all_is_told_up_to_where_it_settled.ensures.each_once).0
     (c.in_ok-take_last.ensures.names asked start bytes told has)).0
 
 pub returns-clause-refused : goal.returns-clause-refused
@@ -28,10 +28,11 @@ returns-clause-kept c =
     let taking = c.take_last.new.self.taking in
     let is = c.in_ok-take_last.ensures.told asked start bytes told has in
     let same = c.in_ok-take_last.ensures.names asked start bytes told has in
-    let (followed, windows) = c.in_ok-followed.ensures.told asked start bytes told false (told_so_far start asked _ read told is c.all_is_told_up_to_where_it_settled.ensures.each_once) same in (
+    let (all, windows) = told_so_far start asked _ read told is c.all_is_told_up_to_where_it_settled.ensures.each_once in
+    let (followed, as_all) = c.in_ok-followed.ensures.told asked start bytes told false all same in (
       followed,
       taking,
-      subst (λ (windows : List Window). AreTaken start taking read (start.told ++ told_in_all read windows)) (sym windows) is.taken,
+      subst (λ (windows : List Window). AreTaken start taking read (start.told ++ told_in_all read windows)) (sym (as_all ∙ windows)) is.taken,
       subst (λ key. Keeps key names start.numbers taking read (string_bytes text)) (member_asked asked bytes c.keys_stay_in_one_member.ensures)
           (subst (λ (names : LineNames). Keeps (member_in names) names start.numbers taking read (string_bytes text)) (sym same)
           (says start read (start.told ++ told_in_all read is.windows) is.taken)),
