@@ -205,22 +205,25 @@ pub told_so_far : (start : Start) (asked : AuditArguments) (old : Follower) (rea
     → ((watch : KeyWatch) (lines : List Line) (keys : List (Option ℕ)) (told : List Found) → HasSeenByKey watch lines keys → HasTold watch lines keys told
     → IsPermutation told (audited_to watch.margin watch.from lines keys))
     → (all : HasToldAll asked start false old read told) × (all.windows ≡ is.windows)
-told_so_far start asked old read told is each_once = (record {
-  behind = is.behind;
-  windows = is.windows;
-  tells = is.tells;
-  are = is.are;
-  counted = counted_for start old read is.taken old refl refl;
-  whole = λ none_before none.
-      let watch = old.taking.watch in
-      let all = start.told ++ told_in_all read is.windows in (
-        watch.from,
-        subst (λ margin. IsPermutation all (audited_to margin watch.from (lines_taken read) (keys_taken read))) is.margin
-            (each_once watch (lines_taken read) (keys_taken read) all is.taken.seen (is.taken.once none_before none)),
-      );
-  before = is.taken.before;
-  early = λ anew. early_for start old read is.taken old refl anew;
-}, refl)
+told_so_far start asked old read told is each_once = (
+  record {
+    behind = is.behind;
+    windows = is.windows;
+    tells = is.tells;
+    are = is.are;
+    counted = counted_for start old read is.taken old refl refl;
+    whole = λ none_before none.
+        let watch = old.taking.watch in
+        let all = start.told ++ told_in_all read is.windows in (
+          watch.from,
+          subst (λ margin. IsPermutation all (audited_to margin watch.from (lines_taken read) (keys_taken read))) is.margin
+              (each_once watch (lines_taken read) (keys_taken read) all is.taken.seen (is.taken.once none_before none)),
+        );
+    before = is.taken.before;
+    early = λ anew. early_for start old read is.taken old refl anew;
+  },
+  refl,
+)
 
 same_arguments : (asked : AuditArguments) (start : Start) (last : Follower) → last.behind ≡ start.behind → last.teller.margin ≡ asked.opts.margin
     → is_some last.teller.key ≡ is_some asked.key → told_with last.behind last.teller (members_asked asked) ≡ followed_by asked start.behind
