@@ -27,7 +27,8 @@ OPEN = r"note: src/\S+\.rt:\d+:\d+: (?:it is not proved that (?!the loop ends)|`
 # proof cites what went away, the message is of the name, and not of two types.
 OTHER = (
     r"`\w+`: the goal does not follow|`search`: no proof of|as printed, the two (?:types|sides)"
-    r"|computed as far as they go, the two types differ|expected type|list the missing equation"
+    r"|computed as far as they go, the two types (?:first )?differ|expected type"
+    r"|list the missing equation"
 )
 FALSE = rf"\./proofs/\S+/Answers\.antt:\d+:\d+: error: `\S+`: (?:{OTHER})"
 SHOWS = re.compile(rf"{re.escape(REFUSED)}: (?:{OPEN}|{FALSE})")
