@@ -4,11 +4,12 @@ The rows are as those of audits of whole logs.
 """
 import tempfile
 
-from ample_audits import CHEAP, DEAR, FEW, LINES, MARGINS, NUMBERS, PROGRAM, Row
+from ample_audits import CHEAP, DEAR, FEW, LINES, MARGINS, NUMBERS, PROGRAM, REFUSED, Row
 from ample_audits import all_stale, at_moment, by_model, calls, clients, ends, keyed, line
 from ample_audits import long_names, rising, rows, stale, stale_and_shown, worked
-from follow import lines_kept
-from harness import apart, fault_of, grouped, run
+from follow import lines_kept, warned_of
+from follow_model import Warned
+from harness import Ran, apart, fault_of, grouped, run
 
 # How far behind the newest end lines may begin where none is settled before the end.
 FAR = 2**40
@@ -153,12 +154,17 @@ def of_refused_lines(_program):
 def early(count):
     """Lines that begin before what was settled, which was settled as nothing more came for a while.
 
-    They come in the pieces of a pipe that keeps them apart, each of whole lines.
+    They come in the pieces of a pipe that keeps them apart, each of whole lines. It is said of the
+    first, and of each at which their number has doubled.
     """
     first = line(FAR, "commit", 5)
     rest = "".join(line(at, "read", at, "b") for at in range(count))
-    return ["--follow", "0"], [first, rest], [
-        f"audit ok {watched(count + 1, early=count, reads=count, commits=1)}"]
+    said = f"audit early {watched(count + 1, early=count, reads=count, commits=1)} judged 0"
+    warned = [Warned(at + 2, 4 * FAR + 1 - 4 * at, at + 1)
+              for at in range(count) if at + 1 & at == 0]
+    last = f"logs refused: Early {count + 1}: it began before what had been settled"
+    return ["--follow", "0"], [first, rest], Ran(
+        REFUSED, f"{said}\n".encode(), warned_of(*warned, last))
 
 
 def kept(count):
@@ -208,10 +214,10 @@ TABLES = (WATCHES, WARNED, EARLY, AGAIN)
 
 
 def of_early_lines(_program):
-    """Lines that come early are counted, however many there are."""
-    for name, _, words, (first, rest), said in rows(EARLY):
+    """Lines that come early are counted, however many there are, and then not all was judged."""
+    for name, _, words, (first, rest), wanted in rows(EARLY):
         pieces = [first.encode(), *grouped(rest.encode().splitlines(True))]
-        yield name, fault_of(apart([PROGRAM, *words], pieces), ends(said))
+        yield name, fault_of(apart([PROGRAM, *words], pieces), wanted)
 
 
 def of_kept_lines(_program):

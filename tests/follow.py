@@ -10,13 +10,13 @@ import time
 
 import clusters
 from audit_lines import CALLS, MOST_BYTES
-from audit_logs import FAULTY, OK, PROGRAM, worked_cases
+from audit_logs import FAULTY, OK, PROGRAM, REFUSED, worked_cases
 from audit_model import TOLD, printed
 from audit_search import random_lines, text_of
 from audit_streams import MUCH, told_of
 from command_line import LINE, TEXTS, WHOLE, audit
-from follow_model import WATCHED, Followed, judged_as, why_wrong
-from harness import NO_STREAM, ROOT, SECONDS, Ran, fault_of, run, spent
+from follow_model import WATCHED, Followed, Warned, judged_as, why_wrong
+from harness import NO_STREAM, ROOT, SECONDS, Ran, apart, fault_of, run, spent
 from reader import HIGHEST
 from shapes import repeated, text_of_lines, timed
 
@@ -267,15 +267,42 @@ def too_early(_program):
         case, *it = Followed(growing.given, words).told["Order", 7]
         yield "for a true reason", None if last.decode()[:-1] in case.texts(*it) else f"{last}"
         growing.started.stdin.close()
-        wanted = Ran(FAULTY, growing.out, b"fdb_audit: audit fault: Order 2\n")
+        warned = warned_of(Warned(4, 4, 1), Warned(5, 55, 2))
+        wanted = Ran(FAULTY, growing.out, warned + b"fdb_audit: audit fault: Order 2\n")
         yield "nothing more is told", fault_of(growing.end(), wanted)
     with Growing("--all", *words) as growing:
         growing.write(*STALE)
         growing.told()
         growing.write(timed("read", 5, 25, 40, "a"), timed("read", 5, 24, 25, "a"))
         growing.started.stdin.close()
-        total = b"audit total lines 4 reads 3 commits 1 asks 0 reports 0 refused 0 early 1\n"
+        total = (b"audit total lines 4 reads 3 commits 1 asks 0 reports 0 refused 0 early 1 "
+                 b"judged 1\n")
         yield "one is counted", began_with(growing.end().out.partition(b"\n")[2], total)
+    yield from unjudged_is_not_ok()
+
+
+def unjudged_is_not_ok():
+    """Where a line came early, it is not said that the audit is ok."""
+    words = ["--follow", "5"]
+    for lines, warned, counts in (
+            # A clock that is once in another unit: all that comes later is early.
+            ([timed("read", 0, 1, 7_000_000, "a"), *(
+                timed("read", 0, at, at, "b") for at in range(10, 17))],
+             [Warned(2, 6_999_985, 1), Warned(3, 6_999_984, 2), Warned(5, 6_999_982, 4)],
+             "lines 8 reads 8 commits 0 asks 0 reports 0 refused 0 early 7 judged 0"),
+            # It is judged, since it began at most 5 before what was settled.
+            ([timed("read", 0, 90, 110, "a"), timed("read", 0, 100, 101, "b")],
+             [Warned(2, 5, 1)],
+             "lines 2 reads 2 commits 0 asks 0 reports 0 refused 0 early 1 judged 1")):
+        pieces = [text_of_lines(it).encode() for it in (lines[:1], lines[1:])]
+        last = f"logs refused: Early {len(lines)}: it began before what had been settled"
+        wanted = Ran(REFUSED, f"audit early {counts}\n".encode(), warned_of(*warned, last))
+        yield f"{len(lines) - 1} early lines", fault_of(apart([PROGRAM, *words], pieces), wanted)
+
+
+def warned_of(*warned):
+    """What is said on standard error of early lines."""
+    return "".join(f"fdb_audit: {it}\n" for it in warned).encode()
 
 
 def began_with(out, wanted):

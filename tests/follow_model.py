@@ -1,18 +1,34 @@
 """What fdb_audit has to tell with --follow of a log that grows, by the audit's model."""
 import re
 from collections import defaultdict
+from typing import NamedTuple
 
 import audit_logs
 from audit_lines import CALLS, line_of, refusal
 from audit_logs import FAULT, FAULTY, OK, REFUSED
-from audit_model import Case, Log, options_of, printed
+from audit_model import Case, Log, options_of, printed, worded
 from harness import Ran, fault_of
 from reader import Refused
 
 # The kinds of faults that are told.
 WATCHED = ("Order", "NotAbove")
-# How many lines began before what was settled, as it is printed.
-EARLY = re.compile(rb'\bearly"?[: ](\d+)')
+# How many lines began before what was settled, and how many of these were judged, as it is printed.
+EARLY = re.compile(rb'\bearly"?[: ](\d+)(?:,?"? ?judged"?[: ](\d+))?')
+# One that did, as it is said on standard error, and the last, as that ends.
+EARLY_LINE = re.compile(r"fdb_audit: early line (\d+): it began (\d+) before what had been settled; "
+                        r"(\d+) so far: --follow is too small, or a clock is ahead")
+LAST_EARLY = re.compile(r"fdb_audit: logs refused: Early (\d+): it began before what had been settled")
+
+
+class Warned(NamedTuple):
+    """An early line of which it is said how long before what was settled it began."""
+    number: int
+    by: int
+    count: int
+
+    def __str__(self):
+        return (f"early line {self.number}: it began {self.by} before what had been settled; "
+                f"{self.count} so far: --follow is too small, or a clock is ahead")
 
 
 class Grown(Case):
@@ -45,15 +61,16 @@ class Followed(Log):
 
     def __init__(self, given, words):
         self.options, self.behind = asked_of(words)
-        rows, places, refused = list(rows_of(given, self.options.key)), defaultdict(list), []
+        rows, places, refused = list(rows_of(given, self.options.key)), defaultdict(list), {}
         for place, row in enumerate(rows):
             if type(row) is str:
-                refused.append(refusal(place + 1, row))
+                refused[place + 1] = f"logs refused: {refusal(place + 1, row)}"
             else:
                 places[row.key].append(place)
         self.lines, self.refused = [row for row in rows if type(row) is not str], refused
         self.cases = [Grown(rows, self.options, at, self.behind) for at in places.values()]
-        self.early, self.is_empty = 0, not rows
+        self.early, self.judged, self.last_early, self.warned = 0, 0, None, []
+        self.is_empty = not rows
         found = [it for it in super().faults() if it[1] in WATCHED]
         # By kind and number of the line.
         self.told = {(fault, case.at[k] + 1): (case, fault, k) for case, fault, k in found}
@@ -65,7 +82,13 @@ class Followed(Log):
     def counts(self):
         kinds = [line.kind for line in self.lines]
         counts = {"lines": len(kinds), **{f"{it}s": kinds.count(it) for it in CALLS}}
-        return {**counts, "refused": len(self.refused), "early": self.early}
+        counts = {**counts, "refused": len(self.refused), "early": self.early}
+        return {**counts, "judged": self.judged} if self.early else counts
+
+    def head(self):
+        if self.options.json or not self.early:
+            return super().head()
+        return [f"audit early {worded(self.counts())}"]
 
     def total(self):
         asked = self.options
@@ -83,10 +106,14 @@ class Followed(Log):
     def ended(self, said, first):
         """How the program ends that told these lines, and this fault first, if any."""
         said = [*said, *(self.totals() if self.told else self.head())]
-        refused = [f"logs refused: {it}" for it in self.refused]
-        last = [f"logs refused: {refusal(0, 'Empty')}"] if self.is_empty else refused[-1:]
+        warnings = {**self.refused, **{it.number: str(it) for it in self.warned}}
+        last = [f"logs refused: {refusal(0, 'Empty')}"] if self.is_empty else [
+            *self.refused.values()][-1:]
+        if not last and self.last_early is not None:
+            last = [f"logs refused: Early {self.last_early}: it began before what had been settled"]
         last = [f"audit fault: {first[0]} {first[1]}"] if self.told else last
-        err = "".join(f"fdb_audit: {it}\n" for it in [*refused, *last])
+        err = "".join(f"fdb_audit: {it}\n" for it in [
+            *(warnings[number] for number in sorted(warnings)), *last])
         status = FAULTY if self.told else REFUSED if last else OK
         return Ran(status, "".join(f"{it}\n" for it in said).encode(), err.encode())
 
@@ -141,10 +168,9 @@ def why_wrong(given, words, ran, most_early=0):
         return f"it tells {sorted(names)} of {sorted(log.told)}"
     if log.is_listed:
         log.told = {name: log.told[name] for name in names}
-    early = EARLY.search(ran.out)
-    log.early = int(early[1]) if early else 0
-    if log.early > most_early:
-        return f"{log.early} lines came early, where {most_early} are the most"
+    wrong = early_wrong(log, ran, most_early)
+    if wrong:
+        return wrong
     # With totals alone standard error tells which fault was the first.
     first = names[0] if names else tuple(ran.err.decode().split()[-2:])
     is_known = names or not log.told or first in [(it, str(number)) for it, number in log.told]
@@ -159,6 +185,30 @@ def why_wrong(given, words, ran, most_early=0):
         ran, ended = (it._replace(out=sorted(it.out.splitlines())) for it in (ran, ended))
         return None if ran == ended else f"{ran} in place of {ended}"
     return fault_of(ran, ended)
+
+
+def early_wrong(log, ran, most_early):
+    """What is wrong with what is said of early lines, or None; the log has it then."""
+    counts, lines = EARLY.search(ran.out), ran.err.decode().splitlines()
+    log.warned = [Warned(*map(int, it.groups())) for it in map(EARLY_LINE.fullmatch, lines) if it]
+    last = LAST_EARLY.fullmatch(lines[-1]) if lines else None
+    log.last_early = int(last[1]) if last else None
+    # Of a fault alone it is not said how many lines came early.
+    said = [it.count for it in log.warned]
+    log.early, log.judged = (int(it or 0) for it in counts.groups()) if counts else (
+        max(said, default=0), 0)
+    if not log.judged <= log.early <= most_early:
+        return f"{log.early} came early and {log.judged} were judged, where {most_early} are the most"
+    if [it for it in range(1, log.early + 1) if it & it - 1 == 0] != said:
+        return f"of {log.early} early lines it is said {said}"
+    numbers = [it.number for it in log.warned]
+    is_last = log.last_early is None or numbers[-1] <= log.last_early and (
+        log.early not in said or numbers[-1] == log.last_early)
+    taken = set(range(1, len(log.lines) + len(log.refused) + 1)) - set(log.refused)
+    is_taken = {*numbers, log.last_early or numbers[0]} <= taken if numbers else not last
+    if numbers != sorted(set(numbers)) or not (is_taken and is_last):
+        return f"{numbers} came early, and last {log.last_early}, of {sorted(taken)}"
+    return None if all(it.by > 0 for it in log.warned) else f"{log.warned}"
 
 
 def was_told(given, words, name, line):

@@ -157,9 +157,9 @@ def refused_watches(_program):
         fault = "it is not there" if old not in texts else None
         yield f"{old} > {new}", fault or refusal_fault(
             lambda: drawn_of(LOG, changed.splitlines()), refusal)
-    early = drawn_of(LOG, texts.replace('"early":0', '"early":2').splitlines())
+    early = drawn_of(LOG, texts.replace('"early":0', '"early":2,"judged":1').splitlines())
     yield "early lines", differing("account", early.account.split("\n")[2:], [
-        "2 lines came early, and may not have been judged."])
+        "2 lines came early, of which 1 were judged."])
     for line in (*NO_LINES, *LINES):
         given = line + b"\n" + LOG
         said = judged_as(given, ["--follow", "5", "--json", "--key", "key"]).out.decode()

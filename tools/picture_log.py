@@ -223,7 +223,8 @@ class Log:
             more = ", .." * (len(self.refused) > MOST_NAMED)
             yield f"{counted(len(self.refused), 'refused line')} left out: {numbers}{more}."
         if early:
-            yield f"{counted(early, 'line')} came early, and may not have been judged."
+            judged = self.said.total("judged")
+            yield f"{counted(early, 'line')} came early, of which {judged} were judged."
         if not self.said.is_ended:
             yield "The watch had not ended: some of the lines were not judged yet."
         elif read < self.count:

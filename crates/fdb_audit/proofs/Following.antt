@@ -25,7 +25,8 @@ use Rattle.fdb_audit.specs.declared.numbering.Numbering.{Numbering}
 use Rattle.fdb_audit.specs.declared.taking.Taking.{Taking}
 use Rattle.fdb_audit.specs.Following.{KeptNumbers, Start, keys_taken, last_refused, left_out, lines_since, lines_taken, newest_end, no_line, number_in, out_of_reach, taken, taken_above}
 use Rattle.fdb_audit.specs.Taken.{AreCounted, AreTaken, IsInReach, kept_by}
-use Rattle.fdb_audit.specs.private.Followed.{one_more}
+use Rattle.fdb_audit.specs.Warned.{AreEarly}
+use Rattle.fdb_audit.specs.private.Followed.{NotesLine, one_more}
 use Rattle.fdb_audit.specs.private.Numbering.{AreNumbersOf}
 
 -- ---- with one more line
@@ -73,7 +74,7 @@ counted above (Err why ∷ read) = let rest = counted above read in omega arith
 
 -- ---- of those that came since, with one more line
 
-drop_on : {X : Type 0} (n : ℕ) (xs ys : List X) → n ≤ length xs → drop n (xs ++ ys) ≡ drop n xs ++ ys
+pub drop_on : {X : Type 0} (n : ℕ) (xs ys : List X) → n ≤ length xs → drop n (xs ++ ys) ≡ drop n xs ++ ys
 drop_on zero xs ys le = refl
 drop_on (suc n) [] ys le = absurd (omega (arith, le))
 drop_on (suc n) (x ∷ xs) ys le = drop_on n xs ys (omega (arith, le))
@@ -237,37 +238,60 @@ in_reach_more behind old new lines line is newest from early =
       early = omega (arith, early, more, out, same);
     }
 
+-- the number of a line more that is taken
+pub line_number : (start : Start) (old new : Taking) (read : List (Result SaidLine Why)) (said : SaidLine) (told : List Found) → AreTaken start old read told
+    → old.taken + old.numbering.more + length old.numbering.above.items < 18446744073709551614 → (notes : NotesLine old.watch.from old new said.line)
+    → notes.number ≡ start.numbers.more + length read + 1
+line_number start old new read said told are room notes =
+    let all = counted 0 read in
+    let above = ap length are.numbered.above in
+    let is = notes.its_number in
+    let count = notes.count in
+    let was = are.count in
+    let same = ap (λ (numbering : Numbering). numbering.more + length numbering.above.items) notes.numbering in
+    let more = ap (λ (kept : KeptNumbers). kept.more) are.numbered.front in
+    omega (arith, all, above, is, count, was, same, more, room)
+
+-- and so there are not too many
+pub few_read : (start : Start) (old : Taking) (read : List (Result SaidLine Why)) (told : List Found) → AreTaken start old read told
+    → old.taken + old.numbering.more + length old.numbering.above.items < 18446744073709551614 → length read + 1 < 2 ^ 64 - 1
+few_read start old read told are room =
+    let all = counted 0 read in
+    let above = ap length are.numbered.above in
+    let was = are.count in
+    omega (arith, all, above, was, room)
+
 pub takes : (start : Start) (old new : Taking) (read : List (Result SaidLine Why)) (said : SaidLine) (told : List Found) → AreTaken start old read told
     → old.taken + old.numbering.more + length old.numbering.above.items < 18446744073709551614
     → HasSeenByKey new.watch (lines_taken read ++ said.line ∷ []) (keys_taken read ++ said.key ∷ [])
-    → new.numbering ≡ old.numbering → new.taken ≡ old.taken + 1 → new.refused ≡ old.refused
-    → ((lines : List Line) → length lines + 1 < 2 ^ 64 → AreCounted old.counts lines → AreCounted new.counts (lines ++ said.line ∷ []))
-    → new.counts.early ≡ one_more (nat_lt (began said.line) old.watch.from) old.counts.early
-    → new.newest ≡ max old.newest (unwrap_or (ended said.line) 0) → new.watch.from ≡ old.watch.from
+    → (notes : NotesLine old.watch.from old new said.line) → new.watch.from ≡ old.watch.from
     → (HasTold old.watch (lines_taken read) (keys_taken read) told → old.watch.from ≤ began said.line
     → HasTold new.watch (lines_taken read ++ said.line ∷ []) (keys_taken read ++ said.key ∷ []) told)
+    → AreEarly start.numbers.more (read ++ Ok said ∷ []) new.counts.early new.counts.judged new.counts.last_early
     → AreTaken start new (read ++ Ok said ∷ []) told
-takes start old new read said told are room seen numbering count refused counts early newest from tells =
+takes start old new read said told are room seen notes from tells came =
     let more = read ++ Ok said ∷ [] in
     let all = counted 0 read in
     let above = ap length are.numbered.above in
     let size = length_push read (Ok said) in
     let few = are.numbered.few in
+    let early = notes.came.early in
     record {
       seen = subst (λ lines. HasSeenByKey new.watch lines (keys_taken more)) (sym (lines_more read said))
           (subst (HasSeenByKey new.watch (lines_taken read ++ said.line ∷ [])) (sym (keys_more read said)) seen);
       numbered = record {
-        above = ap (λ (numbering : Numbering). numbering.above.items) numbering ∙ (are.numbered.above ∙ sym (above_same 0 read said));
-        front = ap kept_by numbering ∙ are.numbered.front;
+        above = ap (λ (numbering : Numbering). numbering.above.items) notes.numbering ∙ (are.numbered.above ∙ sym (above_same 0 read said));
+        front = ap kept_by notes.numbering ∙ are.numbered.front;
         few = (let was = are.count in let more = ap (λ (kept : KeptNumbers). kept.more) are.numbered.front in omega arith);
       };
-      count = count ∙ (ap (λ n. n + 1) are.count ∙ (sym (length_push (taken read) said) ∙ ap length (sym (taken_more read said))));
-      refused = refused ∙ (are.refused ∙ sym (last_same (start.numbers.more + 1) None read said));
+      count = notes.count ∙ (ap (λ n. n + 1) are.count ∙ (sym (length_push (taken read) said) ∙ ap length (sym (taken_more read said))));
+      refused = notes.refused ∙ (are.refused ∙ sym (last_same (start.numbers.more + 1) None read said));
       counted = subst (AreCounted new.counts) (sym (since_more start read said are.few))
-          (counts (lines_since start read) (let least = since_few start read in omega (arith, least, few)) are.counted);
+          (notes.counted (lines_since start read) (let least = since_few start read in omega (arith, least, few)) are.counted);
       few = (let was = are.few in omega (arith, was, size));
       before = are.before;
-      reach = λ anew. subst (IsInReach start.behind new) (sym (lines_more read said)) (in_reach_more start.behind old new (lines_taken read) said.line (are.reach anew) newest from early);
+      reach = λ anew. subst (IsInReach start.behind new) (sym (lines_more read said)) (in_reach_more start.behind old new (lines_taken read) said.line (are.reach anew) notes.newest from early);
+      came = came;
       once = λ none_before none.
           let is = none_early (nat_lt (began said.line) old.watch.from) old.counts.early (sym early ∙ none) in
           subst (λ lines. HasTold new.watch lines (keys_taken more) told) (sym (lines_more read said))
@@ -275,21 +299,34 @@ takes start old new read said told are room seen numbering count refused counts 
           (tells (are.once none_before is.1) (in_time (began said.line) old.watch.from is.0)));
     }
 
+-- the number of a line more that is left out
+pub left_number : (start : Start) (old new : Taking) (read : List (Result SaidLine Why)) (why : Why) (told : List Found) (number : ℕ) → AreTaken start old read told
+    → old.taken + old.numbering.more + length old.numbering.above.items < 18446744073709551614
+    → new.numbering.above.items ≡ old.numbering.above.items ++ old.taken ∷ [] → kept_by new.numbering ≡ kept_by old.numbering → new.taken ≡ old.taken
+    → number ≡ min (new.taken + new.numbering.more + length new.numbering.above.items) (2 ^ 64 - 1) → number ≡ start.numbers.more + 1 + length read
+left_number start old new read why told number are room above same count is =
+    let all = counted 0 read in
+    let was_above = ap length are.numbered.above in
+    let longer = ap length above ∙ length_push old.numbering.above.items old.taken in
+    let more_is = ap (λ (kept : KeptNumbers). kept.more) are.numbered.front in
+    let more_same = ap (λ (kept : KeptNumbers). kept.more) same in
+    let was = are.count in
+    omega (arith, is, was, count, more_is, more_same, all, was_above, longer, room)
+
 pub leaves_out : (start : Start) (old new : Taking) (read : List (Result SaidLine Why)) (why : Why) (told : List Found) (number : ℕ) → AreTaken start old read told
     → old.taken + old.numbering.more + length old.numbering.above.items < 18446744073709551614
     → new.watch ≡ old.watch → new.numbering.above.items ≡ old.numbering.above.items ++ old.taken ∷ [] → kept_by new.numbering ≡ kept_by old.numbering
     → new.taken ≡ old.taken → new.counts ≡ old.counts → new.refused ≡ Some (record { line = number; why = why })
     → number ≡ min (new.taken + new.numbering.more + length new.numbering.above.items) (2 ^ 64 - 1) → new.newest ≡ old.newest
+    → AreEarly start.numbers.more (read ++ Err why ∷ []) new.counts.early new.counts.judged new.counts.last_early
     → AreTaken start new (read ++ Err why ∷ []) told
-leaves_out start old new read why told number are room watch above same count counts refused is newest =
+leaves_out start old new read why told number are room watch above same count counts refused is newest came =
     let more = read ++ Err why ∷ [] in
     let all = counted 0 read in
     let was_above = ap length are.numbered.above in
     let size = length_push read (Err why) in
     let from_none : length (taken read) ≡ 0 + length (taken read) = omega arith in
-    let longer = ap length above ∙ length_push old.numbering.above.items old.taken in
     let more_is = ap (λ (kept : KeptNumbers). kept.more) are.numbered.front in
-    let more_same = ap (λ (kept : KeptNumbers). kept.more) same in
     record {
       seen = subst (λ lines. HasSeenByKey new.watch lines (keys_taken more)) (sym (lines_same read why))
           (subst (HasSeenByKey new.watch (lines_taken read)) (sym (keys_same read why))
@@ -301,12 +338,11 @@ leaves_out start old new read why told number are room watch above same count co
         few = (let was = are.count in omega (arith, was, more_is, all, was_above, size, room));
       };
       count = count ∙ (are.count ∙ ap length (sym (taken_same read why)));
-      refused = refused ∙ (ap (λ n. Some (error_at n why))
-          (let was = are.count in let at : number ≡ start.numbers.more + 1 + length read = omega (arith, is, was, count, more_is, more_same, all, was_above, longer, room) in at)
-          ∙ sym (last_more (start.numbers.more + 1) None read why));
+      refused = refused ∙ (ap (λ n. Some (error_at n why)) (left_number start old new read why told number are room above same count is) ∙ sym (last_more (start.numbers.more + 1) None read why));
       counted = subst (AreCounted new.counts) (sym (since_same start read why are.few)) (subst (λ counts. AreCounted counts (lines_since start read)) (sym counts) are.counted);
       few = (let was = are.few in omega (arith, was, size));
       before = are.before;
+      came = came;
       reach = λ anew.
           let was = are.reach anew in
           subst (IsInReach start.behind new) (sym (lines_same read why)) (record {

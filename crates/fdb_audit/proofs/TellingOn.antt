@@ -19,6 +19,7 @@ use Rattle.fdb_audit.specs.declared.teller.Teller.{Teller}
 use Rattle.fdb_audit.specs.Following.{AreWindows, FollowArguments, IsCounted, IsEnd, Start, Window, first_told, keys_taken, kinds_told, lines_taken, lines_told, out_of_reach, told_in_all}
 use Rattle.fdb_audit.specs.Watched.{HasFollowed, HasToldAll, IsComplete, IsFollowed, IsTelling, IsTold, followed_by, lines_asked, members_asked, names_asked}
 use Rattle.fdb_audit.specs.private.Followed.{AreTaken, HasTotals, IsUnread, TellsOn, counted_of, told_with}
+use Rattle.fdb_audit.specs.Warned.{AreEarly}
 use Rattle.fdb_audit.proofs.Windows.{first_on, first_stays, kinds_on, lines_on as all_lines_on, lines_stay, told_on, told_stays, windows_on, windows_stay, windows_within}
 
 -- nothing has been read
@@ -196,6 +197,7 @@ settled_all start asked ends old new read told faults is reader more behind coun
       counted = counted_for start old read is.taken new counts numbering;
       before = is.taken.before;
       early = λ anew. early_for start old read is.taken new counts anew;
+      came = subst (λ (counts : Counts). AreEarly start.numbers.more read counts.early counts.judged counts.last_early) (sym counts) is.taken.came;
       whole = λ none_before none. subst (IsComplete ends asked.opts.margin read) (faults_on start old.teller new.teller asked.opts.margin read names is.windows faults more)
           (whole none_before (sym (ap (λ (counts : Counts). counts.early) counts) ∙ none));
     }
@@ -221,6 +223,7 @@ told_so_far start asked old read told is each_once = (
         );
     before = is.taken.before;
     early = λ anew. early_for start old read is.taken old refl anew;
+    came = is.taken.came;
   },
   refl,
 )
@@ -233,13 +236,13 @@ same_arguments asked start last behind margin by_key =
     ∙ (ap (λ n. make start.behind n (is_some last.teller.key)) margin ∙ ap (make start.behind asked.opts.margin) by_key)
 
 -- what is told of lines is told of a text that has them
-pub all_told : (asked : AuditArguments) (start : Start) (ends : Bool) (last : Follower) (bytes told text end : List ℕ) (found : Option LogFault)
+pub all_told : (asked : AuditArguments) (start : Start) (ends : Bool) (last : Follower) (bytes told text end : List ℕ) (found : Option LogFault) (last_early : Option ℕ)
     → (is : HasToldAll asked start ends last (lines_asked asked bytes) told) → names_asked asked bytes ≡ line_names last.reader
-    → text ≡ string_bytes last.teller.text ++ end → found ≡ last.teller.first
+    → text ≡ string_bytes last.teller.text ++ end → found ≡ last.teller.first → last_early ≡ last.taking.counts.last_early
     → IsEnd (not (is_some last.teller.first) && not last.teller.wanted.json) last.teller.wanted.totals last.teller.wanted.json (counted_of last.taking) (told_with last.behind last.teller (members_asked asked))
     (map printed (line_names last.reader).clients) (lines_told (lines_asked asked bytes) is.windows) (kinds_told is.windows) end
-    → (followed : IsFollowed asked start ends bytes (told ++ text) found) × (followed.windows ≡ is.windows)
-all_told asked start ends last bytes told text end found is names texts first end_is =
+    → (followed : IsFollowed asked start ends bytes (told ++ text) found last_early) × (followed.windows ≡ is.windows)
+all_told asked start ends last bytes told text end found last_early is names texts first early end_is =
     let read = lines_asked asked bytes in
     let lines = lines_told read is.windows in
     let kinds = kinds_told is.windows in (
@@ -264,6 +267,7 @@ all_told asked start ends last bytes told text end found is names texts first en
         whole = is.whole;
         before = is.before;
         early = is.early;
+        came = subst (AreEarly start.numbers.more read last.taking.counts.early last.taking.counts.judged) (sym early) is.came;
       },
       refl,
     )

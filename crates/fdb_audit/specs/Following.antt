@@ -1,5 +1,5 @@
 -- What is told of a log that is followed as it grows. (this product's own)
-use Rattle.std.specs.Prelude.{◌≡◌, ℕ, ◌+◌, ◌≤◌, ◌++◌, ◌||◌, nat_le, not, Bool, true, false, List, [], ◌∷◌, All, Option, None, Some, codes, cond, count_by, drop, length, map, max, nat_lt, option_map, slice_get, slice_index, take, unwrap_or, Result, Ok, Err, if◌then◌else◌}
+use Rattle.std.specs.Prelude.{◌≡◌, ℕ, zero, suc, ◌+◌, ◌≤◌, ◌++◌, ◌||◌, nat_le, not, Bool, true, false, List, [], ◌∷◌, All, Option, None, Some, codes, cond, count_by, drop, length, map, max, nat_lt, option_map, slice_get, slice_index, take, unwrap_or, Result, Ok, Err, if◌then◌else◌}
 use Rattle.std.specs.List.{flat_map, range_with_len}
 use Rattle.std.specs.Option.{option_or}
 use Rattle.fdb_lines.specs.declared.fault.Fault.{Fault}
@@ -199,7 +199,8 @@ lines_told read windows = flat_map (λ (window : Window). lines_at (take window.
 
 -- ---- what is printed at the end
 
--- how many lines were taken, in all and of each kind; how many were refused; and how many began before what had been settled
+-- how many lines were taken, in all and of each kind; how many were refused; how many began before what had been settled, and
+-- how many of these were judged
 pub record Counted : Type 0 where
   pub lines : ℕ
   pub reads : ℕ
@@ -208,6 +209,7 @@ pub record Counted : Type 0 where
   pub reports : ℕ
   pub refused : ℕ
   pub early : ℕ
+  pub judged : ℕ
 
 pub record IsCounted (start : Start) (read : List (Result SaidLine Why)) (counts : Counted) : Type 0 where
   pub lines : counts.lines ≡ length (lines_since start read)
@@ -217,12 +219,22 @@ pub record IsCounted (start : Start) (read : List (Result SaidLine Why)) (counts
   pub reports : counts.reports ≡ how_many is_report (lines_since start read)
   pub refused : counts.refused ≡ length (taken_above 0 read)
 
+-- of lines that came early it is said how many were judged, where there are some
+abbrev pub judged_figures : ℕ → ℕ → List Figure
+judged_figures zero judged = []
+judged_figures (suc early) judged = figure (codes "judged") judged ∷ []
+
 -- these, by their names
 abbrev pub counted_figures : Counted → List Figure
 counted_figures counts =
     figure (codes "lines") counts.lines ∷ figure (codes "reads") counts.reads ∷ figure (codes "commits") counts.commits
     ∷ figure (codes "asks") counts.asks ∷ figure (codes "reports") counts.reports ∷ figure (codes "refused") counts.refused
-    ∷ figure (codes "early") counts.early ∷ []
+    ∷ figure (codes "early") counts.early ∷ judged_figures counts.early counts.judged
+
+-- what is said in front of them, where no fault was found: a log of which lines came early was not judged whole
+abbrev pub verdict_of : ℕ → List ℕ
+verdict_of zero = codes "audit ok"
+verdict_of (suc early) = codes "audit early"
 
 -- the arguments: how far behind the newest end a line may begin, the margin, whether keys are kept, and what is printed beside lines
 pub record FollowArguments : Type 0 where
@@ -250,9 +262,10 @@ abbrev pub total_head : Bool → Counted → FollowArguments → List ℕ
 total_head false counts asked = line (figures_words (codes "audit total") (counted_figures counts))
 total_head true counts asked = line (total_object (counted_figures counts) (followed_figures asked) asked.by_key asked.members)
 
--- What is printed behind all that was told: that no fault was, in words; or the totals, where they are wanted.
+-- What is printed behind all that was told: that no fault was, in words, or that none was but lines came early; or the totals,
+-- where they are wanted.
 abbrev pub IsEnd : (quiet totals json : Bool) → Counted → FollowArguments → List (List ℕ) → List Line → List Fault → List ℕ → Type 0
-IsEnd true totals json counts asked names lines kinds text = text ≡ line (figures_words (codes "audit ok") (counted_figures counts))
+IsEnd true totals json counts asked names lines kinds text = text ≡ line (figures_words (verdict_of counts.early) (counted_figures counts))
 IsEnd false false json counts asked names lines kinds text = text ≡ []
 IsEnd false true json counts asked names lines kinds text =
     (totals : List ℕ) × AreTotals json names lines kinds totals × (text ≡ total_head json counts asked ++ totals)

@@ -6,6 +6,7 @@ pub mod Totals
 pub mod Groups
 pub mod Judged
 pub mod Following
+pub mod Warned
 pub mod Taken
 pub mod Watched
 pub mod Kept

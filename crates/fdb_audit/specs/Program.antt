@@ -1,6 +1,7 @@
 -- What the program promises of itself. (this product's own)
 use Rattle.std.specs.Prelude.{◌≡◌, ◌≢◌, ℕ, ◌++◌, ◌||◌, ◌&&◌, ◌==◌, not, true, Bool, List, [], ◌∷◌, Option, None, Some, Err, codes, is_some, map, option_map, pos, string_bytes, unwrap_or, if◌then◌else◌}
 use Rattle.std.specs.List.{slice_split}
+use Rattle.std.specs.Option.{option_or}
 use Rattle.std.specs.Str.Parse.{digits_value, without_leading_plus}
 use Rattle.clap.specs.Words.{App, Rule, Text, first_of, matches_of, new_rule, one_of}
 use Rattle.fdb_command.specs.Arguments.{command_of, file_rule, flag_rule, is_set, number_rule}
@@ -17,7 +18,7 @@ use Rattle.fdb_audit.specs.declared.arguments.AuditArguments.{AuditArguments}
 use Rattle.fdb_audit.specs.declared.fault.LogFault.{LogFault}
 use Rattle.fdb_audit.specs.declared.judged.Wanted.{Wanted}
 use Rattle.fdb_audit.specs.declared.refused.LogsRefused.{LogsRefused}
-use Rattle.fdb_audit.specs.declared.refused.LogsRefused.TheVariants.{Log}
+use Rattle.fdb_audit.specs.declared.refused.LogsRefused.TheVariants.{Early, Log}
 use Rattle.fdb_audit.specs.declared.refused.LogsRefused.TheVariants.{Kept as Of_kept}
 use Rattle.fdb_audit.specs.Following.{Start, fresh, left_out}
 use Rattle.fdb_audit.specs.Kept.{start_of}
@@ -115,19 +116,29 @@ HasTaken asked (Followed log) bytes told =
 abbrev pub refused_of : AuditArguments → Start → List ℕ → Option ReadError
 refused_of asked start text = left_out start.numbers (lines_asked asked text)
 
+-- and why not all of it was judged: for that, or the last line that came early
+abbrev pub refusal_of : Option ReadError → Option ℕ → Option LogsRefused
+refusal_of refused last_early = option_or (option_map Log refused) (option_map Early last_early)
+
 -- what is printed of a log, which is refused whole or not at all, or of one that is followed, of which lines may be left out
 abbrev pub PrintsBy : Option ℕ → AuditArguments → List ℕ → List ℕ → Option LogFault → Option LogsRefused → Type 0
 PrintsBy None asked bytes text found refused = Prints asked bytes text found × (refused ≡ None)
 PrintsBy (Some behind) asked bytes text found refused =
-    (kept : List ℕ) × MayBeKept asked kept × IsFollowed asked (started asked behind kept) (not (is_some asked.keep)) (kept ++ bytes) text found
-    × (refused ≡ option_map Log (refused_of asked (started asked behind kept) (kept ++ bytes)))
+    (kept : List ℕ) × MayBeKept asked kept × (last_early : Option ℕ)
+    × IsFollowed asked (started asked behind kept) (not (is_some asked.keep)) (kept ++ bytes) text found last_early
+    × (refused ≡ refusal_of (refused_of asked (started asked behind kept) (kept ++ bytes)) last_early)
 
--- why it is refused, or why a part of it is; or what was kept is
+-- why it is refused, or why a part of it is, or that not all of it was judged; or what was kept is
 abbrev pub RefusesBy : Option ℕ → AuditArguments → List ℕ → LogsRefused → Type 0
 RefusesBy None asked bytes (Log error) = (error.why ≢ Memory) × (reading_with (key_asked asked) (shown_asked asked) bytes ≡ Err error)
+RefusesBy None asked bytes (Early number) = ⊥
 RefusesBy None asked bytes (Of_kept refused) = ⊥
 RefusesBy (Some behind) asked bytes (Log error) =
     (kept : List ℕ) × MayBeKept asked kept × (refused_of asked (started asked behind kept) (kept ++ bytes) ≡ Some error)
+RefusesBy (Some behind) asked bytes (Early number) =
+    (kept : List ℕ) × MayBeKept asked kept × (refused_of asked (started asked behind kept) (kept ++ bytes) ≡ None)
+    × (text : List ℕ) × (found : Option LogFault)
+    × IsFollowed asked (started asked behind kept) (not (is_some asked.keep)) (kept ++ bytes) text found (Some number)
 RefusesBy (Some behind) asked bytes (Of_kept refused) = is_some asked.keep ≡ true
 
 -- Neither --complete nor --history suits --follow, and --keep suits nothing else. It prints what an audit of the log finds that the bytes stand for,

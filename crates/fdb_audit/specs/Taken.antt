@@ -1,5 +1,5 @@
 -- The lines that a follower has taken, of those that were read, and what it has told of them. (this product's own)
-use Rattle.std.specs.Prelude.{◌≡◌, ℕ, ◌+◌, ◌-◌, ◌<◌, ◌≤◌, ◌^◌, Bool, true, false, All, List, MatchOption, None, Option, Result, length, map, string_bytes}
+use Rattle.std.specs.Prelude.{◌≡◌, ℕ, ◌+◌, ◌-◌, ◌<◌, ◌≤◌, ◌^◌, ◌++◌, Bool, true, false, All, List, MatchOption, None, Option, Result, length, map, string_bytes}
 use Rattle.std.specs.List.{range_with_len}
 use Rattle.fdb_lines.specs.declared.fault.Fault.{Fault}
 use Rattle.fdb_lines.specs.declared.fault.Found.{Found}
@@ -16,6 +16,7 @@ use Rattle.fdb_audit.specs.declared.taking.Taking.{Taking}
 use Rattle.fdb_audit.specs.declared.teller.Teller.{Teller}
 use Rattle.fdb_audit.specs.declared.beside.Column.{Column}
 use Rattle.fdb_audit.specs.declared.told_faults.ToldFaults.{ToldFaults}
+use Rattle.fdb_audit.specs.Warned.{AreEarly, IsSaid}
 use Rattle.fdb_audit.specs.Following.{Counted, KeptNumbers, Start, keys_taken, last_refused, lines_since, lines_taken, newest_end, out_of_reach, taken, taken_above}
 
 -- the numbers of the lines that were kept of others and come first, and how many more there were
@@ -53,7 +54,12 @@ pub record AreTaken (start : Start) (taking : Taking) (read : List (Result SaidL
   pub few : start.lines ≤ length read
   pub before : start.early ≡ 0 → All (λ (found : Found). found.line < start.lines) start.told
   pub reach : start.anew ≡ true → IsInReach start.behind taking (lines_taken read)
+  pub came : AreEarly start.numbers.more read taking.counts.early taking.counts.judged taking.counts.last_early
   pub once : start.early ≡ 0 → taking.counts.early ≡ 0 → HasTold taking.watch (lines_taken read) (keys_taken read) told
+
+-- This was said on standard error of those that came since, but for what is said next.
+abbrev pub HasWarned : Start → Taking → List (Result SaidLine Why) → List ℕ → Type 0
+HasWarned start taking read warned = IsSaid start read taking.counts.early (warned ++ string_bytes taking.warnings)
 
 -- Faults of these kinds are counted, the first of which stands at the first of these lines, and so on, with what is printed of
 -- these members beside the lines.
@@ -81,6 +87,7 @@ counted_in counts refused = record {
   reports = counts.reports;
   refused = refused;
   early = counts.early;
+  judged = counts.judged;
 }
 
 abbrev pub counted_of : Taking → Counted

@@ -1,5 +1,5 @@
 -- What has been told of a text whose log is followed. (this product's own)
-use Rattle.std.specs.Prelude.{◌≡◌, ℕ, ◌<◌, ◌≤◌, ◌&&◌, ◌++◌, Bool, true, false, not, All, IsPermutation, List, Option, is_some, map, option_map, option_to_list, string_bytes, Result}
+use Rattle.std.specs.Prelude.{◌≡◌, ℕ, ◌<◌, ◌≤◌, ◌&&◌, ◌++◌, Bool, true, false, not, All, IsPermutation, List, Option, is_some, map, nat_lt, option_map, option_to_list, string_bytes, Result}
 use Rattle.fdb_lines.specs.declared.fault.Found.{Found}
 use Rattle.fdb_lines.specs.ToldByKey.{audited, audited_to}
 use Rattle.fdb_log_reader.specs.declared.error.Why.{Why}
@@ -12,7 +12,8 @@ use Rattle.fdb_audit.specs.declared.fault.LogFault.{LogFault}
 use Rattle.fdb_audit.specs.declared.follower.Follower.{Follower}
 use Rattle.fdb_audit.specs.declared.teller.Teller.{Teller}
 use Rattle.fdb_audit.specs.Following.{AreWindows, Counted, FollowArguments, IsCounted, IsEnd, Start, Window, first_told, keys_taken, kinds_told, lines_taken, lines_told, out_of_reach, told_in_all}
-use Rattle.fdb_audit.specs.Taken.{AreTaken, HasTotals, counted_of}
+use Rattle.fdb_audit.specs.Taken.{AreTaken, HasTotals, HasWarned, counted_of}
+use Rattle.fdb_audit.specs.Warned.{AreEarly, IsSaid}
 
 -- what becomes of the lines of a text, as it is asked for
 abbrev pub lines_asked : AuditArguments → List ℕ → List (Result SaidLine Why)
@@ -55,15 +56,30 @@ pub record HasFollowed (asked : AuditArguments) (start : Start) (follower : Foll
   pub behind : (text : List ℕ) → names_asked asked (bytes ++ text) ≡ names_on follower.reader text
   pub telling : IsTelling asked start follower read told
 
+-- These bytes have been read, whatever comes after them, and this was said of their lines on standard error.
+pub record HasSaid (asked : AuditArguments) (start : Start) (follower : Follower) (bytes warned : List ℕ) : Type 0 where
+  pub read : List (Result SaidLine Why)
+  pub goes : (text : List ℕ) → lines_asked asked (bytes ++ text) ≡ read ++ lines_on follower.reader text
+  pub behind : follower.behind ≡ start.behind
+  pub told : List Found
+  pub taken : AreTaken start follower.taking read told
+  pub said : HasWarned start follower.taking read warned
+
+-- At its end this was said of all lines, where the last that came early has this number, if one did.
+abbrev pub HasSaidAll : AuditArguments → Start → List ℕ → Option ℕ → List ℕ → Type 0
+HasSaidAll asked start bytes last_early text =
+    (early : ℕ) × IsSaid start (lines_asked asked bytes) early text × (is_some last_early ≡ nat_lt 0 early)
+
 -- At the end of a log has been told, each fault once, what an audit of all lines finds; where it is to be followed on, what that
 -- finds at lines that began before some moment.
 abbrev pub IsComplete : Bool → ℕ → List (Result SaidLine Why) → List Found → Type 0
 IsComplete true margin read told = IsPermutation told (audited margin (lines_taken read) (keys_taken read))
 IsComplete false margin read told = (to : ℕ) × IsPermutation told (audited_to margin to (lines_taken read) (keys_taken read))
 
--- What is told of all lines of a text, window by window, and at the end how much was read; and the first fault, if one was told.
--- Where no line came early, it is whole; and from its beginning no more came early than began out of reach.
-pub record IsFollowed (asked : AuditArguments) (start : Start) (ends : Bool) (bytes text : List ℕ) (found : Option LogFault) : Type 0 where
+-- What is told of all lines of a text, window by window, and at the end how much was read; the first fault, if one was told, and
+-- the number of the last line that came early, if one did. Where none came early, it is whole; and from its beginning no more
+-- came early than began out of reach.
+pub record IsFollowed (asked : AuditArguments) (start : Start) (ends : Bool) (bytes text : List ℕ) (found : Option LogFault) (last_early : Option ℕ) : Type 0 where
   pub windows : List Window
   pub told : List ℕ
   pub before : start.early ≡ 0 → All (λ (found : Found). found.line < start.lines) start.told
@@ -77,6 +93,7 @@ pub record IsFollowed (asked : AuditArguments) (start : Start) (ends : Bool) (by
       (map printed (names_asked asked bytes).clients) (lines_told (lines_asked asked bytes) windows) (kinds_told windows) end
   pub whole : start.early ≡ 0 → counts.early ≡ 0 → IsComplete ends asked.opts.margin (lines_asked asked bytes) (start.told ++ told_in_all (lines_asked asked bytes) windows)
   pub early : start.anew ≡ true → counts.early ≤ out_of_reach start.behind 0 (lines_taken (lines_asked asked bytes))
+  pub came : AreEarly start.numbers.more (lines_asked asked bytes) counts.early counts.judged last_early
 
 -- all that is told of these lines has been told, but for what is told next
 pub record HasToldAll (asked : AuditArguments) (start : Start) (ends : Bool) (follower : Follower) (read : List (Result SaidLine Why)) (told : List ℕ) : Type 0 where
@@ -88,3 +105,4 @@ pub record HasToldAll (asked : AuditArguments) (start : Start) (ends : Bool) (fo
   pub counted : IsCounted start read (counted_of follower.taking)
   pub whole : start.early ≡ 0 → follower.taking.counts.early ≡ 0 → IsComplete ends asked.opts.margin read (start.told ++ told_in_all read windows)
   pub early : start.anew ≡ true → follower.taking.counts.early ≤ out_of_reach start.behind 0 (lines_taken read)
+  pub came : AreEarly start.numbers.more read follower.taking.counts.early follower.taking.counts.judged follower.taking.counts.last_early

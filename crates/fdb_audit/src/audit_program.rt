@@ -2,12 +2,12 @@
 
 ghost use Rattle.std.specs.Prelude.{◌≡◌, ◌≢◌, ◌++◌, ℕ, [], IfErr, IfOk, List, MatchResult};
 ghost use Rattle.std.specs.Prelude.{◌⊎◌, ◌&&◌, ◌||◌, is_some, map, string_bytes, IsOkAnd};
-ghost use Rattle.std.specs.Prelude.{None, not, option_map, true};
+ghost use Rattle.std.specs.Prelude.{None, Option, not, true};
 ghost use Rattle.std.specs.Thread.{IsSync};
 ghost use Rattle.clap.specs.Words.{Text};
 ghost use Rattle.fdb_audit.specs.Program.{audit, HasRead, HasTaken, IsAsked, IsWhole, Prints};
 ghost use Rattle.fdb_audit.specs.Following.{Start};
-ghost use Rattle.fdb_audit.specs.Program.{PrintsBy, refused_of};
+ghost use Rattle.fdb_audit.specs.Program.{PrintsBy, refusal_of, refused_of};
 ghost use Rattle.fdb_audit.specs.Watched.{HasFollowed, IsFollowed};
 ghost use Rattle.fdb_command.specs.Driving.{IsBegun, IsDriven, Stops};
 
@@ -218,10 +218,10 @@ fn followed<R: Files>(
     log: FollowedLog,
 ) -> Result<Output<LogsRefused, LogFault>, Failure<LogsRefused, LogFault>>
     ensures told { IfOk result (λ it. (start : Start) → (bytes told : List ℕ)
-        → HasFollowed asked.now start log.follower bytes told
-        → IsFollowed asked.now start (not (is_some asked.now.keep)) bytes
-        (told ++ it.text.items) it.found
-        × (it.refused ≡ option_map LogsRefused.Log (refused_of asked.now start bytes))) }
+        → HasFollowed asked.now start log.follower bytes told → (last_early : Option ℕ)
+        × IsFollowed asked.now start (not (is_some asked.now.keep)) bytes
+        (told ++ it.text.items) it.found last_early
+        × (it.refused ≡ refusal_of (refused_of asked.now start bytes) last_early)) }
     ensures stops { IfErr result (λ fault. (fault ≡ Failure.Memory)
         ⊎ ((fault ≡ Failure.Writing) × (is_some asked.now.keep ≡ true))) }
 {
@@ -237,13 +237,14 @@ fn followed<R: Files>(
 fn answered(it: Followed) -> Output<LogsRefused, LogFault>
     ensures text { result.text.items ≡ string_bytes it.said.text }
     ensures found { result.found ≡ it.found }
-    ensures refused { result.refused ≡ option_map LogsRefused.Log it.refused }
+    ensures refused { result.refused ≡ refusal_of it.refused it.last_early }
 {
+    let early = it.last_early.map(LogsRefused::Early);
     Output {
         text: it.said.text.into_bytes(),
         warnings: it.said.warnings.into_bytes(),
         found: it.found,
-        refused: it.refused.map(LogsRefused::Log),
+        refused: it.refused.map(LogsRefused::Log).or(early),
     }
 }
 

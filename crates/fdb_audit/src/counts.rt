@@ -1,17 +1,18 @@
 //! How much of a log has been followed.
 
 ghost use Rattle.std.specs.Prelude.{◌≡◌, ◌+◌, ◌-◌, ◌<◌, ◌^◌, ◌++◌, ◌∷◌, [], List, map, min, nat_lt};
-ghost use Rattle.std.specs.Prelude.{length};
+ghost use Rattle.std.specs.Prelude.{IfOk, None, length};
 ghost use Rattle.fdb_lines.specs.declared.line.Line.{Line};
 ghost use Rattle.fdb_lines.specs.Before.{began};
 ghost use Rattle.fdb_lines.specs.Lines.{is_ask, is_commit, is_read, is_report, kind_of};
-ghost use Rattle.fdb_audit.specs.Following.{counted_figures};
+ghost use Rattle.fdb_audit.specs.Following.{counted_figures, verdict_of};
 ghost use Rattle.fdb_audit.specs.Taken.{AreCounted};
 ghost use Rattle.fdb_audit.specs.private.{figure_of};
-ghost use Rattle.fdb_audit.specs.private.Followed.{counted_in, one_more};
+ghost use Rattle.fdb_audit.specs.private.Followed.{CameMore, counted_in, one_more};
 
 use crate::figures::Figure;
 use fdb_lines::{Line, Operation};
+use std::alloc::{AllocError, Global};
 
 /// How many lines were taken, of each kind, and how they came.
 #[derive(Clone, Copy, Debug, PartialEq, Eq)]
@@ -24,6 +25,19 @@ pub(crate) struct Counts {
     pub reports: u64,
     /// Lines that began before what had been settled.
     pub early: u64,
+    /// Of these, how many were judged by what was kept then.
+    pub judged: u64,
+    /// The number of the last of them, counted from 1, if there is one.
+    pub last_early: Option<u64>,
+}
+
+/// How a line came.
+#[derive(Clone, Copy)]
+pub(crate) struct Came {
+    /// Its number, counted from 1.
+    pub number: u64,
+    /// Whether it is judged, be it early.
+    pub is_judged: bool,
 }
 
 impl Counts {
@@ -31,6 +45,7 @@ impl Counts {
     pub(crate) fn new() -> Self
         ensures counted { AreCounted result [] }
         ensures early { result.early ≡ 0 }
+        ensures none { (result.judged ≡ 0) × (result.last_early ≡ None) }
     {
         Counts {
             lines: 0,
@@ -39,33 +54,39 @@ impl Counts {
             asks: 0,
             reports: 0,
             early: 0,
+            judged: 0,
+            last_early: None,
         }
     }
 
     /// Counts a line that was taken, where all was settled up to a moment.
-    pub(crate) fn add(&mut self, line: &Line, settled_to: u64)
+    pub(crate) fn add(&mut self, line: &Line, settled_to: u64, came: Came)
         ensures counted { (lines : List Line) → length lines + 1 < 2 ^ 64
             → AreCounted self.old lines → AreCounted self.new (lines ++ line.now ∷ []) }
-        ensures early { self.new.early
-            ≡ one_more (nat_lt (began line.now) settled_to) self.old.early }
+        ensures early { CameMore (nat_lt (began line.now) settled_to) came self.old self.new }
     {
         add_one(&mut self.lines);
         self.add_call(line.call);
-        self.note_early(line.began() < settled_to);
+        self.note_early(line.began() < settled_to, came);
     }
 
     /// Counts a line that began before what had been settled.
-    fn note_early(&mut self, is_early: bool)
-        ensures early { self.new.early ≡ one_more is_early self.old.early }
+    fn note_early(&mut self, is_early: bool, came: Came)
+        ensures early { CameMore is_early came self.old self.new }
         ensures lines { self.new.lines ≡ self.old.lines }
         ensures reads { self.new.reads ≡ self.old.reads }
         ensures commits { self.new.commits ≡ self.old.commits }
         ensures asks { self.new.asks ≡ self.old.asks }
         ensures reports { self.new.reports ≡ self.old.reports }
     {
-        if is_early {
-            add_one(&mut self.early);
+        if !is_early {
+            return;
         }
+        add_one(&mut self.early);
+        if came.is_judged {
+            add_one(&mut self.judged);
+        }
+        self.last_early = Some(came.number);
     }
 
     /// Counts a call by its kind.
@@ -77,7 +98,9 @@ impl Counts {
         ensures reports { self.new.reports
             ≡ one_more (is_report (kind_of call)) self.old.reports }
         ensures lines { self.new.lines ≡ self.old.lines }
-        ensures early { self.new.early ≡ self.old.early }
+        ensures early { (self.new.early ≡ self.old.early)
+            × (self.new.judged ≡ self.old.judged)
+            × (self.new.last_early ≡ self.old.last_early) }
     {
         match call {
             Operation::Read(_) => add_one(&mut self.reads),
@@ -88,19 +111,35 @@ impl Counts {
         }
     }
 
-    /// How many lines were taken, how many were refused, and how they came.
-    pub(crate) fn figures(&self, refused: u64) -> [Figure; 7]
-        ensures { map figure_of result ≡ counted_figures (counted_in self.now refused) }
+    /// How many lines were taken, how many were refused, and how they came: of those that came early
+    /// also how many were judged, if there are some.
+    pub(crate) fn figures(&self, alloc: Global, refused: u64) -> Result<Vec<Figure>, AllocError>
+        ensures { IfOk result (λ figures.
+            map figure_of figures.items ≡ counted_figures (counted_in self.now refused)) }
     {
-        [
-            Figure("lines", Some(self.lines)),
-            Figure("reads", Some(self.reads)),
-            Figure("commits", Some(self.commits)),
-            Figure("asks", Some(self.asks)),
-            Figure("reports", Some(self.reports)),
-            Figure("refused", Some(refused)),
-            Figure("early", Some(self.early)),
-        ]
+        let mut figures = Vec::with_capacity(alloc, 8)?;
+        figures.push(Figure("lines", Some(self.lines)))?;
+        figures.push(Figure("reads", Some(self.reads)))?;
+        figures.push(Figure("commits", Some(self.commits)))?;
+        figures.push(Figure("asks", Some(self.asks)))?;
+        figures.push(Figure("reports", Some(self.reports)))?;
+        figures.push(Figure("refused", Some(refused)))?;
+        figures.push(Figure("early", Some(self.early)))?;
+        if self.early > 0 {
+            figures.push(Figure("judged", Some(self.judged)))?;
+        }
+        Ok(figures)
+    }
+
+    /// What is said of the log in front of these, where no fault was found.
+    pub(crate) fn verdict(&self) -> &'static str
+        ensures { result.now ≡ verdict_of self.now.early }
+    {
+        if self.early == 0 {
+            "audit ok"
+        } else {
+            "audit early"
+        }
     }
 }
 

@@ -137,8 +137,8 @@ impl FollowedLog {
     /// What is left to be said, where the log ends here.
     pub(crate) fn finish(self) -> Result<Followed, Stop>
         ensures told { IfOk result (λ it. (asked : AuditArguments) → (start : Start)
-            → (bytes told : List ℕ) → HasFollowed asked start self.follower bytes told
-            → IsFollowed asked start true bytes (told ++ string_bytes it.said.text) it.found) }
+            → (bytes told : List ℕ) → HasFollowed asked start self.follower bytes told → IsFollowed
+            asked start true bytes (told ++ string_bytes it.said.text) it.found it.last_early) }
         ensures refused { IfOk result (λ it. (asked : AuditArguments) → (start : Start)
             → (bytes told : List ℕ) → HasFollowed asked start self.follower bytes told
             → it.refused ≡ left_out start.numbers (lines_asked asked bytes)) }
@@ -151,8 +151,8 @@ impl FollowedLog {
     /// Keeps the lines that yet matter, and says what is left to be said.
     pub(crate) fn stop<R: Files>(self, rt: &R) -> Result<Followed, Stop>
         ensures told { IfOk result (λ it. (asked : AuditArguments) → (start : Start)
-            → (bytes told : List ℕ) → HasFollowed asked start self.follower bytes told
-            → IsFollowed asked start false bytes (told ++ string_bytes it.said.text) it.found) }
+            → (bytes told : List ℕ) → HasFollowed asked start self.follower bytes told → IsFollowed
+            asked start false bytes (told ++ string_bytes it.said.text) it.found it.last_early) }
         ensures refused { IfOk result (λ it. (asked : AuditArguments) → (start : Start)
             → (bytes told : List ℕ) → HasFollowed asked start self.follower bytes told
             → it.refused ≡ left_out start.numbers (lines_asked asked bytes)) }

@@ -48,7 +48,8 @@ pub struct Follower {
 pub struct Said {
     /// For the output: sentences or objects, a line for each.
     pub text: String,
-    /// For standard error: a line for each line that was refused.
+    /// For standard error: a line for each line that was refused, and for the first, second, fourth
+    /// and so on that came early.
     pub warnings: String,
 }
 
@@ -60,6 +61,9 @@ pub struct Followed {
     pub found: Option<LogFault>,
     /// The last line that was refused, if one was, or that there is no line.
     pub refused: Option<ReadError>,
+    /// The number of the last line that came early, counted from 1, if one did: then not all of the
+    /// log was judged.
+    pub last_early: Option<u64>,
 }
 
 /// A log that is no longer followed, to be followed on later.
@@ -71,17 +75,22 @@ pub struct Stopped {
 }
 
 impl Follower {
-    ghost use Rattle.fdb_audit.specs.Watched.{lines_asked, names_asked, HasFollowed, HasToldAll};
-    ghost use Rattle.fdb_audit.specs.Watched.{IsTelling};
+    ghost use Rattle.fdb_audit.specs.Watched.{lines_asked, names_asked, HasFollowed, HasSaid};
+    ghost use Rattle.fdb_audit.specs.Watched.{HasSaidAll};
+    ghost use Rattle.fdb_audit.specs.Watched.{HasToldAll, IsTelling};
     ghost use Rattle.fdb_audit.specs.Taken.{kept_by};
-    ghost use Rattle.fdb_audit.specs.private.Followed.{IsUnread};
+    ghost use Rattle.fdb_audit.specs.private.Followed.{AreEarlyIn, HasWarned, IsUnread, SaysNext};
+    ghost use Rattle.fdb_audit.specs.private.Followed.{SettlesOn};
     ghost use Rattle.fdb_audit.specs.private.Kept.{EndsALine};
     ghost use Rattle.fdb_log_reader.specs.LineReader.{line_names};
 
     /// An audit that has read no line, as the arguments ask for it. A line that comes may begin so far
     /// behind the newest end. It fails only where memory is refused.
     pub fn new(alloc: Global, asked: &AuditArguments, behind: u64) -> Result<Self, AllocError>
-        ensures { IfOk result (λ follower. HasFollowed asked.now (fresh behind) follower [] []) }
+        ensures followed { IfOk result (λ follower.
+            HasFollowed asked.now (fresh behind) follower [] []) }
+        ensures said { IfOk result (λ follower.
+            HasSaid asked.now (fresh behind) follower [] []) }
     {
         let none = Numbering::new(alloc, Vec::new(alloc), 0);
         let follower = Follower::numbered(alloc, asked, behind, none)?;
@@ -121,7 +130,9 @@ impl Follower {
         behind: u64,
         text: &[u8],
     ) -> Result<Result<Self, KeptRefused>, AllocError>
-        ensures { IfOk result (λ it. IfOk it (λ follower. HasFollowed asked.now
+        ensures followed { IfOk result (λ it. IfOk it (λ follower. HasFollowed asked.now
+            (start_of asked.now behind text.now) follower text.now [])) }
+        ensures said { IfOk result (λ it. IfOk it (λ follower. HasSaid asked.now
             (start_of asked.now behind text.now) follower text.now [])) }
     {
         let kept = match KeptText::read(alloc, asked.key.as_deref(), text)? {
@@ -141,9 +152,12 @@ impl Follower {
 
     /// Reads on. An error says that memory was refused.
     pub fn feed(&mut self, bytes: &[u8]) -> Result<(), AllocError>
-        ensures { OnOk result ((asked : AuditArguments) → (start : Start)
+        ensures followed { OnOk result ((asked : AuditArguments) → (start : Start)
             → (before told : List ℕ) → HasFollowed asked start self.old before told
             → HasFollowed asked start self.new (before ++ bytes.now) told) }
+        ensures said { OnOk result ((asked : AuditArguments) → (start : Start)
+            → (before warned : List ℕ) → HasSaid asked start self.old before warned
+            → HasSaid asked start self.new (before ++ bytes.now) warned) }
     {
         let lines = self.reader.feed(self.alloc, bytes)?;
         self.taking.take_all(lines)?;
@@ -155,9 +169,10 @@ impl Follower {
     fn feed_kept(&mut self, bytes: &[u8], told: usize, settled: u64) -> Result<(), AllocError>
         ensures { OnOk result ((asked : AuditArguments) → (behind : ℕ) → (kept : KeptSaid)
             → kept.told ≡ told → kept.settled ≡ settled → EndsALine bytes.now
-            → IsUnread asked (start_with behind kept.numbers) self.old → HasFollowed asked
-            (start_from behind asked.opts.margin kept (lines_asked asked bytes.now))
-            self.new bytes.now []) }
+            → IsUnread asked (start_with behind kept.numbers) self.old
+            → let start = start_from behind asked.opts.margin kept (lines_asked asked bytes.now) in
+            HasFollowed asked start self.new bytes.now []
+            × HasSaid asked start self.new bytes.now []) }
     {
         a_space_more_is_of_one_line();
         let lines = self.reader.feed(self.alloc, bytes)?;
@@ -169,9 +184,12 @@ impl Follower {
     /// What is to be said before more is read: what has become certain, once some thousand lines have
     /// come since it was said, or where no more may come for a while.
     pub fn tell(&mut self, is_idle: bool) -> Result<Said, AllocError>
-        ensures { IfOk result (λ said. (asked : AuditArguments) → (start : Start)
+        ensures told { IfOk result (λ said. (asked : AuditArguments) → (start : Start)
             → (bytes told : List ℕ) → HasFollowed asked start self.old bytes told
             → HasFollowed asked start self.new bytes (told ++ string_bytes said.text)) }
+        ensures said { IfOk result (λ said. (asked : AuditArguments) → (start : Start)
+            → (bytes warned : List ℕ) → HasSaid asked start self.old bytes warned
+            → HasSaid asked start self.new bytes (warned ++ string_bytes said.warnings)) }
     {
         let unsettled = self.taking.unsettled;
         self.settle_if(unsettled >= STRIDE || (is_idle && unsettled > 0))?;
@@ -227,6 +245,9 @@ impl Follower {
         ensures told { OnOk result ((asked : AuditArguments) → (start : Start)
             → (read : List (Result SaidLine Why)) → (told : List ℕ)
             → IsTelling asked start self.old read told → IsTelling asked start self.new read told) }
+        ensures taken { OnOk result
+            (SettlesOn self.old.behind self.old.taking self.new.taking) }
+        ensures behind { self.new.behind ≡ self.old.behind }
     {
         if is_time {
             self.settle()?;
@@ -240,6 +261,9 @@ impl Follower {
         ensures told { OnOk result ((asked : AuditArguments) → (start : Start)
             → (read : List (Result SaidLine Why)) → (told : List ℕ)
             → IsTelling asked start self.old read told → IsTelling asked start self.new read told) }
+        ensures taken { OnOk result
+            (SettlesOn self.old.behind self.old.taking self.new.taking) }
+        ensures behind { self.new.behind ≡ self.old.behind }
     {
         let at = self.taking.newest.saturating_sub(self.behind);
         let told = self.taking.watch.settle(self.alloc, at)?;
@@ -259,6 +283,9 @@ impl Follower {
             → (read : List (Result SaidLine Why)) → (told : List ℕ)
             → IsTelling asked start self.old read told
             → IsTelling asked start self.new read (told ++ string_bytes result.text) }
+        ensures warnings { result.warnings ≡ self.old.taking.warnings }
+        ensures taking { SaysNext self.old.taking self.new.taking }
+        ensures behind { self.new.behind ≡ self.old.behind }
     {
         Said {
             text: replace(&mut self.teller.text, String::new(self.alloc)),
@@ -269,8 +296,11 @@ impl Follower {
     /// What is left to be said, where the log ends here: what is open, and the totals.
     pub fn finish(mut self) -> Result<Followed, AllocError>
         ensures told { IfOk result (λ it. (asked : AuditArguments) → (start : Start)
-            → (bytes told : List ℕ) → HasFollowed asked start self bytes told
-            → IsFollowed asked start true bytes (told ++ string_bytes it.said.text) it.found) }
+            → (bytes told : List ℕ) → HasFollowed asked start self bytes told → IsFollowed asked
+            start true bytes (told ++ string_bytes it.said.text) it.found it.last_early) }
+        ensures said { IfOk result (λ it. (asked : AuditArguments) → (start : Start)
+            → (bytes warned : List ℕ) → HasSaid asked start self bytes warned → HasSaidAll asked
+            start bytes it.last_early (warned ++ string_bytes it.said.warnings)) }
         ensures refused { IfOk result (λ it. (asked : AuditArguments) → (start : Start)
             → (bytes told : List ℕ) → HasFollowed asked start self bytes told
             → it.refused ≡ left_out start.numbers (lines_asked asked bytes)) }
@@ -288,14 +318,19 @@ impl Follower {
         ensures told { IfOk result (λ it. (asked : AuditArguments) → (start : Start)
             → (bytes told : List ℕ) → HasFollowed asked start self bytes told
             → IsFollowed asked start false bytes (told ++ string_bytes it.followed.said.text)
-            it.followed.found) }
+            it.followed.found it.followed.last_early) }
+        ensures said { IfOk result (λ it. (asked : AuditArguments) → (start : Start)
+            → (bytes warned : List ℕ) → HasSaid asked start self bytes warned
+            → HasSaidAll asked start bytes it.followed.last_early
+            (warned ++ string_bytes it.followed.said.warnings)) }
         ensures refused { IfOk result (λ it. (asked : AuditArguments) → (start : Start)
             → (bytes told : List ℕ) → HasFollowed asked start self bytes told
             → it.followed.refused ≡ left_out start.numbers (lines_asked asked bytes)) }
         ensures kept { IfOk result (λ it. IfOk it.kept (λ text. (asked : AuditArguments)
             → (start : Start) → (bytes told : List ℕ) → HasFollowed asked start self bytes told
             → (followed : IsFollowed asked start false bytes
-            (told ++ string_bytes it.followed.said.text) it.followed.found) × (taking : Taking)
+            (told ++ string_bytes it.followed.said.text) it.followed.found
+            it.followed.last_early) × (taking : Taking)
             × AreTaken start taking (lines_asked asked bytes)
             (start.told ++ told_in_all (lines_asked asked bytes) followed.windows)
             × Keeps (option_map string_bytes asked.key) (names_asked asked bytes) start.numbers
@@ -315,6 +350,10 @@ impl Follower {
         ensures told { OnOk result ((asked : AuditArguments) → (start : Start)
             → (bytes told : List ℕ) → HasFollowed asked start self.old bytes told
             → IsTelling asked start self.new (lines_asked asked bytes) told) }
+        ensures said { OnOk result ((asked : AuditArguments) → (start : Start)
+            → (bytes warned : List ℕ) → HasSaid asked start self.old bytes warned
+            → HasWarned start self.new.taking (lines_asked asked bytes) warned
+            × AreEarlyIn start (lines_asked asked bytes) self.new.taking.counts) }
         ensures names { OnOk result ((asked : AuditArguments) → (start : Start)
             → (bytes told : List ℕ) → HasFollowed asked start self.old bytes told
             → names_asked asked bytes ≡ line_names self.new.reader) }
@@ -333,6 +372,8 @@ impl Follower {
             → (read : List (Result SaidLine Why)) → (told : List ℕ)
             → IsTelling asked start self.old read told
             → HasToldAll asked start true self.new read told) }
+        ensures warnings { (self.new.taking.warnings ≡ self.old.taking.warnings)
+            × (self.new.taking.counts ≡ self.old.taking.counts) }
     {
         let none = KeyWatch::new(self.alloc, 0, 0);
         let watch = replace(&mut self.taking.watch, none);
@@ -348,9 +389,11 @@ impl Follower {
             → (bytes told : List ℕ) → (ends : Bool)
             → (all : HasToldAll asked start ends self (lines_asked asked bytes) told)
             → names_asked asked bytes ≡ line_names self.reader → (followed : IsFollowed asked
-            start ends bytes (told ++ string_bytes it.said.text) it.found)
+            start ends bytes (told ++ string_bytes it.said.text) it.found it.last_early)
             × (followed.windows ≡ all.windows)) }
         ensures refused { IfOk result (λ it. it.refused ≡ refused) }
+        ensures early { IfOk result (λ it. it.last_early ≡ self.taking.counts.last_early) }
+        ensures warnings { IfOk result (λ it. it.said.warnings ≡ self.taking.warnings) }
     {
         self.teller
             .end(self.alloc, &self.reader, &self.taking, self.behind)?;
@@ -359,6 +402,7 @@ impl Follower {
             said,
             found: self.teller.first,
             refused,
+            last_early: self.taking.counts.last_early,
         })
     }
 }

@@ -32,6 +32,7 @@ mod taking;
 mod teller;
 mod told_faults;
 mod totals;
+mod warning;
 
 pub use arguments::{AuditArguments, member_names};
 pub use audit_program::{Audit, AuditIntake, MAX_LOG_BYTES, drive};
@@ -41,3 +42,4 @@ pub use followed_log::FollowedLog;
 pub use follower::{Followed, Follower, Said, Stopped};
 pub use judged::{Judgement, Wanted, judge, judge_named, judge_text};
 pub use refused::{KeptRefused, LogsRefused};
+pub use warning::{EarlyLine, Warning};

@@ -1,15 +1,21 @@
 //! Why a log is refused, for people.
 
+ghost use Rattle.std.specs.Prelude.{◌≡◌};
+ghost use Rattle.fdb_audit.specs.Warned.{cause_text};
+
 use fdb_log_reader::{Member, ReadError, Why};
 use std::error::Error;
 use std::fmt;
 
-/// Why a log is refused, or what was kept of one: the text of the line on standard error, behind the
-/// program's name.
+/// Why a log is refused, or what was kept of one; or that not all of it was judged: the text of the
+/// line on standard error, behind the program's name.
 #[derive(Clone, Copy, Debug, PartialEq, Eq)]
 pub enum LogsRefused {
     /// The first line of the log with which something is wrong, and what.
     Log(ReadError),
+    /// The last line of a log that is followed that came early, by its number, counted from 1: what
+    /// was told before is not told anew by it, and it may not have been judged.
+    Early(u64),
     /// Why lines that were kept are refused.
     Kept(KeptRefused),
 }
@@ -24,10 +30,10 @@ pub struct KeptRefused {
 }
 
 impl fmt::Display for LogsRefused {
-    ghost use Rattle.std.specs.Prelude.{None};
+    ghost use Rattle.std.specs.Prelude.{Some};
+    ghost use Rattle.fdb_audit.specs.Warned.{refused_text};
 
-    // What is said beside the name of the refusal and its line is for people.
-    ghost output = { λ _. None };
+    ghost output = { λ refused. Some (refused_text refused) };
 
     fn fmt<W: fmt::Write>(&self, f: &mut fmt::Formatter<W>) -> fmt::Result {
         match *self {
@@ -35,16 +41,20 @@ impl fmt::Display for LogsRefused {
                 let cause = cause_of(error.why);
                 write!(f, "logs refused: {error}: {cause}")
             }
+            LogsRefused::Early(line) => write!(
+                f,
+                "logs refused: Early {line}: it began before what had been settled"
+            ),
             LogsRefused::Kept(refused) => write!(f, "{refused}"),
         }
     }
 }
 
 impl fmt::Display for KeptRefused {
-    ghost use Rattle.std.specs.Prelude.{None};
+    ghost use Rattle.std.specs.Prelude.{Some};
+    ghost use Rattle.fdb_audit.specs.Warned.{kept_refused_text};
 
-    // What is said beside the name of the refusal and its line is for people.
-    ghost output = { λ _. None };
+    ghost output = { λ refused. Some (kept_refused_text refused) };
 
     fn fmt<W: fmt::Write>(&self, f: &mut fmt::Formatter<W>) -> fmt::Result {
         let line = self.line;
@@ -67,7 +77,9 @@ impl Error for KeptRefused {}
 impl Error for LogsRefused {}
 
 /// What is wrong, in words.
-fn cause_of(why: Why) -> &'static str {
+fn cause_of(why: Why) -> &'static str
+    ensures { result.now ≡ cause_text why }
+{
     match why {
         Why::Empty => "no line",
         Why::TooLong => "more than 1048576 bytes",

@@ -12,14 +12,13 @@ ghost use Rattle.fdb_log_reader.specs.declared.error.Why.{Why};
 ghost use Rattle.fdb_log_reader.specs.ReadLine.{IsTimed, SaidLine, said_by, said_in};
 ghost use Rattle.fdb_lines.specs.ToldByKey.{audited_to};
 
-use crate::counts::Counts;
+use crate::counts::{Came, Counts};
 use crate::numbering::Numbering;
-use crate::refused::LogsRefused;
 use crate::rows::Rows;
+use crate::warning::{EarlyLine, Warning, push_warning};
 use fdb_lines::{KeyWatch, Line, WatchError, laws};
 use fdb_log_reader::{ReadError, ReadLine, Why};
 use std::alloc::{AllocError, Global};
-use std::fmt::Write;
 
 /// The lines that were taken, as far as they may yet come to matter, and how the others came.
 #[derive(Drop)]
@@ -39,7 +38,7 @@ pub(crate) struct Taking {
     pub(crate) unsettled: u64,
     /// The last line that was refused, if one was.
     pub(crate) refused: Option<ReadError>,
-    /// A line for standard error for each line that was refused since these were last said.
+    /// What is to be said on standard error next.
     pub(crate) warnings: String,
     ghost above: { All (λ above. above ≤ taken) numbering.above.items },
 }
@@ -48,8 +47,8 @@ impl Taking {
     ghost use Rattle.fdb_audit.specs.Following.{Start, keys_taken, left_out, lines_taken};
     ghost use Rattle.fdb_audit.specs.Following.{start_with};
     ghost use Rattle.fdb_audit.specs.Kept.{KeptSaid, early_at, start_from};
-    ghost use Rattle.fdb_audit.specs.Taken.{AreCounted, kept_by};
-    ghost use Rattle.fdb_audit.specs.private.Followed.{AreTaken, one_more};
+    ghost use Rattle.fdb_audit.specs.Taken.{AreCounted, HasWarned, kept_by};
+    ghost use Rattle.fdb_audit.specs.private.Followed.{AreTaken, NotesLine, early_text};
 
     /// No line has been taken; those of these numbers come first. It fails only where memory is
     /// refused.
@@ -64,6 +63,8 @@ impl Taking {
         requires few { numbering.more < 18446744073709551615 }
         ensures taken { IfOk result (λ taking. (behind : ℕ)
             → AreTaken (start_with behind (kept_by numbering)) taking [] []) }
+        ensures warned { IfOk result (λ taking. (behind : ℕ)
+            → HasWarned (start_with behind (kept_by numbering)) taking [] []) }
         ensures margin { IfOk result (λ taking. taking.watch.margin ≡ margin) }
         ensures members { IfOk result (λ taking. map string_bytes taking.rows.members.items
             ≡ map (λ name. printed (string_bytes name)) shown.now) }
@@ -91,6 +92,10 @@ impl Taking {
         ensures taken { OnOk result ((start : Start) → (read : List (Result SaidLine Why))
             → (told : List Found) → AreTaken start self.old read told
             → AreTaken start self.new (read ++ map said_in lines.items) told) }
+        ensures warned { OnOk result ((start : Start) → (read : List (Result SaidLine Why))
+            → (told : List Found) → (warned : List ℕ) → AreTaken start self.old read told
+            → HasWarned start self.old read warned
+            → HasWarned start self.new (read ++ map said_in lines.items) warned) }
         ensures early { OnOk result (self.new.counts.early ≤ self.old.counts.early
             + early_at self.old.watch.from (lines_taken (map said_in lines.items))) }
         ensures from { self.new.watch.from ≡ self.old.watch.from }
@@ -116,7 +121,7 @@ impl Taking {
             → AreTaken (start_with behind kept.numbers) self.old [] []
             → let read = map said_in lines.items in
             let start = start_from behind self.old.watch.margin kept read in
-            AreTaken start self.new read start.told) }
+            AreTaken start self.new read start.told × HasWarned start self.new read []) }
         ensures margin { self.new.watch.margin ≡ self.old.watch.margin }
     {
         let since = lines.split_off(told.min(lines.len()))?;
@@ -124,6 +129,7 @@ impl Taking {
         self.settle_untold(settled)?;
         self.take_all(since)?;
         self.counts = Counts::new();
+        self.warnings = String::new(self.alloc);
         Ok(())
     }
 
@@ -133,6 +139,10 @@ impl Taking {
         ensures taken { OnOk result ((start : Start) → (lines : List (Result SaidLine Why))
             → (told : List Found) → AreTaken start self.old lines told
             → AreTaken start self.new (lines ++ said_in read ∷ []) told) }
+        ensures warned { OnOk result ((start : Start) → (lines : List (Result SaidLine Why))
+            → (told : List Found) → (warned : List ℕ) → AreTaken start self.old lines told
+            → HasWarned start self.old lines warned
+            → HasWarned start self.new (lines ++ said_in read ∷ []) warned) }
         ensures early { OnOk result (self.new.counts.early ≤ self.old.counts.early
             + early_at self.old.watch.from (lines_taken (said_in read ∷ []))) }
         ensures from { self.new.watch.from ≡ self.old.watch.from }
@@ -157,6 +167,7 @@ impl Taking {
             (keys_taken lines))) }
         ensures from { OnOk result (self.new.watch.from ≡ max self.old.watch.from at) }
         ensures counts { self.new.counts ≡ self.old.counts }
+        ensures warnings { self.new.warnings ≡ self.old.warnings }
         ensures margin { self.new.watch.margin ≡ self.old.watch.margin }
     {
         let told = self.watch.settle(self.alloc, at)?;
@@ -173,6 +184,7 @@ impl Taking {
             → AreTaken start self.new lines told }
         ensures watch { self.new.watch ≡ self.old.watch }
         ensures counts { self.new.counts ≡ self.old.counts }
+        ensures warnings { self.new.warnings ≡ self.old.warnings }
     {
         self.unsettled = 0;
         self.settled = self.taken;
@@ -209,41 +221,67 @@ impl Taking {
         ensures taken { OnOk result ((start : Start) → (lines : List (Result SaidLine Why))
             → (told : List Found) → AreTaken start self.old lines told
             → AreTaken start self.new (lines ++ Ok (said_by read) ∷ []) told) }
+        ensures warned { OnOk result ((start : Start) → (lines : List (Result SaidLine Why))
+            → (told : List Found) → (warned : List ℕ) → AreTaken start self.old lines told
+            → HasWarned start self.old lines warned
+            → HasWarned start self.new (lines ++ Ok (said_by read) ∷ []) warned) }
         ensures early { OnOk result (self.new.counts.early ≤ self.old.counts.early
             + early_at self.old.watch.from (read.line ∷ [])) }
         ensures from { self.new.watch.from ≡ self.old.watch.from }
         ensures margin { self.new.watch.margin ≡ self.old.watch.margin }
     {
         let ReadLine { line, key, shown } = read;
+        let is_judged = line.began() >= self.judged_from(key, &line);
         match self.watch.push(self.alloc, key, line) {
             Ok(()) => {}
             Err(WatchError::NoTimes) => unreachable!(),
             Err(WatchError::Line(_)) => return Err(AllocError),
         }
         self.rows.add(self.taken, shown)?;
-        self.note(&line);
+        self.note(&line, is_judged)?;
         Ok(())
     }
 
-    /// Notes when a line that was added began and ended, and counts it.
-    fn note(&mut self, line: &Line)
-        requires room { self.old.taken < 18446744073709551615 }
+    /// From when on a line of a key is judged, where it comes early.
+    fn judged_from(&self, key: Option<u32>, line: &Line) -> u64 {
+        if line.began() < self.watch.settled_to() {
+            self.watch.judged_from(key)
+        } else {
+            0
+        }
+    }
+
+    /// Notes when a line that was added began and ended, counts it, and says so where it came early.
+    fn note(&mut self, line: &Line, is_judged: bool) -> Result<(), AllocError>
+        requires room { self.old.taken + self.old.numbering.more
+            + length self.old.numbering.above.items < 18446744073709551614 }
+        ensures noted { OnOk result
+            (NotesLine self.old.watch.from self.old self.new line.now) }
         ensures watch { self.new.watch ≡ self.old.watch }
-        ensures numbering { self.new.numbering ≡ self.old.numbering }
-        ensures count { self.new.taken ≡ self.old.taken + 1 }
-        ensures refused { self.new.refused ≡ self.old.refused }
-        ensures newest { self.new.newest
-            ≡ max self.old.newest (unwrap_or (ended line.now) 0) }
-        ensures counted { (lines : List Line) → length lines + 1 < 2 ^ 64
-            → AreCounted self.old.counts lines
-            → AreCounted self.new.counts (lines ++ line.now ∷ []) }
-        ensures early { self.new.counts.early
-            ≡ one_more (nat_lt (began line.now) self.old.watch.from) self.old.counts.early }
     {
-        self.counts.add(line, self.watch.settled_to());
+        let from = self.watch.settled_to();
         self.newest = self.newest.max(line.ended().unwrap_or(0));
         self.unsettled = self.unsettled.saturating_add(1);
         self.taken += 1;
+        let number = self.line_count();
+        self.counts.add(line, from, Came { number, is_judged });
+        self.warn_early(number, from.saturating_sub(line.began()))?;
+        Ok(())
+    }
+
+    /// Says that the line of a number came so long before what had been settled, where it did, and
+    /// their number has doubled.
+    fn warn_early(&mut self, line: u64, by: u64) -> Result<(), AllocError>
+        ensures warnings { OnOk result (string_bytes self.new.warnings
+            ≡ string_bytes self.old.warnings ++ early_text line by self.old.counts.early) }
+        ensures same { self.new ≡ record self.old { warnings = self.new.warnings } }
+    {
+        let count = self.counts.early;
+        if by > 0 && count.is_power_of_two() {
+            let early = Warning::Early(EarlyLine { line, by, count });
+            push_warning(&mut self.warnings, early)?;
+        }
+        Ok(())
     }
 
     /// Leaves a line out, and says why.
@@ -253,6 +291,10 @@ impl Taking {
         ensures taken { OnOk result ((start : Start) → (lines : List (Result SaidLine Why))
             → (told : List Found) → AreTaken start self.old lines told
             → AreTaken start self.new (lines ++ Err why ∷ []) told) }
+        ensures warned { OnOk result ((start : Start) → (lines : List (Result SaidLine Why))
+            → (told : List Found) → (warned : List ℕ) → AreTaken start self.old lines told
+            → HasWarned start self.old lines warned
+            → HasWarned start self.new (lines ++ Err why ∷ []) warned) }
         ensures early { self.new.counts.early ≡ self.old.counts.early }
         ensures from { self.new.watch.from ≡ self.old.watch.from }
         ensures margin { self.new.watch.margin ≡ self.old.watch.margin }
@@ -261,7 +303,7 @@ impl Taking {
         let line = self.line_count();
         let error = ReadError { line, why };
         self.refused = Some(error);
-        let refused = LogsRefused::Log(error);
-        writeln!(self.warnings, "fdb_audit: {refused}")
+        push_warning(&mut self.warnings, Warning::Refused(error))?;
+        Ok(())
     }
 }

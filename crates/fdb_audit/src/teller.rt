@@ -192,7 +192,8 @@ impl Teller {
         count(alloc, &mut self.told, printer, found)
     }
 
-    /// Says that no fault was found, or how many were, where totals are wanted.
+    /// Says that no fault was found, and whether all was judged; or how many were, where totals are
+    /// wanted.
     pub(crate) fn end(
         &mut self,
         alloc: Global,
@@ -210,13 +211,13 @@ impl Teller {
         ensures first { self.new.first ≡ self.old.first }
     {
         if self.first.is_none() && !self.wanted.json {
-            let figures = taking.counts.figures(taking.numbering.count());
-            return push_line(&mut self.text, "audit ok", &figures);
+            let figures = taking.counts.figures(alloc, taking.numbering.count())?;
+            return push_line(&mut self.text, taking.counts.verdict(), &figures);
         }
         let Some(told) = replace(&mut self.told, None) else {
             return Ok(());
         };
-        self.push_head(taking, behind, &told.columns)?;
+        self.push_head(alloc, taking, behind, &told.columns)?;
         let names = reader.names().printed(alloc)?;
         told.push(alloc, &mut self.text, self.wanted.json, &names)?;
         Ok(())
@@ -225,6 +226,7 @@ impl Teller {
     /// Writes how much was read, in front of how many faults were told.
     fn push_head(
         &mut self,
+        alloc: Global,
         taking: &Taking,
         behind: u64,
         columns: &[Column],
@@ -235,7 +237,7 @@ impl Teller {
         ensures first { self.new.first ≡ self.old.first }
         ensures wanted { self.new.wanted ≡ self.old.wanted }
     {
-        let figures = taking.counts.figures(taking.numbering.count());
+        let figures = taking.counts.figures(alloc, taking.numbering.count())?;
         if self.wanted.json {
             let arguments = [
                 Figure("follow", Some(behind)),

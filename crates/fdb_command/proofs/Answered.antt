@@ -48,15 +48,15 @@ begins None (Some all) bytes read = ([], read ∙ sym (append-nil bytes))
 
 module _ {O I E F : Type 0} (program : Promise O I E F) (arguments : List Text) (options : O) (asks : program.asks arguments options) (remaining : Option (List ℕ)) (taken : fault_of program.app arguments ≡ []) where
   -- a program stopped while it took the input
-  pub refused_early : (fault : Failure E F) → IsFailure fault ⊎ MayStop program options (file_named program.app arguments) remaining fault → (error : E) → fault ≡ Refused error → MayRefuse program arguments remaining
+  pub refused_early : (fault : Failure E F) → IsFailure fault ⊎ MayStop program options (file_named program.app arguments) remaining fault → (error : E) → fault ≡ Refused error → MayRefuse program arguments remaining error
   refused_early fault (inl (inl reading)) error is = absurd (cc)
   refused_early fault (inl (inr writing)) error is = absurd (cc)
-  refused_early fault (inr at) error is = (taken, at.bytes, at.read, error, subst (Stops program arguments at.bytes) is (at.stops arguments asks))
+  refused_early fault (inr at) error is = (taken, at.bytes, at.read, subst (Stops program arguments at.bytes) is (at.stops arguments asks))
 
-  pub found_early : (fault : Failure E F) → IsFailure fault ⊎ MayStop program options (file_named program.app arguments) remaining fault → (found : F) → fault ≡ Found found → MayFind program arguments remaining
+  pub found_early : (fault : Failure E F) → IsFailure fault ⊎ MayStop program options (file_named program.app arguments) remaining fault → (found : F) → fault ≡ Found found → MayFind program arguments remaining found
   found_early fault (inl (inl reading)) found is = absurd (cc)
   found_early fault (inl (inr writing)) found is = absurd (cc)
-  found_early fault (inr at) found is = (taken, at.bytes, at.read, found, subst (Stops program arguments at.bytes) is (at.stops arguments asks))
+  found_early fault (inr at) found is = (taken, at.bytes, at.read, subst (Stops program arguments at.bytes) is (at.stops arguments asks))
 
   -- what it told until then was written
   pub told_early : {W : Type 0} (contents : W → Option (List ℕ)) (before after : W) → (after ≡ before) ⊎ TellsOf program options (file_named program.app arguments) remaining (contents before) (contents after)
@@ -86,14 +86,14 @@ module _ {O I E F : Type 0} (program : Promise O I E F) (arguments : List Text) 
     })
 
     pub refused_of : (r : Result (Output E F) (Failure E F)) → MatchResult r (MayAnswer program arguments bytes told) (Stops program arguments bytes)
-        → IfErr r (λ fault. (error : E) → fault ≡ Refused error → MayRefuse program arguments remaining)
+        → IfErr r (λ fault. (error : E) → fault ≡ Refused error → MayRefuse program arguments remaining error)
     refused_of (Ok answer) prints = tt
-    refused_of (Err fault) stops = λ error is. (taken, bytes, read, error, subst (Stops program arguments bytes) is stops)
+    refused_of (Err fault) stops = λ error is. (taken, bytes, read, subst (Stops program arguments bytes) is stops)
 
     pub found_of : (r : Result (Output E F) (Failure E F)) → MatchResult r (MayAnswer program arguments bytes told) (Stops program arguments bytes)
-        → IfErr r (λ fault. (found : F) → fault ≡ Found found → MayFind program arguments remaining)
+        → IfErr r (λ fault. (found : F) → fault ≡ Found found → MayFind program arguments remaining found)
     found_of (Ok answer) prints = tt
-    found_of (Err fault) stops = λ found is. (taken, bytes, read, found, subst (Stops program arguments bytes) is stops)
+    found_of (Err fault) stops = λ found is. (taken, bytes, read, subst (Stops program arguments bytes) is stops)
 
 -- a program's own faults
 stops_own : {O I E F : Type 0} (program : Promise O I E F) (arguments : List Text) (bytes : List ℕ) (fault : Failure E F) → Stops program arguments bytes fault → fault ≢ Arguments
@@ -138,9 +138,9 @@ begun program arguments remaining answer contents before between after (told, pu
 
 -- what is printed with a refusal is refused there
 pub refused_besides : {O I E F : Type 0} (program : Promise O I E F) (arguments : List Text) (remaining : Option (List ℕ)) (found : Option F) (refused : Option E) (text : List ℕ)
-    → IsPrinted program arguments remaining found refused text → (error : E) → refused ≡ Some error → MayRefuse program arguments remaining
+    → IsPrinted program arguments remaining found refused text → (error : E) → refused ≡ Some error → MayRefuse program arguments remaining error
 refused_besides program arguments remaining found refused text printed error is =
-    (printed.taken, printed.bytes, printed.read, error, rw is at printed.refuses)
+    (printed.taken, printed.bytes, printed.read, rw is at printed.refuses)
 
 -- why arguments ask for nothing is told as a fault
 pub told_as : {E F : Type 0} (cause : ArgumentsFault) (made : Failure E F) → (cause ≡ words.Refused → made ≡ Arguments) × (cause ≡ words.Memory → made ≡ Memory) → (made ≡ Arguments) ⊎ (made ≡ Memory)

@@ -15,8 +15,9 @@ unchanged : {O I E F W : Type 0} (program : Promise O I E F) (arguments : List T
 unchanged program arguments nothing remaining contents before after (inl same) = same
 unchanged program arguments nothing remaining contents before after (inr has) = absurd (untold program arguments nothing remaining (contents before) (contents after) has)
 
-whole : {O I E F : Type 0} (program : Promise O I E F) (arguments : List Text) → RefusesWhole program arguments → (remaining before after : Option (List ℕ)) → IsPartial program arguments remaining before after → ⊥
-whole program arguments refuses remaining before after (error, written) = refuses written.printed.bytes written.text _ error written.printed.printed
+whole : {O I E F : Type 0} (program : Promise O I E F) (arguments : List Text) → RefusesWhole program arguments → (remaining before after : Option (List ℕ)) → (error : E)
+    → IsPartial program arguments remaining error before after → ⊥
+whole program arguments refuses remaining before after error written = refuses written.printed.bytes written.text _ error written.printed.printed
 
 -- what holds of a value that is known and is there
 of_one : {T E : Type 0} (r : Result T E) (P Q : T → Type 0) (S : Type 0) → ((value : T) → Q value → P value → S) → IfOk r Q → IsOkAnd r P → S
@@ -32,11 +33,11 @@ module _ {O I E F R W L : Type 0} (program : Promise O I E F) (remaining : R →
   -- so nothing is written with status 1, 2 or 3
   pub unwritten : IfOk arguments (λ list. TellsNothing program (map string_bytes list.items) × RefusesWhole program (map string_bytes list.items)) → (status ≡ 1) ⊎ ((status ≡ 2) ⊎ (status ≡ 3)) → out_after ≡ out_before
   unwritten known (inl one) = of_one arguments _ _ (out_after ≡ out_before)
-      (λ list both how. elim how [
+      (λ list both how. elim how.1 [
         | inl told ↦ unchanged program (map string_bytes list.items) both.0 (remaining input_before) contents out_before out_after told
-        | inr part ↦ absurd (whole program (map string_bytes list.items) both.1 (remaining input_before) (contents out_before) (contents out_after) part)
+        | inr part ↦ absurd (whole program (map string_bytes list.items) both.1 (remaining input_before) (contents out_before) (contents out_after) (driven.refused one).0 part)
       ])
-      known (driven.besides one)
+      known (driven.refused one).1
   unwritten known (inr (inl two)) = driven.unwritten two
   unwritten known (inr (inr three)) = elim (driven.short three) [
     | inl same ↦ same

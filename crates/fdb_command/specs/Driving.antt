@@ -139,17 +139,16 @@ IsDone program arguments remaining before after =
     AsksHelp program.app arguments ⊎ IsWritten program arguments remaining None None before after
 
 -- a text was written, whole, and tells of a fault
-abbrev pub IsFaulty : {O I E F : Type 0} → Promise O I E F → List Text → Option (List ℕ) → Option (List ℕ)
+abbrev pub IsFaulty : {O I E F : Type 0} → Promise O I E F → List Text → Option (List ℕ) → F → Option (List ℕ)
     → Option (List ℕ) → Type 0
-IsFaulty {O} {I} {E} {F} program arguments remaining before after =
-    (found : F) × (refused : Option E)
-    × IsWritten program arguments remaining (Some found) refused before after
+IsFaulty {O} {I} {E} {F} program arguments remaining found before after =
+    (refused : Option E) × IsWritten program arguments remaining (Some found) refused before after
 
 -- a text was written, whole, and tells of no fault, and a part of the input is refused besides
-abbrev pub IsPartial : {O I E F : Type 0} → Promise O I E F → List Text → Option (List ℕ) → Option (List ℕ)
+abbrev pub IsPartial : {O I E F : Type 0} → Promise O I E F → List Text → Option (List ℕ) → E → Option (List ℕ)
     → Option (List ℕ) → Type 0
-IsPartial {O} {I} {E} {F} program arguments remaining before after =
-    (error : E) × IsWritten program arguments remaining None (Some error) before after
+IsPartial program arguments remaining error before after =
+    IsWritten program arguments remaining None (Some error) before after
 
 -- help was asked for, or a text was written, whole or in part: what a writer that fails may leave,
 -- a flush that fails included
@@ -162,18 +161,34 @@ IsBegun {O} {I} {E} {F} program arguments remaining before after =
 
 -- An input is asked for, and what may have been read is refused, whole or in part. Where no file is named and the
 -- input's bytes are known, these are refused; of the bytes of a file this says nothing.
-abbrev pub MayRefuse : {O I E F : Type 0} → Promise O I E F → List Text → Option (List ℕ) → Type 0
-MayRefuse {O} {I} {E} {F} program arguments remaining =
+abbrev pub MayRefuse : {O I E F : Type 0} → Promise O I E F → List Text → Option (List ℕ) → E → Type 0
+MayRefuse program arguments remaining error =
     (fault_of program.app arguments ≡ []) × (bytes : List ℕ)
     × MayBeRead (file_named program.app arguments) remaining bytes
-    × (error : E) × program.refuses arguments bytes error
+    × program.refuses arguments bytes error
 
 -- The same, where a fault is found in what may have been read.
-abbrev pub MayFind : {O I E F : Type 0} → Promise O I E F → List Text → Option (List ℕ) → Type 0
-MayFind {O} {I} {E} {F} program arguments remaining =
+abbrev pub MayFind : {O I E F : Type 0} → Promise O I E F → List Text → Option (List ℕ) → F → Type 0
+MayFind program arguments remaining found =
     (fault_of program.app arguments ≡ []) × (bytes : List ℕ)
     × MayBeRead (file_named program.app arguments) remaining bytes
-    × (found : F) × program.finds arguments bytes found
+    × program.finds arguments bytes found
+
+-- What may have been read is refused for this, whole or in part: what was told was written, or all of a text.
+abbrev pub IsRefused : {O I E F W : Type 0} → Promise O I E F → List Text → Option (List ℕ) → E
+    → (W → Option (List ℕ)) → W → W → Type 0
+IsRefused program arguments remaining error contents before after =
+    MayRefuse program arguments remaining error
+    × (HasAtMostTold program arguments remaining contents before after
+    ⊎ IsPartial program arguments remaining error (contents before) (contents after))
+
+-- This fault is found in what may have been read, of which at most what was told was written; or it is the one of which all of a
+-- text tells that was written.
+abbrev pub IsFound : {O I E F W : Type 0} → Promise O I E F → List Text → Option (List ℕ) → F
+    → (W → Option (List ℕ)) → W → W → Type 0
+IsFound program arguments remaining found contents before after =
+    (HasAtMostTold program arguments remaining contents before after × MayFind program arguments remaining found)
+    ⊎ IsFaulty program arguments remaining found (contents before) (contents after)
 
 -- an input is asked for, and that progress is told
 abbrev pub TellsProgress : {O I E F : Type 0} → Promise O I E F → List Text → Type 0
@@ -198,14 +213,12 @@ pub record IsDriven {O I E F R W L : Type 0} (program : Promise O I E F)
       → IsOkAnd arguments (λ list. AreTaken program.app (map string_bytes list.items))
   pub done : status ≡ 0 → IsOkAnd arguments (λ list. IsDone program (map string_bytes list.items)
       (remaining input_before) (contents out_before) (contents out_after))
-  pub refused : status ≡ 1 → IsOkAnd arguments (λ list.
-      MayRefuse program (map string_bytes list.items) (remaining input_before))
-  pub faulty : status ≡ 4 → IsOkAnd arguments (λ list.
-      (HasAtMostTold program (map string_bytes list.items) (remaining input_before)
-      contents out_before out_after
-      × MayFind program (map string_bytes list.items) (remaining input_before))
-      ⊎ IsFaulty program (map string_bytes list.items) (remaining input_before)
-      (contents out_before) (contents out_after))
+  pub refused : status ≡ 1 → (error : E) × IsOkAnd arguments (λ list.
+      IsRefused program (map string_bytes list.items) (remaining input_before) error
+      contents out_before out_after)
+  pub faulty : status ≡ 4 → (found : F) × IsOkAnd arguments (λ list.
+      IsFound program (map string_bytes list.items) (remaining input_before) found
+      contents out_before out_after)
   pub wrong : status ≡ 2 → MatchResult arguments
       (λ list. AreRefused program (map string_bytes list.items))
       (λ error. error_kind error ≢ OutOfMemory)
@@ -218,11 +231,6 @@ pub record IsDriven {O I E F R W L : Type 0} (program : Promise O I E F)
       → (Warns program (map string_bytes list.items) → ⊥) → err_after ≡ err_before)
   pub untaken : status ≡ 2 → input_after ≡ input_before
   pub unwritten : status ≡ 2 → out_after ≡ out_before
-  pub besides : status ≡ 1 → IsOkAnd arguments (λ list.
-      HasAtMostTold program (map string_bytes list.items) (remaining input_before)
-      contents out_before out_after
-      ⊎ IsPartial program (map string_bytes list.items) (remaining input_before)
-      (contents out_before) (contents out_after))
   pub short : status ≡ 3 → (out_after ≡ out_before) ⊎ IsOkAnd arguments (λ list.
       HasTold program (map string_bytes list.items) (remaining input_before)
       (contents out_before) (contents out_after))

@@ -3,3 +3,4 @@ pub mod Input
 pub mod Output
 pub mod Driving
 pub mod private
+pub mod Text

@@ -8,7 +8,7 @@ ghost use Rattle.fdb_command.specs.Arguments.{AreTaken, AreWrong, ReadsInput};
 ghost use Rattle.fdb_command.specs.Input.{TakesAtMost};
 ghost use Rattle.fdb_command.specs.private.Asked.{Ask, AskBy, AskOf};
 ghost use Rattle.fdb_command.specs.Driving.{HasAtMostTold, HasTold, IsBegun, IsCallable, IsDone};
-ghost use Rattle.fdb_command.specs.Driving.{IsDriven, IsFaulty, IsPartial, IsPrinted, IsWritten};
+ghost use Rattle.fdb_command.specs.Driving.{IsDriven, IsFound, IsPrinted, IsRefused, IsWritten};
 ghost use Rattle.fdb_command.specs.Driving.{AreRefused, KeepsPromise, MayFind, MayRefuse};
 ghost use Rattle.fdb_command.specs.Driving.{RefusesWhole, TellsNothing, TellsProgress, Warns};
 ghost use Rattle.fdb_command.specs.private.Taking.{IsPut};
@@ -80,18 +80,87 @@ where
         IsBegun P.promise (map string_bytes list.items)
         (I.remaining input.old) (O.contents out.old) (O.contents out.new)) }
 {
+    match carry_out(program, rt, alloc, arguments, input, out, err, body) {
+        Ok(()) => 0,
+        Err(fault) => {
+            let _ = writeln!(err, "{}: {fault}", P::NAME);
+            fault.status()
+        }
+    }
+}
+
+/// Does what [`drive`] does, but for the line that says why the program ends with another status than
+/// 0: that has the text of the failure, behind the program's name.
+pub fn carry_out<R, P, I, O, E, B>(
+    program: &P,
+    rt: &R,
+    alloc: Global,
+    arguments: io::Result<Vec<String>>,
+    input: &mut I,
+    out: &mut O,
+    err: &mut E,
+    body: B,
+) -> Result<(), Failure<P::Refusal, P::Finding>>
+where
+    R: Files + Clock,
+    P: Program,
+    I: Read,
+    O: Write,
+    E: Write,
+    B: FnOnce(P::Options, P::Intake) -> Made<P> + Drop,
+    requires callable { IsCallable P.promise (B.pre body) }
+    requires promised { KeepsPromise P.promise (B.post body) }
+    ensures asked { MatchResult result
+        (λ _. IsOkAnd arguments (λ list. AreTaken P.promise.app (map string_bytes list.items)))
+        (λ fault. fault ≢ Failure.Arguments → fault ≢ Failure.Memory
+        → IsOkAnd arguments (λ list. AreTaken P.promise.app (map string_bytes list.items))) }
+    ensures done { OnOk result (IsOkAnd arguments (λ list.
+        IsDone P.promise (map string_bytes list.items)
+        (I.remaining input.old) (O.contents out.old) (O.contents out.new))) }
+    ensures refused { IfErr result (λ fault. (error : P.Refusal)
+        → fault ≡ Failure.Refused error → IsOkAnd arguments (λ list.
+        IsRefused P.promise (map string_bytes list.items)
+        (I.remaining input.old) error O.contents out.old out.new)) }
+    ensures faulty { IfErr result (λ fault. (found : P.Finding) → fault ≡ Failure.Found found
+        → IsOkAnd arguments (λ list. IsFound P.promise (map string_bytes list.items)
+        (I.remaining input.old) found O.contents out.old out.new)) }
+    ensures wrong { IfErr result (λ fault. fault ≡ Failure.Arguments
+        → MatchResult arguments (λ list. AreRefused P.promise (map string_bytes list.items))
+        (λ error. error_kind error ≢ ErrorKind.OutOfMemory)) }
+    ensures memory { IfErr result (λ fault. fault ≡ Failure.Memory
+        → IfErr arguments (λ error. error_kind error ≡ ErrorKind.OutOfMemory)) }
+    ensures unread { OnErr arguments (input.new ≡ input.old) }
+    ensures left { IfOk arguments (λ list.
+        (ReadsInput P.promise.app (map string_bytes list.items) → ⊥) → input.new ≡ input.old) }
+    ensures quiet { IfOk arguments (λ list.
+        (TellsProgress P.promise (map string_bytes list.items) → ⊥)
+        → (Warns P.promise (map string_bytes list.items) → ⊥) → err.new ≡ err.old) }
+    ensures untaken { IfErr result (λ fault. fault ≡ Failure.Arguments
+        → input.new ≡ input.old) }
+    ensures unwritten { IfErr result (λ fault. fault ≡ Failure.Arguments
+        → out.new ≡ out.old) }
+    ensures short { IfErr result (λ fault. fault ≡ Failure.Memory
+        → (out.new ≡ out.old) ⊎ IsOkAnd arguments (λ list.
+        HasTold P.promise (map string_bytes list.items)
+        (I.remaining input.old) (O.contents out.old) (O.contents out.new))) }
+    ensures begun { IfErr result (λ fault. (fault ≡ Failure.Reading) ⊎ (fault ≡ Failure.Writing)
+        → (out.new ≡ out.old) ⊎ IsOkAnd arguments (λ list.
+        HasTold P.promise (map string_bytes list.items)
+        (I.remaining input.old) (O.contents out.old) (O.contents out.new)
+        ⊎ IsBegun P.promise (map string_bytes list.items)
+        (I.remaining input.old) (O.contents out.old) (O.contents out.new))) }
+    ensures few { TakesAtMost (P.promise.most + 1)
+        (I.remaining input.old) (I.remaining input.new) }
+{
     let run = Run {
         program,
         rt,
         alloc,
         body,
     };
-    match run.carry_out(arguments, input, out, err) {
-        Ok(()) => 0,
-        Err(fault) => {
-            let _ = writeln!(err, "{}: {fault}", P::NAME);
-            fault.status()
-        }
+    match arguments {
+        Ok(arguments) => run.do_asked(&arguments, input, out, err),
+        Err(error) => Err(Failure::from(ArgumentsFault::from(error))),
     }
 }
 
@@ -110,73 +179,6 @@ where
     R: Files + Clock,
     B: FnOnce(P::Options, P::Intake) -> Made<P> + Drop,
 {
-    /// Does what the arguments ask for, and flushes what was written.
-    fn carry_out<I: Read, O: Write, E: Write>(
-        self,
-        arguments: io::Result<Vec<String>>,
-        input: &mut I,
-        out: &mut O,
-        err: &mut E,
-    ) -> Result<(), Failure<P::Refusal, P::Finding>>
-        requires callable { IsCallable P.promise (B.pre self.body) }
-        requires promised { KeepsPromise P.promise (B.post self.body) }
-        ensures asked { MatchResult result
-            (λ _. IsOkAnd arguments (λ list. AreTaken P.promise.app (map string_bytes list.items)))
-            (λ fault. fault ≢ Failure.Arguments → fault ≢ Failure.Memory
-            → IsOkAnd arguments (λ list. AreTaken P.promise.app (map string_bytes list.items))) }
-        ensures done { OnOk result (IsOkAnd arguments (λ list.
-            IsDone P.promise (map string_bytes list.items)
-            (I.remaining input.old) (O.contents out.old) (O.contents out.new))) }
-        ensures refused { IfErr result (λ fault. (error : P.Refusal)
-            → fault ≡ Failure.Refused error → IsOkAnd arguments (λ list.
-            MayRefuse P.promise (map string_bytes list.items) (I.remaining input.old))) }
-        ensures faulty { IfErr result (λ fault. (found : P.Finding) → fault ≡ Failure.Found found
-            → IsOkAnd arguments (λ list.
-            (HasAtMostTold P.promise (map string_bytes list.items)
-            (I.remaining input.old) O.contents out.old out.new
-            × MayFind P.promise (map string_bytes list.items) (I.remaining input.old))
-            ⊎ IsFaulty P.promise (map string_bytes list.items)
-            (I.remaining input.old) (O.contents out.old) (O.contents out.new))) }
-        ensures wrong { IfErr result (λ fault. fault ≡ Failure.Arguments
-            → MatchResult arguments (λ list. AreRefused P.promise (map string_bytes list.items))
-            (λ error. error_kind error ≢ ErrorKind.OutOfMemory)) }
-        ensures memory { IfErr result (λ fault. fault ≡ Failure.Memory
-            → IfErr arguments (λ error. error_kind error ≡ ErrorKind.OutOfMemory)) }
-        ensures unread { OnErr arguments (input.new ≡ input.old) }
-        ensures left { IfOk arguments (λ list.
-            (ReadsInput P.promise.app (map string_bytes list.items) → ⊥) → input.new ≡ input.old) }
-        ensures quiet { IfOk arguments (λ list.
-            (TellsProgress P.promise (map string_bytes list.items) → ⊥)
-            → (Warns P.promise (map string_bytes list.items) → ⊥) → err.new ≡ err.old) }
-        ensures untaken { IfErr result (λ fault. fault ≡ Failure.Arguments
-            → input.new ≡ input.old) }
-        ensures unwritten { IfErr result (λ fault. fault ≡ Failure.Arguments
-            → out.new ≡ out.old) }
-        ensures besides { IfErr result (λ fault. (error : P.Refusal)
-            → fault ≡ Failure.Refused error → IsOkAnd arguments (λ list.
-            HasAtMostTold P.promise (map string_bytes list.items)
-            (I.remaining input.old) O.contents out.old out.new
-            ⊎ IsPartial P.promise (map string_bytes list.items)
-            (I.remaining input.old) (O.contents out.old) (O.contents out.new))) }
-        ensures short { IfErr result (λ fault. fault ≡ Failure.Memory
-            → (out.new ≡ out.old) ⊎ IsOkAnd arguments (λ list.
-            HasTold P.promise (map string_bytes list.items)
-            (I.remaining input.old) (O.contents out.old) (O.contents out.new))) }
-        ensures begun { IfErr result (λ fault. (fault ≡ Failure.Reading) ⊎ (fault ≡ Failure.Writing)
-            → (out.new ≡ out.old) ⊎ IsOkAnd arguments (λ list.
-            HasTold P.promise (map string_bytes list.items)
-            (I.remaining input.old) (O.contents out.old) (O.contents out.new)
-            ⊎ IsBegun P.promise (map string_bytes list.items)
-            (I.remaining input.old) (O.contents out.old) (O.contents out.new))) }
-        ensures few { TakesAtMost (P.promise.most + 1)
-            (I.remaining input.old) (I.remaining input.new) }
-    {
-        match arguments {
-            Ok(arguments) => self.do_asked(&arguments, input, out, err),
-            Err(error) => Err(Failure::from(ArgumentsFault::from(error))),
-        }
-    }
-
     /// Does what these arguments ask for, and flushes what was written.
     fn do_asked<I: Read, O: Write, E: Write>(
         self,
@@ -194,13 +196,11 @@ where
         ensures done { OnOk result (IsDone P.promise (map string_bytes arguments.now)
             (I.remaining input.old) (O.contents out.old) (O.contents out.new)) }
         ensures refused { IfErr result (λ fault. (error : P.Refusal) → fault ≡ Failure.Refused error
-            → MayRefuse P.promise (map string_bytes arguments.now) (I.remaining input.old)) }
+            → IsRefused P.promise (map string_bytes arguments.now)
+            (I.remaining input.old) error O.contents out.old out.new) }
         ensures faulty { IfErr result (λ fault. (found : P.Finding) → fault ≡ Failure.Found found
-            → (HasAtMostTold P.promise (map string_bytes arguments.now)
-            (I.remaining input.old) O.contents out.old out.new
-            × MayFind P.promise (map string_bytes arguments.now) (I.remaining input.old))
-            ⊎ IsFaulty P.promise (map string_bytes arguments.now)
-            (I.remaining input.old) (O.contents out.old) (O.contents out.new)) }
+            → IsFound P.promise (map string_bytes arguments.now)
+            (I.remaining input.old) found O.contents out.old out.new) }
         ensures wrong { IfErr result (λ fault. fault ≡ Failure.Arguments
             → AreRefused P.promise (map string_bytes arguments.now)) }
         ensures left { (ReadsInput P.promise.app (map string_bytes arguments.now) → ⊥)
@@ -211,12 +211,6 @@ where
             → input.new ≡ input.old) }
         ensures unwritten { IfErr result (λ fault. fault ≡ Failure.Arguments
             → out.new ≡ out.old) }
-        ensures besides { IfErr result (λ fault. (error : P.Refusal)
-            → fault ≡ Failure.Refused error
-            → HasAtMostTold P.promise (map string_bytes arguments.now)
-            (I.remaining input.old) O.contents out.old out.new
-            ⊎ IsPartial P.promise (map string_bytes arguments.now)
-            (I.remaining input.old) (O.contents out.old) (O.contents out.new)) }
         ensures short { IfErr result (λ fault. fault ≡ Failure.Memory
             → HasAtMostTold P.promise (map string_bytes arguments.now)
             (I.remaining input.old) O.contents out.old out.new) }
@@ -252,21 +246,13 @@ where
             (O.contents out.old) (O.contents out.new)) }
         ensures refused { (arguments : List Text) → AskBy P.promise arguments matches.now options
             → IfErr result (λ fault. (error : P.Refusal) → fault ≡ Failure.Refused error
-            → MayRefuse P.promise arguments (I.remaining input.old)) }
+            → IsRefused P.promise arguments
+            (I.remaining input.old) error O.contents out.old out.new) }
         ensures faulty { (arguments : List Text) → AskBy P.promise arguments matches.now options
             → IfErr result (λ fault. (found : P.Finding) → fault ≡ Failure.Found found
-            → (HasAtMostTold P.promise arguments
-            (I.remaining input.old) O.contents out.old out.new
-            × MayFind P.promise arguments (I.remaining input.old))
-            ⊎ IsFaulty P.promise arguments
-            (I.remaining input.old) (O.contents out.old) (O.contents out.new)) }
+            → IsFound P.promise arguments
+            (I.remaining input.old) found O.contents out.old out.new) }
         ensures own { IfErr result (λ fault. fault ≢ Failure.Arguments) }
-        ensures besides { (arguments : List Text) → AskBy P.promise arguments matches.now options
-            → IfErr result (λ fault. (error : P.Refusal) → fault ≡ Failure.Refused error
-            → HasAtMostTold P.promise arguments
-            (I.remaining input.old) O.contents out.old out.new
-            ⊎ IsPartial P.promise arguments
-            (I.remaining input.old) (O.contents out.old) (O.contents out.new)) }
         ensures short { (arguments : List Text) → AskBy P.promise arguments matches.now options
             → IfErr result (λ fault. fault ≡ Failure.Memory → HasAtMostTold P.promise arguments
             (I.remaining input.old) O.contents out.old out.new) }
@@ -309,10 +295,10 @@ where
             answer.found answer.refused (told ++ answer.text.items)) }
         ensures refused { (arguments : List Text) → AskBy P.promise arguments matches.now options
             → IfErr result (λ fault. (error : P.Refusal) → fault ≡ Failure.Refused error
-            → MayRefuse P.promise arguments (I.remaining input.old)) }
+            → MayRefuse P.promise arguments (I.remaining input.old) error) }
         ensures faulty { (arguments : List Text) → AskBy P.promise arguments matches.now options
             → IfErr result (λ fault. (found : P.Finding) → fault ≡ Failure.Found found
-            → MayFind P.promise arguments (I.remaining input.old)) }
+            → MayFind P.promise arguments (I.remaining input.old) found) }
         ensures own { IfErr result (λ fault. fault ≢ Failure.Arguments) }
         ensures unsaid { (arguments : List Text) → AskBy P.promise arguments matches.now options
             → (Warns P.promise arguments → ⊥)

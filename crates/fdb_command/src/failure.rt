@@ -55,15 +55,19 @@ impl<E: Debug + Display + Drop, F: Debug + Display + Drop> Failure<E, F> {
 }
 
 impl<E: Debug + Display + Drop, F: Debug + Display + Drop> Display for Failure<E, F> {
+    ghost use Rattle.fdb_command.specs.Text.{failure_text};
+
+    ghost output = { failure_text E.output F.output };
+
     fn fmt<W: fmt::Write>(&self, f: &mut fmt::Formatter<W>) -> fmt::Result {
-        f.write_str(match self {
-            Failure::Refused(error) => return write!(f, "{error}"),
-            Failure::Arguments => "words refused",
-            Failure::Memory => "want of memory",
-            Failure::Found(found) => return write!(f, "audit fault: {found}"),
-            Failure::Reading => "reading failed",
-            Failure::Writing => "writing failed",
-        })
+        match self {
+            Failure::Refused(error) => write!(f, "{error}"),
+            Failure::Arguments => f.write_str("words refused"),
+            Failure::Memory => f.write_str("want of memory"),
+            Failure::Found(found) => write!(f, "audit fault: {found}"),
+            Failure::Reading => f.write_str("reading failed"),
+            Failure::Writing => f.write_str("writing failed"),
+        }
     }
 }
 

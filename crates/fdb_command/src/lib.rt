@@ -16,7 +16,7 @@ pub use arguments::{
     ArgumentsFault, command_line, file_argument, flag_argument, is_given, new_command, number,
     number_argument,
 };
-pub use driving::drive;
+pub use driving::{carry_out, drive};
 pub use failure::Failure;
 pub use output::write_whole;
 pub use program::{Output, Program, Told};

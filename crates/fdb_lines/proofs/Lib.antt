@@ -52,3 +52,4 @@ pub mod GoneOnByKey
 pub mod Named
 pub mod TakenAway
 pub mod WatchStands
+mod KeyNumbers

@@ -23,6 +23,12 @@ IsLogOf parts key log =
     ((part : KeyPart) × Contains parts part × (part.key ≡ key) × (log ≡ lines_of part.watch.log))
     ⊎ (((i : ℕ) → i < length (names_of parts) → key_at (names_of parts) i ≢ key) × (log ≡ no_lines))
 
+-- from when on a line of a key is judged that comes late: as its watch judges, and any where it has no line yet
+abbrev pub IsJudgedFrom : List KeyPart → Option ℕ → ℕ → Type 0
+IsJudgedFrom parts key at =
+    ((part : KeyPart) × Contains parts part × (part.key ≡ key) × (at ≡ judged_from part.watch))
+    ⊎ (((i : ℕ) → i < length (names_of parts) → key_at (names_of parts) i ≢ key) × (at ≡ 0))
+
 -- Why a line is not taken, if it is not, where so many have come and these are kept of its key: the first that holds.
 abbrev pub refusal_in : ℕ → Lines → Line → Option WatchError
 refusal_in count log line =

@@ -52,7 +52,7 @@ impl KeyWatch {
     ghost use Rattle.fdb_lines.specs.declared.watch.WatchError.TheVariants.{NoTimes};
     ghost use Rattle.fdb_lines.specs.KeyWatch.{AreKept, AreTold, GoesOn, HasEntry};
     ghost use Rattle.fdb_lines.specs.KeyWatch.{HasNothingToTell, HasSeenByKey, IsLogOf, KeepsOn};
-    ghost use Rattle.fdb_lines.specs.KeyWatch.{refusal_in, IsRefusedFor};
+    ghost use Rattle.fdb_lines.specs.KeyWatch.{refusal_in, IsJudgedFrom, IsRefusedFor};
     ghost use Rattle.fdb_lines.specs.ToldByKey.{audited, told_by_all, HasTold};
 
     /// A watch that has seen no line.
@@ -79,6 +79,17 @@ impl KeyWatch {
         ensures { result ≡ self.now.from }
     {
         self.from
+    }
+
+    /// The moment from which on a line of a key is judged that comes next, be it late: 0 where the key
+    /// has no line yet.
+    pub fn judged_from(&self, key: Option<u32>) -> u64
+        ensures { IsJudgedFrom self.now.parts.items key result }
+    {
+        match self.numbers.get(&number_of(key)) {
+            Some(place) => self.parts[*place].watch.judged_from(),
+            None => 0,
+        }
     }
 
     /// The lines that it keeps, of each key in the order in which they came.

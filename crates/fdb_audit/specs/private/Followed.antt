@@ -1,5 +1,5 @@
 -- What the parts of a follower hold of the lines that were read. (this product's own)
-use Rattle.std.specs.Prelude.{◌≡◌, ℕ, ◌+◌, ◌-◌, ◌^◌, ◌++◌, Bool, true, false, List, [], All, is_some, length, min, string_bytes, Result}
+use Rattle.std.specs.Prelude.{◌≡◌, ℕ, ◌+◌, ◌-◌, ◌^◌, ◌++◌, ◌&&◌, Bool, true, false, List, [], All, Some, is_some, length, max, min, nat_lt, string_bytes, unwrap_or, Result, if◌then◌else◌, ◌∷◌, ◌<◌}
 use Rattle.std.specs.Option.{option_or}
 use Rattle.fdb_lines.specs.declared.fault.Fault.{Fault}
 use Rattle.fdb_lines.specs.declared.fault.Found.{Found}
@@ -8,9 +8,16 @@ use Rattle.fdb_log_reader.specs.declared.error.Why.{Why}
 use Rattle.fdb_log_reader.specs.ReadLine.{SaidLine}
 use Rattle.fdb_log_reader.specs.LineReader.{lines_on, names_on}
 use Rattle.fdb_audit.specs.declared.arguments.AuditArguments.{AuditArguments}
+use Rattle.fdb_audit.specs.declared.counts.Came.{Came}
+use Rattle.fdb_audit.specs.declared.counts.Counts.{Counts}
 use Rattle.fdb_audit.specs.declared.follower.Follower.{Follower}
-pub use Rattle.fdb_audit.specs.Taken.{AreNumbered, AreTaken, HasCounted, HasTotals, HasTotalsIn, counted_in, counted_of}
+pub use Rattle.fdb_audit.specs.Taken.{AreCounted, AreNumbered, AreTaken, HasCounted, HasTotals, HasTotalsIn, HasWarned, counted_in, counted_of}
+use Rattle.std.specs.Int.{is_power_of_two}
+use Rattle.fdb_lines.specs.Before.{began, ended}
+use Rattle.fdb_audit.specs.declared.taking.Taking.{Taking}
 use Rattle.fdb_audit.specs.declared.teller.Teller.{Teller}
+use Rattle.fdb_audit.specs.declared.warning.Warning.TheVariants.{Early}
+use Rattle.fdb_audit.specs.Warned.{AreEarly, warning_line}
 use Rattle.fdb_audit.specs.Following.{AreWindows, FollowArguments, KeptNumbers, Start, Window, first_told, kinds_told, lines_told, told_in_all}
 use Rattle.fdb_audit.specs.Watched.{IsTold, lines_asked, names_asked}
 
@@ -42,9 +49,50 @@ abbrev pub one_more : Bool → ℕ → ℕ
 one_more true count = min (count + 1) (2 ^ 64 - 1)
 one_more false count = count
 
+-- one line more came, early or not
+pub record CameMore (is_early : Bool) (came : Came) (old new : Counts) : Type 0 where
+  pub early : new.early ≡ one_more is_early old.early
+  pub judged : new.judged ≡ one_more (is_early && came.is_judged) old.judged
+  pub last : new.last_early ≡ (if is_early then Some came.number else old.last_early)
+
+-- what is said of a line, by its number, that began so long before what had been settled, where so many have come early with it
+abbrev pub early_text : (line by count : ℕ) → List ℕ
+early_text line by count =
+    if nat_lt 0 by && is_power_of_two count then warning_line (Early (record { line = line; by = by; count = count })) else []
+
+-- A line more was taken, which is noted, where all was settled up to a moment.
+pub record NotesLine (from : ℕ) (old new : Taking) (line : Line) : Type 0 where
+  pub number : ℕ
+  pub judged : Bool
+  pub numbering : new.numbering ≡ old.numbering
+  pub count : new.taken ≡ old.taken + 1
+  pub refused : new.refused ≡ old.refused
+  pub newest : new.newest ≡ max old.newest (unwrap_or (ended line) 0)
+  pub counted : (lines : List Line) → length lines + 1 < 2 ^ 64 → AreCounted old.counts lines → AreCounted new.counts (lines ++ line ∷ [])
+  pub its_number : number ≡ min (new.taken + new.numbering.more + length new.numbering.above.items) (2 ^ 64 - 1)
+  pub came : CameMore (nat_lt (began line) from) (record { number = number; is_judged = judged }) old.counts new.counts
+  pub warned : string_bytes new.warnings ≡ string_bytes old.warnings ++ early_text number (from - began line) new.counts.early
+
 -- by which arguments what is told is told
 abbrev pub told_with : ℕ → Teller → List (List ℕ) → FollowArguments
 told_with behind teller members = record { behind = behind; margin = teller.margin; by_key = is_some teller.key; members = members }
+
+-- how lines came, by the counts
+abbrev pub AreEarlyIn : Start → List (Result SaidLine Why) → Counts → Type 0
+AreEarlyIn start read counts = AreEarly start.numbers.more read counts.early counts.judged counts.last_early
+
+-- The lines that were taken have settled further, no line that comes may begin so far behind; nothing was said of them.
+pub record SettlesOn (behind : ℕ) (old new : Taking) : Type 0 where
+  pub taken : (start : Start) (read : List (Result SaidLine Why)) (told : List Found) → behind ≡ start.behind → AreTaken start old read told
+      → (more : List Found) × AreTaken start new read (told ++ more)
+  pub warnings : new.warnings ≡ old.warnings
+  pub counts : new.counts ≡ old.counts
+
+-- all is said of them
+pub record SaysNext (old new : Taking) : Type 0 where
+  pub taken : (start : Start) (read : List (Result SaidLine Why)) (told : List Found) → AreTaken start old read told → AreTaken start new read told
+  pub warnings : string_bytes new.warnings ≡ []
+  pub counts : new.counts ≡ old.counts
 
 -- nothing has been read
 pub record IsUnread (asked : AuditArguments) (start : Start) (follower : Follower) : Type 0 where
@@ -52,6 +100,7 @@ pub record IsUnread (asked : AuditArguments) (start : Start) (follower : Followe
   pub names : (text : List ℕ) → names_asked asked text ≡ names_on follower.reader text
   pub at : follower.behind ≡ start.behind
   pub taken : AreTaken start follower.taking [] start.told
+  pub warned : HasWarned start follower.taking [] []
   pub margin : follower.taking.watch.margin ≡ asked.opts.margin
   pub text : string_bytes follower.teller.text ≡ []
   pub are : IsTold asked start follower.teller [] []

@@ -8,11 +8,12 @@ use Rattle.fdb_command.specs.declared.failure.Failure.{Failure}
 use Rattle.fdb_command.specs.declared.failure.Failure.TheVariants.{Refused, Arguments, Memory, Found, Reading, Writing}
 use Rattle.fdb_audit.specs.declared.fault.LogFault.{LogFault}
 use Rattle.fdb_audit.specs.declared.refused.LogsRefused.{LogsRefused}
-use Rattle.fdb_audit.specs.declared.refused.LogsRefused.TheVariants.{Kept, Log}
+use Rattle.fdb_audit.specs.declared.refused.LogsRefused.TheVariants.{Early, Kept, Log}
 
 -- memory was refused, or where lines are kept these could not be read or are refused
 abbrev pub MayStop : Bool → Failure LogsRefused LogFault → Type 0
 MayStop keeps (Refused (Log error)) = ⊥
+MayStop keeps (Refused (Early number)) = ⊥
 MayStop keeps (Refused (Kept refused)) = keeps ≡ true
 MayStop keeps Arguments = ⊥
 MayStop keeps Memory = ⊤

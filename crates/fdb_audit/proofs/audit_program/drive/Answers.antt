@@ -1,4 +1,4 @@
-use Rattle.std.proofs.Common.{◌≡◌, ◌++◌, ◌∙◌, ℕ, false, List, [], IfSome, MatchResult, None, Option, Some, Ok, Err, Result, ap, is_some, map, option_map, refl, string_bytes, subst, sym}
+use Rattle.std.proofs.Common.{◌≡◌, ◌++◌, ◌∙◌, ℕ, false, List, [], IfSome, MatchResult, None, Option, Some, Ok, Err, Result, ap, is_some, map, not, refl, string_bytes, subst, sym}
 use Rattle.std.proofs.lemmas.Bool.{false≢true}
 use Rattle.std.proofs.lemmas.Result.{IfOk-weaker}
 use Rattle.clap.specs.Words.{Text}
@@ -6,14 +6,15 @@ use Rattle.fdb_command.specs.Driving.{MayAnswer, RefusesWhole, Stops, TellsNothi
 use Rattle.fdb_command.specs.declared.failure.Failure.{Failure}
 use Rattle.fdb_command.specs.declared.program.Output.{Output}
 use Rattle.fdb_log_reader.specs.declared.error.ReadError.{ReadError}
-use Rattle.fdb_audit.specs.Program.{HasTaken, IsAsked, IsWhole, PrintsBy, RefusesBy, audit, refused_of, started}
+use Rattle.fdb_audit.specs.Program.{HasTaken, IsAsked, IsWhole, PrintsBy, RefusesBy, audit, refusal_of, refused_of, started}
+use Rattle.fdb_audit.specs.Watched.{IsFollowed}
 use Rattle.fdb_audit.specs.declared.refused.KeptRefused.{KeptRefused}
 use Rattle.fdb_audit.specs.declared.arguments.AuditArguments.{AuditArguments}
 use Rattle.fdb_audit.specs.declared.fault.LogFault.{LogFault}
 use Rattle.fdb_audit.specs.declared.audit_program.AuditIntake.{AuditIntake}
 use Rattle.fdb_audit.specs.declared.audit_program.AuditIntake.TheVariants.{Followed, Whole}
 use Rattle.fdb_audit.specs.declared.refused.LogsRefused.{LogsRefused}
-use Rattle.fdb_audit.specs.declared.refused.LogsRefused.TheVariants.{Kept, Log}
+use Rattle.fdb_audit.specs.declared.refused.LogsRefused.TheVariants.{Early, Kept, Log}
 use Rattle.fdb_audit.proofs.audit_program.drive.Goals as goal
 
 is_none : {X : Type 0} (it : Option X) → is_some it ≡ false → it ≡ None
@@ -23,27 +24,46 @@ is_none (Some x) is = absurd (false≢true (sym is))
 not_both : {X : Type 0} (x : X) → Some x ≡ None → ⊥
 not_both x is = false≢true (sym (ap is_some is))
 
--- what is refused of a log is the line's error
+-- what is refused of a log is the line's error, or else the last line that came early
 abbrev error_of : Option LogsRefused → Option ReadError
 error_of None = None
 error_of (Some (Log error)) = Some error
+error_of (Some (Early number)) = None
 error_of (Some (Kept refused)) = None
 
-log_error : (o : Option ReadError) (error : ReadError) → Some (Log error) ≡ option_map Log o → o ≡ Some error
-log_error None error is = absurd (not_both (Log error) is)
-log_error (Some other) error is = sym (ap error_of is)
+abbrev early_of : Option LogsRefused → Option ℕ
+early_of None = None
+early_of (Some (Log error)) = None
+early_of (Some (Early number)) = Some number
+early_of (Some (Kept refused)) = None
 
-not_kept : (o : Option ReadError) (refused : KeptRefused) → Some (Kept refused) ≡ option_map Log o → ⊥
-not_kept None refused is = not_both (Kept refused) is
-not_kept (Some error) refused is = false≢true (ap is_some (ap error_of is))
+log_error : (o : Option ReadError) (last : Option ℕ) (error : ReadError) → Some (Log error) ≡ refusal_of o last → o ≡ Some error
+log_error None None error is = absurd (not_both (Log error) is)
+log_error None (Some number) error is = absurd (false≢true (sym (ap is_some (ap error_of is))))
+log_error (Some other) last error is = sym (ap error_of is)
+
+early_error : (o : Option ReadError) (last : Option ℕ) (number : ℕ) → Some (Early number) ≡ refusal_of o last → (o ≡ None) × (last ≡ Some number)
+early_error None None number is = absurd (not_both (Early number) is)
+early_error None (Some other) number is = (refl, sym (ap early_of is))
+early_error (Some error) last number is = absurd (false≢true (ap is_some (ap error_of is)))
+
+not_kept : (o : Option ReadError) (last : Option ℕ) (refused : KeptRefused) → Some (Kept refused) ≡ refusal_of o last → ⊥
+not_kept None None refused is = not_both (Kept refused) is
+not_kept None (Some number) refused is = false≢true (ap is_some (ap early_of is))
+not_kept (Some error) last refused is = false≢true (ap is_some (ap error_of is))
 
 -- what is refused of what is printed so is refused so
 part_refused : (follow : Option ℕ) (asked : AuditArguments) (bytes text : List ℕ) (found : Option LogFault) (refused : Option LogsRefused)
     → PrintsBy follow asked bytes text found refused → IfSome refused (RefusesBy follow asked bytes)
 part_refused follow asked bytes text found None is = tt
 part_refused None asked bytes text found (Some error) is = absurd (not_both error is.1)
-part_refused (Some behind) asked bytes text found (Some (Log error)) is = (is.0, is.1, log_error (refused_of asked (started asked behind is.0) (is.0 ++ bytes)) error is.3)
-part_refused (Some behind) asked bytes text found (Some (Kept error)) is = absurd (not_kept (refused_of asked (started asked behind is.0) (is.0 ++ bytes)) error is.3)
+part_refused (Some behind) asked bytes text found (Some (Log error)) (kept, for, last, followed, is) =
+    (kept, for, log_error (refused_of asked (started asked behind kept) (kept ++ bytes)) last error is)
+part_refused (Some behind) asked bytes text found (Some (Early number)) (kept, for, last, followed, is) =
+    let (none, early) = early_error (refused_of asked (started asked behind kept) (kept ++ bytes)) last number is in
+    (kept, for, none, text, found, subst (IsFollowed asked (started asked behind kept) (not (is_some asked.keep)) (kept ++ bytes) text found) early followed)
+part_refused (Some behind) asked bytes text found (Some (Kept error)) (kept, for, last, followed, is) =
+    absurd (not_kept (refused_of asked (started asked behind kept) (kept ++ bytes)) last error is)
 
 refused_so : (arguments : List Text) (asked : AuditArguments) (bytes : List ℕ) (refused : Option LogsRefused) → IsAsked arguments asked
     → IfSome refused (RefusesBy asked.follow asked bytes) → IfSome refused (audit.refuses arguments bytes)

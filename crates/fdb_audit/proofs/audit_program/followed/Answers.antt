@@ -1,19 +1,17 @@
 use Rattle.std.proofs.Common.{◌≡◌, ◌∙◌, ◌++◌, ℕ, Bool, List, ap, false, is_some, not, string_bytes, subst, sym, true}
-use Rattle.std.specs.Prelude.{option_map}
 use Rattle.fdb_audit.specs.Following.{Start}
 use Rattle.fdb_audit.specs.Watched.{HasFollowed, IsFollowed}
 use Rattle.fdb_audit.specs.declared.arguments.AuditArguments.{AuditArguments}
 use Rattle.fdb_audit.specs.declared.follower.Followed.{Followed}
 use Rattle.fdb_audit.specs.declared.follower.Follower.{Follower}
-use Rattle.fdb_audit.specs.declared.refused.LogsRefused.TheVariants.{Log}
-use Rattle.fdb_audit.specs.Program.{refused_of}
+use Rattle.fdb_audit.specs.Program.{refusal_of, refused_of}
 use Rattle.fdb_audit.proofs.audit_program.followed.Goals.{then-is_some+in_ok-it, else-is_some+in_ok-it-2}
 use Rattle.fdb_audit.proofs.audit_program.followed.Goals as goal
 
 -- what is told and what is refused of what was followed
 abbrev Ends : Follower → AuditArguments → Bool → Followed → Type 0
 Ends follower asked ends it = (start : Start) (bytes told : List ℕ) → HasFollowed asked start follower bytes told
-    → IsFollowed asked start ends bytes (told ++ string_bytes it.said.text) it.found × (it.refused ≡ refused_of asked start bytes)
+    → IsFollowed asked start ends bytes (told ++ string_bytes it.said.text) it.found it.last_early × (it.refused ≡ refused_of asked start bytes)
 
 pub returns-clause-told : goal.returns-clause-told
 returns-clause-told g c =
@@ -33,7 +31,8 @@ returns-clause-told g c =
     λ start bytes told has.
     let (all, left) = ends start bytes told has in
     let answer = c.answered.result in (
-      subst (λ text. IsFollowed asked start (not (is_some asked.keep)) bytes (told ++ text) answer.found) (sym c.answered.ensures.text)
-          (subst (λ found. IsFollowed asked start (not (is_some asked.keep)) bytes (told ++ string_bytes it.said.text) found) (sym c.answered.ensures.found) all),
-      c.answered.ensures.refused ∙ ap (option_map Log) left,
+      it.last_early,
+      subst (λ text. IsFollowed asked start (not (is_some asked.keep)) bytes (told ++ text) answer.found it.last_early) (sym c.answered.ensures.text)
+          (subst (λ found. IsFollowed asked start (not (is_some asked.keep)) bytes (told ++ string_bytes it.said.text) found it.last_early) (sym c.answered.ensures.found) all),
+      c.answered.ensures.refused ∙ ap (λ refused. refusal_of refused it.last_early) left,
     )

@@ -7,8 +7,8 @@ returns-in-Err-clause-driven g c = record {
   range = c.status.ensures.range.1;
   asked = λ no_words no_memory. c.in-Err.ensures.asked (λ is. no_words (c.status.ensures.arguments is)) (λ is. no_memory (c.status.ensures.memory is));
   done = λ is. absurd (omega (arith, is, c.status.ensures.range.0));
-  refused = λ is. let (error, why) = c.status.ensures.only_refused is in c.in-Err.ensures.refused error why;
-  faulty = λ is. let (found, why) = c.status.ensures.only_found is in c.in-Err.ensures.faulty found why;
+  refused = λ is. let (error, why) = c.status.ensures.only_refused is in (error, c.in-Err.ensures.refused error why);
+  faulty = λ is. let (found, why) = c.status.ensures.only_found is in (found, c.in-Err.ensures.faulty found why);
   wrong = λ is. c.in-Err.ensures.wrong (c.status.ensures.only_arguments is);
   memory = λ is. c.in-Err.ensures.memory (c.status.ensures.only_memory is);
   unread = c.in-Err.ensures.unread;
@@ -16,7 +16,6 @@ returns-in-Err-clause-driven g c = record {
   quiet = λ is. absurd (omega (arith, is, c.status.ensures.range.0));
   untaken = λ is. c.in-Err.ensures.untaken (c.status.ensures.only_arguments is);
   unwritten = λ is. c.in-Err.ensures.unwritten (c.status.ensures.only_arguments is);
-  besides = λ is. let (error, why) = c.status.ensures.only_refused is in c.in-Err.ensures.besides error why;
   short = λ is. c.in-Err.ensures.short (c.status.ensures.only_memory is);
   begun = λ is. c.in-Err.ensures.begun (c.status.ensures.only_failed is);
   few = c.in-Err.ensures.few;

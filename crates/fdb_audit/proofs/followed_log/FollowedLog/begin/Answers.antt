@@ -21,5 +21,5 @@ returns-in_ok-follower-in-None-clause-begun g c =
     let none : is_some asked.keep ≡ false = sym c.as_deref.ensures.variant ∙ ap is_some c.in-None.is in (
       [],
       λ _. refl,
-      subst (λ b. HasFollowed asked (if b then start_of asked c.args.behind [] else fresh c.args.behind) c.in_ok-follower-in-None.follower [] []) (sym none) c.in_ok-follower-in-None.ensures,
+      subst (λ b. HasFollowed asked (if b then start_of asked c.args.behind [] else fresh c.args.behind) c.in_ok-follower-in-None.follower [] []) (sym none) c.in_ok-follower-in-None.ensures.followed,
     )

@@ -8,7 +8,7 @@ pub returns-clause-told : goal.returns-clause-told
 returns-clause-told c = λ asked start bytes told ends is names.
     let read = lines_asked asked bytes in
     let (end, end_is, text) = c.in_ok-end.ensures.text (members_asked asked) (lines_told read is.windows) (kinds_told is.windows) is.are.totals in
-    all_told asked start ends c.args.self bytes told _ end _ is names
+    all_told asked start ends c.args.self bytes told _ end _ _ is names
     (c.say-said.ensures.text ∙ text)
-    (c.say-said.ensures.first ∙ c.end.ensures.first)
+    (c.say-said.ensures.first ∙ c.end.ensures.first) refl
     end_is

@@ -6,7 +6,7 @@ use Rattle.fdb_log_reader.specs.ReadLine.{SaidLine, no_names, said_in}
 use Rattle.fdb_audit.specs.Following.{start_with}
 use Rattle.fdb_audit.specs.Kept.{start_from}
 use Rattle.fdb_audit.specs.Watched.{lines_asked}
-use Rattle.fdb_audit.specs.private.Followed.{AreTaken}
+use Rattle.fdb_audit.specs.private.Followed.{AreTaken, HasWarned}
 use Rattle.fdb_audit.proofs.KeptTexts.{nothing_pending}
 use Rattle.fdb_audit.proofs.TellingOn.{fed_first}
 use Rattle.fdb_audit.proofs.follower.Follower.feed_kept.Goals as goal
@@ -22,12 +22,11 @@ returns c = λ asked behind kept told_is settled_is ends is.
     sym (ap (lines_asked asked) (sym (append-nil bytes)) ∙ (goes [] ∙ (ap (λ (rest : List (Result SaidLine Why)). lines ++ rest) none ∙ append-nil lines))) in
     let start = start_from behind asked.opts.margin kept (lines_asked asked bytes) in
     let took = c.in_ok-take_kept.ensures.taken behind kept told_is settled_is is.taken in
-    let took_so : AreTaken start c.take_kept.new.self lines start.told =
-    subst (λ (read : List (Result SaidLine Why)). AreTaken (start_from behind asked.opts.margin kept read) c.take_kept.new.self lines (start_from behind asked.opts.margin kept read).told) whole
-    (subst (λ margin. AreTaken (start_from behind margin kept lines) c.take_kept.new.self lines (start_from behind margin kept lines).told) is.margin took) in
-    fed_first (start_with behind kept.numbers) start asked c.args.self.now _ bytes lines is refl refl
-    c.in_ok-lines.ensures.read c.in_ok-lines.ensures.behind
-    (record {
+    let Took = λ (read : List (Result SaidLine Why)) (margin : ℕ).
+    let start = start_from behind margin kept read in AreTaken start c.take_kept.new.self lines start.told × HasWarned start c.take_kept.new.self lines [] in
+    let (took_so, said_so) : Took (lines_asked asked bytes) asked.opts.margin =
+    subst (λ (read : List (Result SaidLine Why)). Took read asked.opts.margin) whole (subst (Took lines) is.margin took) in
+    let taken : AreTaken start c.feed_kept.new.self.taking lines start.told = record {
       seen = took_so.seen;
       numbered = record { above = took_so.numbered.above; front = took_so.numbered.front; few = took_so.numbered.few };
       count = took_so.count;
@@ -35,7 +34,13 @@ returns c = λ asked behind kept told_is settled_is ends is.
       counted = took_so.counted;
       few = took_so.few;
       before = took_so.before;
+      came = took_so.came;
       reach = λ anew. absurd (false≢true anew);
       once = took_so.once;
-    })
-    c.take_kept.ensures.margin refl refl
+    } in (
+      fed_first (start_with behind kept.numbers) start asked c.args.self.now _ bytes lines is refl refl
+          c.in_ok-lines.ensures.read c.in_ok-lines.ensures.behind
+          taken
+          c.take_kept.ensures.margin refl refl,
+      record { read = lines; goes = goes; behind = is.at; told = start.told; taken = taken; said = said_so },
+    )

@@ -1,6 +1,8 @@
-use Rattle.std.proofs.Common.{◌∙◌, ap, sym, true}
+use Rattle.std.proofs.Common.{◌∙◌, ap, string_bytes, sym, true}
 use Rattle.fdb_log_reader.specs.LineReader.{line_names}
 use Rattle.fdb_audit.specs.Watched.{lines_asked}
+use Rattle.fdb_audit.specs.declared.counts.Counts.{Counts}
+use Rattle.fdb_audit.proofs.SaidOn.{said_all}
 use Rattle.fdb_audit.proofs.follower.Follower.finish.Goals as goal
 
 pub returns-clause-told : goal.returns-clause-told
@@ -13,3 +15,9 @@ pub returns-clause-refused : goal.returns-clause-refused
 returns-clause-refused c = λ asked start bytes told has.
     c.in_ok-followed.ensures.refused
     ∙ c.left_out-refused.ensures start (lines_asked asked bytes) _ (c.in_ok-take_last.ensures.told asked start bytes told has).taken
+
+pub returns-clause-said : goal.returns-clause-said
+returns-clause-said c = λ asked start bytes warned has.
+    said_all start asked c.take_last.new.self.taking bytes warned _ _ (c.in_ok-take_last.ensures.said asked start bytes warned has)
+    (ap string_bytes (c.in_ok-followed.ensures.warnings ∙ c.settle_for_good.ensures.warnings.0))
+    (c.in_ok-followed.ensures.early ∙ ap (λ (counts : Counts). counts.last_early) c.settle_for_good.ensures.warnings.1)

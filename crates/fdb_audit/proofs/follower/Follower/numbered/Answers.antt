@@ -20,6 +20,7 @@ returns c =
           ∙ ap (λ (key : Option (List ℕ)). names_behind (map string_bytes asked.shown.items) (no_names key) (lines_in text)) key));
       at = refl;
       taken = c.in_ok-taking.ensures.taken c.args.behind;
+      warned = c.in_ok-taking.ensures.warned c.args.behind;
       margin = c.in_ok-taking.ensures.margin;
       text = teller.text;
       are = record {

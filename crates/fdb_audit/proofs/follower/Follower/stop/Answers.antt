@@ -6,6 +6,7 @@ use Rattle.fdb_audit.specs.Kept.{Keeps}
 use Rattle.fdb_audit.specs.Taken.{AreTaken}
 use Rattle.fdb_audit.specs.Watched.{lines_asked, names_asked}
 use Rattle.fdb_audit.proofs.KeptTexts.{member_asked}
+use Rattle.fdb_audit.proofs.SaidOn.{said_all}
 use Rattle.fdb_audit.proofs.TellingOn.{told_so_far}
 use Rattle.fdb_audit.proofs.follower.Follower.stop.Goals as goal
 
@@ -37,3 +38,8 @@ returns-clause-kept c =
           (subst (λ (names : LineNames). Keeps (member_in names) names start.numbers taking read (string_bytes text)) (sym same)
           (says start read (start.told ++ told_in_all read is.windows) is.taken)),
     )) c.in_ok-kept.ensures
+
+pub returns-clause-said : goal.returns-clause-said
+returns-clause-said c = λ asked start bytes warned has.
+    said_all start asked c.take_last.new.self.taking bytes warned _ _ (c.in_ok-take_last.ensures.said asked start bytes warned has)
+    (ap string_bytes c.in_ok-followed.ensures.warnings) c.in_ok-followed.ensures.early

@@ -2,7 +2,8 @@ use Rattle.std.proofs.Common.{◌≡◌, [], ◌∷◌, List, MatchOption, None,
 use Rattle.fdb_log_reader.specs.declared.error.Why.{Why}
 use Rattle.fdb_log_reader.specs.declared.read_line.ReadLine.{ReadLine}
 use Rattle.fdb_log_reader.specs.ReadLine.{SaidLine, said_in}
-use Rattle.fdb_audit.specs.private.Followed.{AreTaken}
+use Rattle.fdb_audit.specs.private.Followed.{AreTaken, HasWarned}
+use Rattle.fdb_audit.proofs.SaidOn.{said_last}
 use Rattle.fdb_audit.proofs.TellingOn.{ended}
 use Rattle.fdb_audit.proofs.follower.Follower.take_last.Goals as goal
 
@@ -26,3 +27,17 @@ returns-in_default-clause-told c = λ asked start bytes told has.
     ended start asked c.args.self.now _ bytes told [] has
     (of_none _ c.in_ok-last.last c.in_default.not-Some c.in_ok-last.ensures.read)
     c.in_ok-last.ensures.names (λ read told is. subst (λ all. AreTaken start c.args.self.now.taking all told) (sym (append-nil read)) is) refl refl refl
+
+pub returns-in_ok-take-clause-said : goal.returns-in_ok-take-clause-said
+returns-in_ok-take-clause-said c = λ asked start bytes warned has.
+    said_last start asked c.args.self.now c.take.new.self bytes warned (said_in c.in-Some.last ∷ []) has
+    (of_one _ c.in_ok-last.last c.in-Some.last c.in-Some.is c.in_ok-last.ensures.read)
+    (c.in_ok-take.ensures.taken start) (c.in_ok-take.ensures.warned start)
+
+pub returns-in_default-clause-said : goal.returns-in_default-clause-said
+returns-in_default-clause-said c = λ asked start bytes warned has.
+    let taking = c.args.self.now.taking in
+    said_last start asked c.args.self.now taking bytes warned [] has
+    (of_none _ c.in_ok-last.last c.in_default.not-Some c.in_ok-last.ensures.read)
+    (λ read told is. subst (λ all. AreTaken start taking all told) (sym (append-nil read)) is)
+    (λ read told warned are is. subst (λ all. HasWarned start taking all warned) (sym (append-nil read)) is)

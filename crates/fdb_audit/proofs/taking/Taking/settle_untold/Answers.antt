@@ -19,6 +19,7 @@ returns-clause-taken c = λ start read told are.
       counted = are.counted;
       few = are.few;
       before = are.before;
+      came = are.came;
       reach = λ anew. absurd (false≢true anew);
       once = λ none_before none.
           let has = c.in_ok-told.ensures.once lines keys told are.seen (are.once none_before none) in

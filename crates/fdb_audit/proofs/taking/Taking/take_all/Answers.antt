@@ -5,7 +5,7 @@ use Rattle.fdb_log_reader.specs.declared.read_line.ReadLine.{ReadLine}
 use Rattle.fdb_log_reader.specs.ReadLine.{said_in}
 use Rattle.fdb_audit.specs.Following.{lines_taken}
 use Rattle.fdb_audit.specs.Kept.{early_at}
-use Rattle.fdb_audit.specs.private.Followed.{AreTaken}
+use Rattle.fdb_audit.specs.private.Followed.{AreTaken, HasWarned}
 use Rattle.fdb_audit.proofs.KeptTexts.{early_on}
 use Rattle.fdb_audit.proofs.taking.Taking.take_all.Goals as goal
 
@@ -22,6 +22,9 @@ loop-line-preserved c =
       left = append_assoc yielded (line ∷ []) c.next.new.self.rest.items ∙ (ap (λ rest. yielded ++ rest) (sym c.in-Some.ensures.steps.0) ∙ inv.left);
       taken = λ start read told is. subst (λ all. AreTaken start c.take.new.self all told) (append_assoc read (map said_in yielded) (said_in line ∷ []) ∙ ap (λ said. read ++ said) (sym (map_push said_in yielded line)))
           (c.in_ok-take.ensures.taken start (read ++ map said_in yielded) told (inv.taken start read told is));
+      warned = λ start read told warned is was.
+          subst (λ all. HasWarned start c.take.new.self all warned) (append_assoc read (map said_in yielded) (said_in line ∷ []) ∙ ap (λ said. read ++ said) (sym (map_push said_in yielded line)))
+          (c.in_ok-take.ensures.warned start (read ++ map said_in yielded) told warned (inv.taken start read told is) (inv.warned start read told warned is was));
       early =
           let was = inv.early in
           let now = c.in_ok-take.ensures.early in
@@ -41,6 +44,15 @@ returns-clause-taken c = λ start read told are.
     let size : length rest.items ≡ 0 = omega (arith, rest.ok.0, c.in-None.ensures.steps.0) in
     let all : yielded ≡ c.args.lines.items = sym (append-nil yielded) ∙ (ap (λ (part : List (Result ReadLine Why)). yielded ++ part) (sym (none_left rest.items size)) ∙ inv.left) in
     subst (λ (items : List (Result ReadLine Why)). AreTaken start c.loop-line.self (read ++ map said_in items) told) all (inv.taken start read told are)
+
+pub returns-clause-warned : goal.returns-clause-warned
+returns-clause-warned c = λ start read told warned are was.
+    let inv = c.loop-line.invariant in
+    let yielded = c.loop-line.yielded in
+    let rest = c.loop-line.line-iterator.rest in
+    let size : length rest.items ≡ 0 = omega (arith, rest.ok.0, c.in-None.ensures.steps.0) in
+    let all : yielded ≡ c.args.lines.items = sym (append-nil yielded) ∙ (ap (λ (part : List (Result ReadLine Why)). yielded ++ part) (sym (none_left rest.items size)) ∙ inv.left) in
+    subst (λ (items : List (Result ReadLine Why)). HasWarned start c.loop-line.self (read ++ map said_in items) warned) all (inv.warned start read told warned are was)
 
 pub returns-clause-early : goal.returns-clause-early
 returns-clause-early c =

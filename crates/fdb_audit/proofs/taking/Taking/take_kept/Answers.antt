@@ -12,6 +12,7 @@ use Rattle.fdb_audit.specs.Taken.{AreCounted}
 use Rattle.fdb_audit.specs.private.Followed.{AreTaken}
 use Rattle.fdb_audit.proofs.Following.{counted}
 use Rattle.fdb_audit.proofs.KeptTexts.{drop_least, drop_mapped, none_at, take_least, take_mapped}
+use Rattle.fdb_audit.proofs.Warned.{none_early, none_said}
 use Rattle.fdb_audit.proofs.taking.Taking.take_kept.Goals as goal
 
 -- lines in two parts are all lines
@@ -58,19 +59,22 @@ returns-clause-taken c = λ behind kept told_is settled_is are.
     let same = ap (λ m. early_at m (lines_taken (map said_in c.in_ok-since.since.items))) moment
     ∙ ap (λ (part : List (Result SaidLine Why)). early_at kept.settled (lines_taken part)) (ap (λ (part : List (Result ReadLine Why)). map said_in part) c.in_ok-since.ensures.tail ∙ last_same) in
     omega (arith, most, still, same, none_first)) in
-    let none : drop (length all) all ≡ [] = drop_all (length all) all (omega arith) in
-    record {
-      seen = last.seen;
-      numbered = record { above = last.numbered.above; front = last.numbered.front; few = last.numbered.few };
-      count = last.count;
-      refused = last.refused;
-      counted = subst (λ since. AreCounted c.new-self.result (lines_taken since)) (sym none) c.new-self.ensures.counted;
-      few = omega arith;
-      before = λ none_before k d lt.
-          let came = (last.once refl (omega (arith, most_last, none_before))).came k d lt in
-          let size = length-map (taken all) (λ (said : SaidLine). said.line) in
-          let most = counted 0 all in
-          omega (arith, came, size, most);
-      reach = λ anew. absurd (false≢true anew);
-      once = λ none_before none_since. last.once refl (omega (arith, most_last, none_before));
-    }
+    let none : drop (length all) all ≡ [] = drop_all (length all) all (omega arith) in (
+      record {
+        seen = last.seen;
+        numbered = record { above = last.numbered.above; front = last.numbered.front; few = last.numbered.few };
+        count = last.count;
+        refused = last.refused;
+        counted = subst (λ since. AreCounted c.new-self.result (lines_taken since)) (sym none) c.new-self.ensures.counted;
+        few = omega arith;
+        before = λ none_before k d lt.
+            let came = (last.once refl (omega (arith, most_last, none_before))).came k d lt in
+            let size = length-map (taken all) (λ (said : SaidLine). said.line) in
+            let most = counted 0 all in
+            omega (arith, came, size, most);
+        reach = λ anew. absurd (false≢true anew);
+        came = none_early start all c.new-self.result c.new-self.ensures.early c.new-self.ensures.none.0 c.new-self.ensures.none.1;
+        once = λ none_before none_since. last.once refl (omega (arith, most_last, none_before));
+      },
+      none_said start all c.new-self.result (string_bytes c.new-self-2.result) none c.new-self.ensures.early c.new-self-2.ensures,
+    )

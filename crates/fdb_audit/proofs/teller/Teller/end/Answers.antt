@@ -1,14 +1,14 @@
-use Rattle.std.proofs.Common.{◌≡◌, ◌∙◌, ◌&&◌, ◌++◌, Bool, true, false, List, [], ap, append-nil, append_assoc, codes, is_some, map, not, refl, string_bytes, subst, sym, ℕ}
+use Rattle.std.proofs.Common.{◌≡◌, ◌∙◌, ◌&&◌, ◌++◌, Bool, true, false, List, [], ap, append-nil, append_assoc, is_some, map, not, refl, string_bytes, subst, sym, ℕ}
 use Rattle.std.proofs.lemmas.Bool.{and_from, and_left, and_right}
 use Rattle.std.proofs.lemmas.Result.{on_ok_weaker}
 use Rattle.fdb_lines.specs.declared.fault.Fault.{Fault}
 use Rattle.fdb_lines.specs.declared.line.Line.{Line}
 use Rattle.fdb_log_reader.specs.LineReader.{line_names}
 use Rattle.fdb_log_reader.specs.Printed.{printed}
-use Rattle.fdb_audit.specs.Following.{AreTotals, Counted, FollowArguments, IsEnd, counted_figures, total_head}
+use Rattle.fdb_audit.specs.Following.{AreTotals, Counted, FollowArguments, IsEnd, counted_figures, total_head, verdict_of}
 use Rattle.fdb_audit.specs.Figures.{Figure, figures_words}
 use Rattle.fdb_audit.specs.Text.{line}
-use Rattle.fdb_audit.specs.private.{members_of}
+use Rattle.fdb_audit.specs.private.{figure_of, members_of}
 use Rattle.fdb_audit.specs.private.Followed.{HasTotalsIn, counted_in, counted_of, told_with}
 use Rattle.fdb_audit.proofs.teller.Teller.end.Goals.{else-is_none-via-then-is_none+else-not-self, else-is_none-via-else-is_none}
 use Rattle.fdb_audit.proofs.teller.Teller.end.Goals as goal
@@ -27,11 +27,12 @@ returns-then-not-self-clause-text c =
     and_from (not (is_some self.first)) (not self.wanted.json) (ap not (c.is_none.ensures ∙ ap not c.if-is_none.true)) (ap not c.if-not-self.true) in
     on_ok_weaker c.push_line.result
     (λ text. λ members lines kinds has. (
-      line (figures_words (codes "audit ok") (counted_figures counts)),
+      line (figures_words (verdict_of counts.early) (counted_figures counts)),
       end_of (not (is_some self.first) && not self.wanted.json) true self.wanted.totals self.wanted.totals self.wanted.json counts (told_with c.args.behind self members)
-          (map printed (line_names c.args.reader.now).clients) lines kinds (line (figures_words (codes "audit ok") (counted_figures counts))) quiet refl refl,
-      text ∙ ap (λ (figures : List Figure). string_bytes self.text ++ line (figures_words (codes "audit ok") figures))
-          (c.figures-figures.ensures ∙ ap (λ (refused : ℕ). counted_figures (counted_in c.args.taking.now.counts refused)) c.count.ensures),
+          (map printed (line_names c.args.reader.now).clients) lines kinds (line (figures_words (verdict_of counts.early) (counted_figures counts))) quiet refl refl,
+      text ∙ (ap (λ (words : List ℕ). string_bytes self.text ++ line (figures_words words (map figure_of c.deref.result.now))) c.verdict.ensures
+          ∙ ap (λ (figures : List Figure). string_bytes self.text ++ line (figures_words (verdict_of counts.early) figures))
+          (ap (map figure_of) c.deref.ensures.value ∙ (c.in_ok-figures.ensures ∙ ap (λ (refused : ℕ). counted_figures (counted_in c.args.taking.now.counts refused)) c.count.ensures))),
     ))
     c.push_line.ensures
 

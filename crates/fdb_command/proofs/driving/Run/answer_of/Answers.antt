@@ -15,7 +15,7 @@ returns-in_err-intake-clause-refused g c = λ arguments asked.
     let remaining = g.I.Read.remaining c.args.input.now in
     let fault = c.in_err-intake.field-0.0 in
     let stops = subst (λ (file : Option Text). IsFailure fault ⊎ MayStop promise c.args.options file remaining fault) (c.file_of.ensures promise.app arguments asked.are) c.in_err-intake.ensures.stops in
-    passed_on c.from_residual.result fault (λ fault. (error : _) → fault ≡ Refused error → MayRefuse promise arguments remaining) c.from_residual.ensures.1
+    passed_on c.from_residual.result fault (λ fault. (error : _) → fault ≡ Refused error → MayRefuse promise arguments remaining error) c.from_residual.ensures.1
     (refused_early promise arguments c.args.options asked.asks remaining asked.are.taken fault stops)
 
 pub returns-in_err-intake-clause-faulty : goal.returns-in_err-intake-clause-faulty
@@ -24,7 +24,7 @@ returns-in_err-intake-clause-faulty g c = λ arguments asked.
     let remaining = g.I.Read.remaining c.args.input.now in
     let fault = c.in_err-intake.field-0.0 in
     let stops = subst (λ (file : Option Text). IsFailure fault ⊎ MayStop promise c.args.options file remaining fault) (c.file_of.ensures promise.app arguments asked.are) c.in_err-intake.ensures.stops in
-    passed_on c.from_residual.result fault (λ fault. (found : _) → fault ≡ Found found → MayFind promise arguments remaining) c.from_residual.ensures.1
+    passed_on c.from_residual.result fault (λ fault. (found : _) → fault ≡ Found found → MayFind promise arguments remaining found) c.from_residual.ensures.1
     (found_early promise arguments c.args.options asked.asks remaining asked.are.taken fault stops)
 
 pub returns-in_err-intake-clause-own : goal.returns-in_err-intake-clause-own

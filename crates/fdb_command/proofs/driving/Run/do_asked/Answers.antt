@@ -69,12 +69,6 @@ returns-in-Input-clause-untaken g c = IfErr-weaker c.run_on.result _ _ (λ fault
 pub returns-in-Input-clause-unwritten : goal.returns-in-Input-clause-unwritten
 returns-in-Input-clause-unwritten g c = IfErr-weaker c.run_on.result _ _ (λ fault own is. absurd (own is)) c.run_on.ensures.own
 
-pub returns-in-Input-clause-besides : goal.returns-in-Input-clause-besides
-returns-in-Input-clause-besides g c =
-    let arguments = map string_bytes c.args.arguments.now in
-    let asked : AskBy g.P.Program.promise arguments c.in-Input.matches c.in-Input.options = rw c.in-Input.is at c.in_ok-help.ensures.ok in
-    c.run_on.ensures.besides arguments asked
-
 pub returns-in-Input-clause-short : goal.returns-in-Input-clause-short
 returns-in-Input-clause-short g c =
     let arguments = map string_bytes c.args.arguments.now in
@@ -125,12 +119,6 @@ returns-in_err-help-clause-unwritten g c =
     let (made, is, told) = failed c.from_residual.result _ c.from_residual.ensures.1 in
     rw is (λ stop. refl)
 
-pub returns-in_err-help-clause-besides : goal.returns-in_err-help-clause-besides
-returns-in_err-help-clause-besides g c =
-    let (made, is, told) = failed c.from_residual.result _ c.from_residual.ensures.1 in
-    let kind = told_as c.in_err-help.field-0.0 made told in
-    rw is (λ error same. absurd (no_refusal made kind error same))
-
 pub returns-in_err-help-clause-short : goal.returns-in_err-help-clause-short
 returns-in_err-help-clause-short g c =
     let (made, is, told) = failed c.from_residual.result _ c.from_residual.ensures.1 in
@@ -174,9 +162,6 @@ returns-in-Help-clause-untaken g c = IfErr-weaker c.show.result _ _ (λ fault wr
 
 pub returns-in-Help-clause-unwritten : goal.returns-in-Help-clause-unwritten
 returns-in-Help-clause-unwritten g c = IfErr-weaker c.show.result _ _ (λ fault writing words. absurd (cc)) c.show.ensures
-
-pub returns-in-Help-clause-besides : goal.returns-in-Help-clause-besides
-returns-in-Help-clause-besides g c = IfErr-weaker c.show.result _ _ (λ fault writing error same. absurd (cc)) c.show.ensures
 
 pub returns-in-Help-clause-short : goal.returns-in-Help-clause-short
 returns-in-Help-clause-short g c = IfErr-weaker c.show.result _ _ (λ fault writing memory. absurd (cc)) c.show.ensures

@@ -13,28 +13,23 @@ pub returns-in-Ok-clause-faulty : goal.returns-in-Ok-clause-faulty
 returns-in-Ok-clause-faulty g c = λ arguments matches.
     IfErr-weaker c.put.result _ _
     (λ fault gives found is. let all = gives found is in inr (
-      found,
       c.in-Ok.answer.refused,
       written g.P.Program.promise arguments (g.I.Read.remaining c.args.input.now) c.in-Ok.answer (Some found) c.in-Ok.answer.refused g.O.Write.contents c.args.out.now c.answer_of.new.out c.put.new.out
           (c.in-Ok.ensures.printed arguments matches) all.0 refl all.1,
     ))
     c.put.ensures.found
 
-pub returns-in-Ok-clause-besides : goal.returns-in-Ok-clause-besides
-returns-in-Ok-clause-besides g c = λ arguments matches.
-    IfErr-weaker c.put.result _ _
-    (λ fault gives error is. let all = gives error is in inr (
-      error,
-      written g.P.Program.promise arguments (g.I.Read.remaining c.args.input.now) c.in-Ok.answer None (Some error) g.O.Write.contents c.args.out.now c.answer_of.new.out c.put.new.out
-          (c.in-Ok.ensures.printed arguments matches) all.0 all.1 all.2,
-    ))
-    c.put.ensures.refused
-
 pub returns-in-Ok-clause-refused : goal.returns-in-Ok-clause-refused
 returns-in-Ok-clause-refused g c = λ arguments matches.
+    let promise = g.P.Program.promise in
+    let remaining = g.I.Read.remaining c.args.input.now in
     let (told, put, printed) = c.in-Ok.ensures.printed arguments matches in
     IfErr-weaker c.put.result _ _
-    (λ fault gives error is. refused_besides g.P.Program.promise arguments (g.I.Read.remaining c.args.input.now) _ _ _ printed error (gives error is).1)
+    (λ fault gives error is. let all = gives error is in (
+      refused_besides promise arguments remaining _ _ _ printed error all.1,
+      inr (written promise arguments remaining c.in-Ok.answer None (Some error) g.O.Write.contents c.args.out.now c.answer_of.new.out c.put.new.out
+          (c.in-Ok.ensures.printed arguments matches) all.0 all.1 all.2),
+    ))
     c.put.ensures.refused
 
 pub returns-in-Ok-clause-short : goal.returns-in-Ok-clause-short
@@ -63,16 +58,13 @@ pub returns-in-Err-clause-done : goal.returns-in-Err-clause-done
 returns-in-Err-clause-done g c = λ arguments matches. tt
 
 pub returns-in-Err-clause-refused : goal.returns-in-Err-clause-refused
-returns-in-Err-clause-refused g c = c.in-Err.ensures.refused
+returns-in-Err-clause-refused g c = λ arguments matches error is. (c.in-Err.ensures.refused arguments matches error is, inl (c.in-Err.ensures.begun arguments matches))
 
 pub returns-in-Err-clause-faulty : goal.returns-in-Err-clause-faulty
 returns-in-Err-clause-faulty g c = λ arguments matches found is. inl (c.in-Err.ensures.begun arguments matches, c.in-Err.ensures.faulty arguments matches found is)
 
 pub returns-in-Err-clause-own : goal.returns-in-Err-clause-own
 returns-in-Err-clause-own g c = c.in-Err.ensures.own
-
-pub returns-in-Err-clause-besides : goal.returns-in-Err-clause-besides
-returns-in-Err-clause-besides g c = λ arguments matches error is. inl (c.in-Err.ensures.begun arguments matches)
 
 pub returns-in-Err-clause-short : goal.returns-in-Err-clause-short
 returns-in-Err-clause-short g c = λ arguments matches is. c.in-Err.ensures.begun arguments matches

@@ -1,23 +1,10 @@
-use Rattle.std.proofs.Common.{◌≡◌, ◌<◌, ◌∙◌, None, Option, Some, ap, arith, inl, inr, length, refl, sym, ℕ}
+use Rattle.std.proofs.Common.{◌≡◌, ◌<◌, ◌∙◌, None, Option, ap, arith, inl, inr, refl, sym, ℕ}
 use Rattle.std.proofs.lemmas.Grind.{common_steps}
-use Rattle.std.proofs.lemmas.List.{get_or-map, length-map}
-use Rattle.std.specs.BTreeMap.{get}
-use Rattle.std.specs.Ordering.{nat_cmp}
+use Rattle.std.proofs.lemmas.List.{get_or-map}
 use Rattle.fdb_lines.specs.declared.key_part.KeyPart.{KeyPart}
-use Rattle.fdb_lines.specs.declared.key_watch.KeyWatch.{KeyWatch}
-use Rattle.fdb_lines.specs.KeyParts.{names_of}
-use Rattle.fdb_lines.specs.Keys.{key_at}
 use Rattle.fdb_lines.specs.Log.{lines_of, no_lines}
-use Rattle.fdb_lines.specs.private.Keys.{number_of}
+use Rattle.fdb_lines.proofs.KeyNumbers.{part_there}
 use Rattle.fdb_lines.proofs.key_watch.KeyWatch.refusal_of_key.Goals as goal
-
--- a key that has a number has a part
-part_there : (watch : KeyWatch) (key : Option ℕ) (place : ℕ) → get nat_cmp watch.numbers (number_of key) ≡ Some place
-    → (place < length watch.parts.items) × (key_at (names_of watch.parts.items) place ≡ key)
-part_there watch key place is =
-    let there = watch.numbered.there key place is in
-    let size = length-map watch.parts.items (λ (part : KeyPart). part.key) in
-    (let lt = there.0 in omega arith, there.1)
 
 pub index-requires : goal.index-requires
 index-requires c =

@@ -1,4 +1,4 @@
-use Rattle.std.proofs.Common.{◌≡◌, ◌∙◌, ◌⊎◌, ◌++◌, ℕ, List, [], MatchResult, None, Ok, Err, Result, ap, inl, inr, is_some, not, option_map, subst, sym, true}
+use Rattle.std.proofs.Common.{◌≡◌, ◌∙◌, ◌⊎◌, ◌++◌, ℕ, List, [], MatchResult, None, Ok, Err, Option, Result, ap, inl, inr, is_some, not, subst, sym, true}
 use Rattle.std.proofs.lemmas.Bool.{false≢true}
 use Rattle.std.specs.Prelude.{IfErr, IfOk}
 use Rattle.clap.specs.Words.{Text}
@@ -7,7 +7,7 @@ use Rattle.fdb_command.specs.declared.failure.Failure.{Failure}
 use Rattle.fdb_command.specs.declared.failure.Failure.TheVariants.{Memory, Writing}
 use Rattle.fdb_command.specs.declared.program.Output.{Output}
 use Rattle.fdb_audit.specs.Following.{Start}
-use Rattle.fdb_audit.specs.Program.{HasTaken, IsAsked, Prints, PrintsBy, audit, refused_of, started}
+use Rattle.fdb_audit.specs.Program.{HasTaken, IsAsked, Prints, PrintsBy, audit, refusal_of, refused_of, started}
 use Rattle.fdb_audit.specs.Watched.{HasFollowed, IsFollowed}
 use Rattle.fdb_audit.specs.declared.arguments.AuditArguments.{AuditArguments}
 use Rattle.fdb_audit.specs.declared.fault.LogFault.{LogFault}
@@ -15,7 +15,6 @@ use Rattle.fdb_audit.specs.declared.followed_log.FollowedLog.{FollowedLog}
 use Rattle.fdb_audit.specs.declared.audit_program.AuditIntake.{AuditIntake}
 use Rattle.fdb_audit.specs.declared.audit_program.AuditIntake.TheVariants.{Followed}
 use Rattle.fdb_audit.specs.declared.refused.LogsRefused.{LogsRefused}
-use Rattle.fdb_audit.specs.declared.refused.LogsRefused.TheVariants.{Log}
 use Rattle.fdb_audit.proofs.Refusing.{keeps_asked}
 use Rattle.fdb_audit.proofs.audit_program.fn.drive.body.Goals as goal
 
@@ -35,12 +34,13 @@ whole_printed arguments asked bytes told (Err fault) whole none stops = stops
 followed_printed : (arguments : List Text) (asked : AuditArguments) (log : FollowedLog) (bytes told : List ℕ) (made : Result (Output LogsRefused LogFault) (Failure LogsRefused LogFault))
     → IsAsked arguments asked → HasTaken asked (Followed log) bytes told
     → IfOk made (λ it. (start : Start) (bytes told : List ℕ) → HasFollowed asked start log.follower bytes told
-    → IsFollowed asked start (not (is_some asked.keep)) bytes (told ++ it.text.items) it.found × (it.refused ≡ option_map Log (refused_of asked start bytes)))
+    → (last_early : Option ℕ) × IsFollowed asked start (not (is_some asked.keep)) bytes (told ++ it.text.items) it.found last_early
+    × (it.refused ≡ refusal_of (refused_of asked start bytes) last_early))
     → IfErr made (λ fault. (fault ≡ Memory) ⊎ ((fault ≡ Writing) × (is_some asked.keep ≡ true)))
     → MatchResult made (λ answer. PrintsBy asked.follow asked bytes (told ++ answer.text.items) answer.found answer.refused × (asked.follow ≡ None → answer.warnings.items ≡ [])) (Stops audit arguments bytes)
 followed_printed arguments asked log bytes told (Ok answer) is (behind, follows, kept, for, has) says stops =
     let all = says (started asked behind kept) (kept ++ bytes) told has in (
-      subst (λ follow. PrintsBy follow asked bytes (told ++ answer.text.items) answer.found answer.refused) (sym follows) (kept, for, all.0, all.1),
+      subst (λ follow. PrintsBy follow asked bytes (told ++ answer.text.items) answer.found answer.refused) (sym follows) (kept, for, all),
       λ none. absurd (false≢true (sym (ap is_some none) ∙ ap is_some follows)),
     )
 followed_printed arguments asked log bytes told (Err fault) is has says (inl memory) = subst (Stops audit arguments bytes) (sym memory) tt

@@ -1,7 +1,7 @@
 use Rattle.std.proofs.Common.{[], arith, inl, inr, refl}
 use Rattle.std.proofs.KnownBytes.{Consumes-nil}
 use Rattle.fdb_command.proofs.Answered.{no_finding, no_refusal, told_as}
-use Rattle.fdb_command.proofs.driving.Run.carry_out.Goals as goal
+use Rattle.fdb_command.proofs.driving.carry_out.Goals as goal
 
 pub returns-in-Ok-clause-asked : goal.returns-in-Ok-clause-asked
 returns-in-Ok-clause-asked g c = rw c.in-Ok.is (rw c.deref.ensures.value at c.do_asked.ensures.asked)
@@ -32,9 +32,6 @@ returns-in-Ok-clause-untaken g c = c.do_asked.ensures.untaken
 
 pub returns-in-Ok-clause-unwritten : goal.returns-in-Ok-clause-unwritten
 returns-in-Ok-clause-unwritten g c = c.do_asked.ensures.unwritten
-
-pub returns-in-Ok-clause-besides : goal.returns-in-Ok-clause-besides
-returns-in-Ok-clause-besides g c = rw c.in-Ok.is (rw c.deref.ensures.value at c.do_asked.ensures.besides)
 
 pub returns-in-Ok-clause-short : goal.returns-in-Ok-clause-short
 returns-in-Ok-clause-short g c = rw c.in-Ok.is (rw c.deref.ensures.value at c.do_asked.ensures.short)
@@ -74,11 +71,6 @@ returns-in-Err-clause-untaken g c = λ stop. refl
 
 pub returns-in-Err-clause-unwritten : goal.returns-in-Err-clause-unwritten
 returns-in-Err-clause-unwritten g c = λ stop. refl
-
-pub returns-in-Err-clause-besides : goal.returns-in-Err-clause-besides
-returns-in-Err-clause-besides g c =
-    let kind = told_as c.from.result c.from-in-Err.result c.from-in-Err.ensures in
-    λ error same. absurd (no_refusal c.from-in-Err.result kind error same)
 
 pub returns-in-Err-clause-short : goal.returns-in-Err-clause-short
 returns-in-Err-clause-short g c = λ memory. inl refl

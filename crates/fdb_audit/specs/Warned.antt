@@ -1,0 +1,112 @@
+-- What is said on standard error of a log that is followed. (this product's own)
+use Rattle.std.specs.Prelude.{◌≡◌, ℕ, ◌+◌, ◌<◌, ◌≤◌, ◌++◌, All, IfSome, List, [], ◌∷◌, Option, None, Some, Result, Ok, Err, codes, decimal, drop, is_some, length, map, nat_lt, slice_get, string_bytes}
+use Rattle.std.specs.List.{filter, flat_map, range_with_len}
+use Rattle.std.specs.Int.{is_power_of_two}
+use Rattle.fdb_log_reader.specs.declared.error.ReadError.{ReadError}
+use Rattle.fdb_log_reader.specs.declared.error.Why.{Why}
+use Rattle.fdb_log_reader.specs.declared.error.Why.TheVariants.{Empty, TooLong, TooMany, NotJson, NoCall, TwoCalls, SomeTimes, BadMember, BadKey, Memory}
+use Rattle.fdb_log_reader.specs.declared.member.Member.TheVariants.{Client, Read, Commit, Ask, Report, Learn, Began, Ended}
+use Rattle.fdb_log_reader.specs.ReadLine.{SaidLine}
+use Rattle.fdb_log_reader.specs.Text.{error_text}
+use Rattle.fdb_audit.specs.declared.refused.KeptRefused.{KeptRefused}
+use Rattle.fdb_audit.specs.declared.refused.LogsRefused.{LogsRefused}
+use Rattle.fdb_audit.specs.declared.refused.LogsRefused.TheVariants.{Early, Kept, Log}
+use Rattle.fdb_audit.specs.declared.warning.EarlyLine.{EarlyLine}
+use Rattle.fdb_audit.specs.declared.warning.Warning.{Warning}
+use Rattle.fdb_audit.specs.declared.warning.Warning.TheVariants.{Refused}
+use Rattle.fdb_audit.specs.declared.warning.Warning.TheVariants.{Early as Of_early}
+use Rattle.fdb_audit.specs.Following.{Start}
+use Rattle.fdb_audit.specs.Text.{line}
+
+-- ---- why a line, or what was kept, is refused
+
+-- what is wrong with a line, for people
+abbrev pub cause_text : Why → List ℕ
+cause_text Empty = codes "no line"
+cause_text TooLong = codes "more than 1048576 bytes"
+cause_text TooMany = codes "more than 4294967295 lines"
+cause_text NotJson = codes "no JSON"
+cause_text NoCall = codes "no read, commit, ask, report or learn"
+cause_text TwoCalls = codes "more than one of read, commit, ask, report and learn"
+cause_text SomeTimes = codes "began and ended stand in all lines or in none"
+cause_text (BadMember Client) = codes "no name, or none in a log without times"
+cause_text (BadMember Read) = codes "no whole number below 2^64"
+cause_text (BadMember Commit) = codes "no whole number below 2^64"
+cause_text (BadMember Ask) = codes "no whole number below 2^64"
+cause_text (BadMember Report) = codes "no whole number below 2^64"
+cause_text (BadMember Learn) = codes "no client of a line above, or beside times"
+cause_text (BadMember Began) = codes "no whole number below 2^64, or none beside ended"
+cause_text (BadMember Ended) = codes "no whole number below 2^64 and not null, or before began"
+cause_text BadKey = codes "no name"
+cause_text Memory = codes "out of memory"
+
+abbrev pub caused_text : ReadError → List ℕ
+caused_text error = error_text error ++ codes ": " ++ cause_text error.why
+
+abbrev pub kept_refusal : ℕ → Option Why → List ℕ
+kept_refusal number (Some why) = caused_text (record { line = number; why = why })
+kept_refusal number None = codes "NotKept " ++ decimal number ++ codes ": no line as it is kept"
+
+abbrev pub kept_refused_text : KeptRefused → List ℕ
+kept_refused_text refused = codes "kept lines refused: " ++ kept_refusal refused.line refused.why
+
+abbrev pub refused_text : LogsRefused → List ℕ
+refused_text (Log error) = codes "logs refused: " ++ caused_text error
+refused_text (Early number) = codes "logs refused: Early " ++ decimal number ++ codes ": it began before what had been settled"
+refused_text (Kept refused) = kept_refused_text refused
+
+-- ---- what is said of lines
+
+abbrev pub warning_text : Warning → List ℕ
+warning_text (Refused error) = refused_text (Log error)
+warning_text (Of_early it) =
+    codes "early line " ++ decimal it.line ++ codes ": it began " ++ decimal it.by ++ codes " before what had been settled; " ++ decimal it.count
+    ++ codes " so far: --follow is too small, or a clock is ahead"
+
+-- a line of standard error, behind the program's name
+abbrev pub warning_line : Warning → List ℕ
+warning_line warning = line (codes "fdb_audit: " ++ warning_text warning)
+
+-- the lines that are refused, each by its number and why, where the first has a number
+abbrev pub all_refused : ℕ → List (Result SaidLine Why) → List ReadError
+all_refused number [] = []
+all_refused number (Ok said ∷ read) = all_refused (number + 1) read
+all_refused number (Err why ∷ read) = record { line = number; why = why } ∷ all_refused (number + 1) read
+
+-- of what is said, the lines that are said to be refused
+abbrev pub said_refused : List Warning → List ReadError
+said_refused [] = []
+said_refused (Refused error ∷ warnings) = error ∷ said_refused warnings
+said_refused (Of_early it ∷ warnings) = said_refused warnings
+
+-- and those that are said to have come early
+abbrev pub said_early : List Warning → List EarlyLine
+said_early [] = []
+said_early (Refused error ∷ warnings) = said_early warnings
+said_early (Of_early it ∷ warnings) = it ∷ said_early warnings
+
+-- a line that was taken has this number, counted from 1, where so many more were read
+abbrev pub IsNumberOfTaken : ℕ → List (Result SaidLine Why) → ℕ → Type 0
+IsNumberOfTaken more read number = (place : ℕ) × (said : SaidLine) × (slice_get read place ≡ Some (Ok said)) × (number ≡ more + place + 1)
+
+-- How many lines came early, how many of these were judged, and the number of the last.
+pub record AreEarly (more : ℕ) (read : List (Result SaidLine Why)) (early judged : ℕ) (last : Option ℕ) : Type 0 where
+  pub few : judged ≤ early
+  pub most : early ≤ length read
+  pub some : is_some last ≡ nat_lt 0 early
+  pub taken : IfSome last (IsNumberOfTaken more read)
+
+-- What is said of lines that were read, of which so many came early: of each that is refused, in their order, and of the first,
+-- second, fourth and so on that came early.
+pub record AreWarnings (more : ℕ) (read : List (Result SaidLine Why)) (early : ℕ) (warnings : List Warning) : Type 0 where
+  pub refused : said_refused warnings ≡ all_refused (more + 1) read
+  pub doubled : map (λ (it : EarlyLine). it.count) (said_early warnings) ≡ filter is_power_of_two (range_with_len 1 early)
+  pub taken : All (λ (it : EarlyLine). IsNumberOfTaken more read it.line × (0 < it.by)) (said_early warnings)
+
+-- and this is their text
+abbrev pub IsWarned : ℕ → List (Result SaidLine Why) → ℕ → List ℕ → Type 0
+IsWarned more read early text = (warnings : List Warning) × AreWarnings more read early warnings × (text ≡ flat_map warning_line warnings)
+
+-- of a log that is followed on it is said of the lines that came since
+abbrev pub IsSaid : Start → List (Result SaidLine Why) → ℕ → List ℕ → Type 0
+IsSaid start read early text = IsWarned (start.numbers.more + start.lines) (drop start.lines read) early text
