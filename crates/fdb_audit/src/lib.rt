@@ -9,6 +9,7 @@ mod arguments;
 mod asked;
 mod audit_program;
 mod beside;
+mod client_names;
 mod counts;
 mod fault;
 mod figures;
