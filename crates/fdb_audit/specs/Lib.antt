@@ -9,5 +9,6 @@ pub mod Following
 pub mod Taken
 pub mod Watched
 pub mod Kept
+pub mod Pieces
 pub mod Program
 pub mod private

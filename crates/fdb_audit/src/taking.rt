@@ -46,10 +46,10 @@ pub(crate) struct Taking {
 
 impl Taking {
     ghost use Rattle.fdb_audit.specs.Following.{Start, keys_taken, left_out, lines_taken};
-    ghost use Rattle.fdb_audit.specs.Following.{start_with};
-    ghost use Rattle.fdb_audit.specs.Kept.{KeptSaid, early_at, start_from};
+    ghost use Rattle.fdb_audit.specs.Following.{early_at, start_with};
+    ghost use Rattle.fdb_audit.specs.Kept.{KeptSaid, start_from};
     ghost use Rattle.fdb_audit.specs.Taken.{AreCounted, kept_by};
-    ghost use Rattle.fdb_audit.specs.private.Followed.{AreTaken, one_more};
+    ghost use Rattle.fdb_audit.specs.private.Followed.{AreTaken, noted, one_more};
 
     /// No line has been taken; those of these numbers come first. It fails only where memory is
     /// refused.
@@ -169,7 +169,7 @@ impl Taking {
     /// Notes that it has settled.
     pub(crate) fn note_settled(&mut self)
         ensures taken { (start : Start) → (lines : List (Result SaidLine Why))
-            → (told : List Found) → AreTaken start self.old lines told
+            → (told : List Found) → AreTaken start (noted self.old) lines told
             → AreTaken start self.new lines told }
         ensures watch { self.new.watch ≡ self.old.watch }
         ensures counts { self.new.counts ≡ self.old.counts }
@@ -232,6 +232,7 @@ impl Taking {
         ensures numbering { self.new.numbering ≡ self.old.numbering }
         ensures count { self.new.taken ≡ self.old.taken + 1 }
         ensures refused { self.new.refused ≡ self.old.refused }
+        ensures settled { self.new.settled ≡ self.old.settled }
         ensures newest { self.new.newest
             ≡ max self.old.newest (unwrap_or (ended line.now) 0) }
         ensures counted { (lines : List Line) → length lines + 1 < 2 ^ 64

@@ -10,6 +10,7 @@ use Rattle.fdb_log_reader.specs.LineReader.{lines_on, names_on}
 use Rattle.fdb_audit.specs.declared.arguments.AuditArguments.{AuditArguments}
 use Rattle.fdb_audit.specs.declared.follower.Follower.{Follower}
 pub use Rattle.fdb_audit.specs.Taken.{AreNumbered, AreTaken, HasCounted, HasTotals, HasTotalsIn, counted_in, counted_of}
+use Rattle.fdb_audit.specs.declared.taking.Taking.{Taking}
 use Rattle.fdb_audit.specs.declared.teller.Teller.{Teller}
 use Rattle.fdb_audit.specs.Following.{AreWindows, FollowArguments, KeptNumbers, Start, Window, first_told, kinds_told, lines_told, told_in_all}
 use Rattle.fdb_audit.specs.Watched.{IsTold, lines_asked, names_asked}
@@ -41,6 +42,10 @@ pub record TellsOn (kept : KeptNumbers) (old new : Teller) (margin : ℕ) (read 
 abbrev pub one_more : Bool → ℕ → ℕ
 one_more true count = min (count + 1) (2 ^ 64 - 1)
 one_more false count = count
+
+-- the same, once it is noted that it has settled
+abbrev pub noted : Taking → Taking
+noted taking = record taking { settled = taking.taken }
 
 -- by which arguments what is told is told
 abbrev pub told_with : ℕ → Teller → List (List ℕ) → FollowArguments

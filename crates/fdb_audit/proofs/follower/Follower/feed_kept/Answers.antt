@@ -35,6 +35,9 @@ returns c = λ asked behind kept told_is settled_is ends is.
       counted = took_so.counted;
       few = took_so.few;
       before = took_so.before;
+      from = took_so.from;
+      late = took_so.late;
+      settled = record { come = took_so.settled.come; since = took_so.settled.since };
       reach = λ anew. absurd (false≢true anew);
       once = took_so.once;
     })

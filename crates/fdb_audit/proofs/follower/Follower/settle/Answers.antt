@@ -1,10 +1,13 @@
-use Rattle.std.proofs.Common.{◌++◌, Some, ◌∙◌, ap, arith, max, refl, subst, sym}
+use Rattle.std.proofs.Common.{◌≡◌, ◌++◌, Some, ◌∙◌, ap, arith, length, max, refl, subst, sym}
+use Rattle.std.proofs.lemmas.List.{length-map}
 use Rattle.fdb_lines.specs.KeyWatch.{AreTold}
 use Rattle.fdb_lines.specs.ToldByKey.{told_by_all}
 use Rattle.fdb_lines.specs.declared.key_watch.KeyWatch.{KeyWatch}
 use Rattle.fdb_log_reader.specs.LineReader.{line_names}
-use Rattle.fdb_audit.specs.Following.{keys_taken, lines_taken, told_in_all}
+use Rattle.fdb_log_reader.specs.ReadLine.{SaidLine}
+use Rattle.fdb_audit.specs.Following.{keys_taken, lines_taken, taken, told_in_all}
 use Rattle.fdb_audit.specs.private.Followed.{TellsOn}
+use Rattle.fdb_audit.proofs.Settled.{far_in_all, far_now, settled_now}
 use Rattle.fdb_audit.proofs.TellingOn.{settled}
 use Rattle.fdb_audit.proofs.follower.Follower.settle.Goals as goal
 
@@ -17,6 +20,7 @@ returns-clause-told c = λ asked start read told is.
     let keys = keys_taken read in
     let entries = c.in_ok-told.told.items in
     let faults = start.told ++ told_in_all read is.windows in
+    let all_come : old.taking.taken ≡ length lines = is.taken.count ∙ sym (length-map (taken read) (λ (said : SaidLine). said.line)) in
     settled start asked old _ read told (told_by_all entries) is refl
     (c.note_settled.ensures.taken start read (faults ++ told_by_all entries) (record {
       seen = c.settle.ensures.seen lines keys is.taken.seen;
@@ -26,13 +30,17 @@ returns-clause-told c = λ asked start read told is.
       counted = is.taken.counted;
       few = is.taken.few;
       before = is.taken.before;
+      from = (let was = is.taken.from in let moved = c.in_ok-told.ensures.settled in omega (arith, was, moved));
+      late = is.taken.late;
+      settled = settled_now start _ lines all_come;
       reach = λ anew.
           let was = is.taken.reach anew in
-          let low = was.from in
+          let newest = was.newest in
+          let low = far_in_all old.taking start.behind lines was.from in
           let far = is.behind in
           let at = c.saturating_sub-at.ensures in
           let moved = c.in_ok-told.ensures.settled in
-          record { newest = was.newest; from = omega (arith, low, far, at, moved); early = was.early };
+          record { newest = newest; from = far_now _ _ start.behind lines all_come (omega (arith, low, far, at, moved, newest)); early = was.early };
       once = λ none_before none. c.in_ok-told.ensures.once lines keys faults is.taken.seen (is.taken.once none_before none);
     }))
     (ap (λ (watch : KeyWatch). watch.margin) c.note_settled.ensures.watch ∙ c.settle.ensures.margin.0)

@@ -16,7 +16,7 @@ returns-clause-taken c = λ start lines told are.
     let keys = keys_taken lines ++ said.key ∷ [] in
     takes start c.args.self.now c.note.new.self lines said told are c.requires.room
     (subst (λ watch. HasSeenByKey watch more keys) (sym c.note.ensures.watch) (c.in-Ok.ensures.ok (lines_taken lines) (keys_taken lines) are.seen))
-    c.note.ensures.numbering c.note.ensures.count c.note.ensures.refused c.note.ensures.counted
+    c.note.ensures.numbering c.note.ensures.count c.note.ensures.refused c.note.ensures.settled c.note.ensures.counted
     (c.note.ensures.early ∙ ap (λ from. one_more (nat_lt (began said.line) from) c.args.self.now.counts.early) c.push.ensures.settled)
     c.note.ensures.newest (ap (λ (watch : KeyWatch). watch.from) c.note.ensures.watch ∙ c.push.ensures.settled)
     (λ has late. subst (λ watch. HasTold watch more keys told) (sym c.note.ensures.watch) (c.in-Ok.ensures.told (lines_taken lines) (keys_taken lines) told are.seen has late))
