@@ -19,6 +19,7 @@ mod grouped;
 mod groups;
 mod judged;
 mod kept;
+pub mod laws;
 mod listing;
 mod numbering;
 mod object;
