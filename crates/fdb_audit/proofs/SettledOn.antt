@@ -26,30 +26,30 @@ settled_taken start old new read told more behind at are far at_is seen moved te
     let lines = lines_taken read in
     let all : new.settled ≡ length lines = settled ∙ (are.count ∙ sym (length-map (taken read) (λ (said : SaidLine). said.line))) in
     record {
-  seen = seen;
-  numbered = record {
-    above = ap (λ (numbering : Numbering). numbering.above.items) numbering ∙ are.numbered.above;
-    front = ap kept_by numbering ∙ are.numbered.front;
-    few = are.numbered.few;
-  };
-  count = count ∙ are.count;
-  refused = refused ∙ are.refused;
-  counted = subst (λ (counts : Counts). AreCounted counts (lines_since start read)) (sym counts) are.counted;
-  few = are.few;
-  before = are.before;
-  came = subst (λ (counts : Counts). AreEarly start.numbers.more read counts.early counts.judged counts.last_early) (sym counts) are.came;
-  from = (let was = are.from in omega (arith, was, moved));
-  late = (let was = are.late in let same = ap (λ (counts : Counts). counts.early) counts in omega (arith, was, same));
-  settled = settled_now start new lines all;
-  reach = λ anew.
-      let was = are.reach anew in
-      let newest_was = was.newest in
-      let low = far_in_all old start.behind lines was.from in
-      let le = was.early in
-      let early = ap (λ (counts : Counts). counts.early) counts in
-      record { newest = newest ∙ newest_was; from = far_now _ _ start.behind lines all (omega (arith, low, far, at_is, moved, newest_was)); early = omega (arith, le, early) };
-  once = λ none_before none. tells (are.once none_before (sym (ap (λ (counts : Counts). counts.early) counts) ∙ none));
-}
+      seen = seen;
+      numbered = record {
+        above = ap (λ (numbering : Numbering). numbering.above.items) numbering ∙ are.numbered.above;
+        front = ap kept_by numbering ∙ are.numbered.front;
+        few = are.numbered.few;
+      };
+      count = count ∙ are.count;
+      refused = refused ∙ are.refused;
+      counted = subst (λ (counts : Counts). AreCounted counts (lines_since start read)) (sym counts) are.counted;
+      few = are.few;
+      before = are.before;
+      came = subst (λ (counts : Counts). AreEarly start.numbers.more read counts.early counts.judged counts.last_early) (sym counts) are.came;
+      from = (let was = are.from in omega (arith, was, moved));
+      late = (let was = are.late in let same = ap (λ (counts : Counts). counts.early) counts in omega (arith, was, same));
+      settled = settled_now start new lines all;
+      reach = λ anew.
+          let was = are.reach anew in
+          let newest_was = was.newest in
+          let low = far_in_all old start.behind lines was.from in
+          let le = was.early in
+          let early = ap (λ (counts : Counts). counts.early) counts in
+          record { newest = newest ∙ newest_was; from = far_now _ _ start.behind lines all (omega (arith, low, far, at_is, moved, newest_was)); early = omega (arith, le, early) };
+      once = λ none_before none. tells (are.once none_before (sym (ap (λ (counts : Counts). counts.early) counts) ∙ none));
+    }
 
 -- and where its newest end is said to be later
 pub newest_later : (start : Start) (old new : Taking) (read : List (Result SaidLine Why)) (told : List Found) → start.anew ≡ false → AreTaken start old read told

@@ -13,12 +13,15 @@ ghost use Rattle.fdb_audit.specs.Pieces.{audited_in, places_beyond, MayGoOn};
 ghost use Rattle.fdb_audit.specs.Taken.{AreTaken};
 ghost use Rattle.fdb_audit.specs.Watched.{lines_asked, names_asked, IsFollowed};
 
-use fdb_lines::laws::logs_that_say_the_same_differ_in_numbers_alone;
-use fdb_lines::laws::what_a_watch_keeps_stands_for_all;
-use fdb_lines::laws::who_goes_on_from_what_a_watch_kept_tells_the_rest;
-use fdb_log_reader::laws::{each_name_has_one_number, keys_stay_in_one_member};
-use fdb_log_reader::laws::{names_keep_their_numbers, numbers_are_those_of_names};
-use fdb_log_reader::laws::{what_follows_an_ended_line_is_apart, what_lines_say_is_theirs_alone};
+use fdb_lines::laws::{
+    logs_that_say_the_same_differ_in_numbers_alone, what_a_watch_keeps_stands_for_all,
+    who_goes_on_from_what_a_watch_kept_tells_the_rest,
+};
+use fdb_log_reader::laws::{
+    each_name_has_one_number, keys_stay_in_one_member, names_keep_their_numbers,
+    numbers_are_those_of_names, what_follows_an_ended_line_is_apart,
+    what_lines_say_is_theirs_alone,
+};
 
 /// What a watch kept says of itself, where no line came early: that none did of the lines it kept. And
 /// where the watch began at the beginning of its log, up to when it had told all: if it had told of any
