@@ -22,6 +22,7 @@ mod kept;
 mod listing;
 mod numbering;
 mod object;
+mod pace;
 mod passing;
 mod printer;
 mod read_back;
@@ -33,6 +34,7 @@ mod taking;
 mod teller;
 mod told_faults;
 mod totals;
+mod unsettled;
 
 pub use arguments::{AuditArguments, member_names};
 pub use audit_program::{Audit, AuditIntake, MAX_LOG_BYTES, drive};

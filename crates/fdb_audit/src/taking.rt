@@ -16,7 +16,8 @@ use crate::counts::Counts;
 use crate::numbering::Numbering;
 use crate::refused::LogsRefused;
 use crate::rows::Rows;
-use fdb_lines::{KeyWatch, Line, WatchError, laws};
+use crate::unsettled::Unsettled;
+use fdb_lines::{KeyWatch, Line, SettledKey, WatchError, laws};
 use fdb_log_reader::{ReadError, ReadLine, Why};
 use std::alloc::{AllocError, Global};
 use std::fmt::Write;
@@ -35,8 +36,8 @@ pub(crate) struct Taking {
     pub(crate) settled: u64,
     /// The newest moment at which a call has ended.
     pub(crate) newest: u64,
-    /// How many lines came since it settled.
-    pub(crate) unsettled: u64,
+    /// The lines that came since it settled.
+    pub(crate) unsettled: Unsettled,
     /// The last line that was refused, if one was.
     pub(crate) refused: Option<ReadError>,
     /// A line for standard error for each line that was refused since these were last said.
@@ -78,7 +79,7 @@ impl Taking {
             taken: 0,
             settled: 0,
             newest: 0,
-            unsettled: 0,
+            unsettled: Unsettled::new(),
             refused: None,
             warnings: String::new(alloc),
         })
@@ -162,19 +163,19 @@ impl Taking {
         let told = self.watch.settle(self.alloc, at)?;
         self.rows.let_go_all(&told);
         laws::all_is_told_up_to_where_it_settled();
-        self.note_settled();
+        self.note_settled(&told);
         Ok(())
     }
 
-    /// Notes that it has settled.
-    pub(crate) fn note_settled(&mut self)
+    /// Notes that it has settled, and told this.
+    pub(crate) fn note_settled(&mut self, told: &[SettledKey])
         ensures taken { (start : Start) → (lines : List (Result SaidLine Why))
             → (told : List Found) → AreTaken start self.old lines told
             → AreTaken start self.new lines told }
         ensures watch { self.new.watch ≡ self.old.watch }
         ensures counts { self.new.counts ≡ self.old.counts }
     {
-        self.unsettled = 0;
+        self.unsettled = Unsettled::since(self.watch.settled_to(), told);
         self.settled = self.taken;
     }
 
@@ -242,7 +243,7 @@ impl Taking {
     {
         self.counts.add(line, self.watch.settled_to());
         self.newest = self.newest.max(line.ended().unwrap_or(0));
-        self.unsettled = self.unsettled.saturating_add(1);
+        self.unsettled.add(line.began());
         self.taken += 1;
     }
 

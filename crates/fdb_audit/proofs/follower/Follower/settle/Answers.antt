@@ -12,7 +12,7 @@ pub returns-clause-told : goal.returns-clause-told
 returns-clause-told c = λ asked start read told is.
     let old = c.args.self.now in
     let watch = old.taking.watch in
-    let to = Some (max watch.from c.saturating_sub-at.result) in
+    let to = Some (max watch.from c.certain_to-at.result) in
     let lines = lines_taken read in
     let keys = keys_taken read in
     let entries = c.in_ok-told.told.items in
@@ -30,7 +30,7 @@ returns-clause-told c = λ asked start read told is.
           let was = is.taken.reach anew in
           let low = was.from in
           let far = is.behind in
-          let at = c.saturating_sub-at.ensures in
+          let at = c.certain_to-at.ensures in
           let moved = c.in_ok-told.ensures.settled in
           record { newest = was.newest; from = omega (arith, low, far, at, moved); early = was.early };
       once = λ none_before none. c.in_ok-told.ensures.once lines keys faults is.taken.seen (is.taken.once none_before none);

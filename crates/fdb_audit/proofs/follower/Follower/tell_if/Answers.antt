@@ -1,6 +1,6 @@
 use Rattle.std.proofs.Common.{◌++◌, ◌∙◌, ap, sym}
 use Rattle.fdb_log_reader.specs.LineReader.{lines_on, names_on}
-use Rattle.fdb_audit.proofs.follower.Follower.tell.Goals as goal
+use Rattle.fdb_audit.proofs.follower.Follower.tell_if.Goals as goal
 
 pub returns : goal.returns
 returns c = λ asked start bytes told has.
