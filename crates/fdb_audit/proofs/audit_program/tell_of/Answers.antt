@@ -11,5 +11,5 @@ returns-clause-told g c = λ asked bytes told (behind, follows, kept, for, has).
       kept,
       for,
       subst (λ text. HasFollowed asked (started asked behind kept) c.tell.new.self.follower (kept ++ bytes) (told ++ text)) (sym same)
-          (c.in_ok-text.ensures.told asked (started asked behind kept) (kept ++ bytes) told has),
+          (c.in_ok-text.ensures asked (started asked behind kept) (kept ++ bytes) told has),
     )
