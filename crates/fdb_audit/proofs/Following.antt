@@ -300,18 +300,18 @@ takes start old new read said told are room seen notes from tells came =
     }
 
 -- the number of a line more that is left out
-pub left_number : (start : Start) (old new : Taking) (read : List (Result SaidLine Why)) (why : Why) (told : List Found) (number : ℕ) → AreTaken start old read told
+pub left_number : (start : Start) (old : Taking) (numbering : Numbering) (read : List (Result SaidLine Why)) (told : List Found) (number : ℕ) → AreTaken start old read told
     → old.taken + old.numbering.more + length old.numbering.above.items < 18446744073709551614
-    → new.numbering.above.items ≡ old.numbering.above.items ++ old.taken ∷ [] → kept_by new.numbering ≡ kept_by old.numbering → new.taken ≡ old.taken
-    → number ≡ min (new.taken + new.numbering.more + length new.numbering.above.items) (2 ^ 64 - 1) → number ≡ start.numbers.more + 1 + length read
-left_number start old new read why told number are room above same count is =
+    → numbering.above.items ≡ old.numbering.above.items ++ old.taken ∷ [] → kept_by numbering ≡ kept_by old.numbering
+    → number ≡ min (old.taken + numbering.more + length numbering.above.items) (2 ^ 64 - 1) → number ≡ start.numbers.more + 1 + length read
+left_number start old numbering read told number are room above same is =
     let all = counted 0 read in
     let was_above = ap length are.numbered.above in
     let longer = ap length above ∙ length_push old.numbering.above.items old.taken in
     let more_is = ap (λ (kept : KeptNumbers). kept.more) are.numbered.front in
     let more_same = ap (λ (kept : KeptNumbers). kept.more) same in
     let was = are.count in
-    omega (arith, is, was, count, more_is, more_same, all, was_above, longer, room)
+    omega (arith, is, was, more_is, more_same, all, was_above, longer, room)
 
 pub leaves_out : (start : Start) (old new : Taking) (read : List (Result SaidLine Why)) (why : Why) (told : List Found) (number : ℕ) → AreTaken start old read told
     → old.taken + old.numbering.more + length old.numbering.above.items < 18446744073709551614
@@ -338,7 +338,8 @@ leaves_out start old new read why told number are room watch above same count co
         few = (let was = are.count in omega (arith, was, more_is, all, was_above, size, room));
       };
       count = count ∙ (are.count ∙ ap length (sym (taken_same read why)));
-      refused = refused ∙ (ap (λ n. Some (error_at n why)) (left_number start old new read why told number are room above same count is) ∙ sym (last_more (start.numbers.more + 1) None read why));
+      refused = refused ∙ (ap (λ n. Some (error_at n why)) (left_number start old new.numbering read told number are room above same
+          (is ∙ ap (λ n. min (n + new.numbering.more + length new.numbering.above.items) (2 ^ 64 - 1)) count)) ∙ sym (last_more (start.numbers.more + 1) None read why));
       counted = subst (AreCounted new.counts) (sym (since_same start read why are.few)) (subst (λ counts. AreCounted counts (lines_since start read)) (sym counts) are.counted);
       few = (let was = are.few in omega (arith, was, size));
       before = are.before;

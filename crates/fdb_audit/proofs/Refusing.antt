@@ -14,7 +14,7 @@ use Rattle.fdb_audit.specs.Program.{audit, key_asked, shown_asked, IsAsked, Refu
 use Rattle.fdb_audit.specs.declared.arguments.AuditArguments.{AuditArguments}
 use Rattle.fdb_audit.specs.declared.fault.LogFault.{LogFault}
 use Rattle.fdb_audit.specs.declared.refused.LogsRefused.{LogsRefused}
-use Rattle.fdb_audit.specs.declared.refused.LogsRefused.TheVariants.{Kept, Log}
+use Rattle.fdb_audit.specs.declared.refused.LogsRefused.TheVariants.{Early, Kept, Log}
 use Rattle.fdb_audit.specs.private.Kept.{MayStop}
 
 abbrev pub of_memory : Why → Bool
@@ -60,6 +60,7 @@ keeps_asked arguments asked is keeps = sym (ap is_some is.keep) ∙ (is_some_map
 pub stops_following : (arguments : List Text) (asked : AuditArguments) (bytes : List ℕ) (behind : ℕ) (made : Failure LogsRefused LogFault) → IsAsked arguments asked
     → asked.follow ≡ Some behind → MayStop (is_some asked.keep) made → Stops audit arguments bytes made
 stops_following arguments asked bytes behind (fault.Refused (Log error)) is follows stops = absurd stops
+stops_following arguments asked bytes behind (fault.Refused (Early number)) is follows stops = absurd stops
 stops_following arguments asked bytes behind (fault.Refused (Kept refused)) is follows stops =
     (asked, is, subst (λ follow. RefusesBy follow asked bytes (Kept refused)) (sym follows) stops)
 stops_following arguments asked bytes behind fault.Arguments is follows stops = absurd stops

@@ -1,33 +1,64 @@
 -- The lines that were taken, once a watch has settled.
-use Rattle.std.proofs.Common.{◌≡◌, ◌++◌, ◌-◌, ℕ, List, Result, arith, max, subst, sym}
+use Rattle.std.proofs.Common.{◌≡◌, ◌∙◌, ◌++◌, ◌-◌, ℕ, false, List, Result, ap, arith, max, subst, sym}
+use Rattle.std.proofs.lemmas.Bool.{false≢true}
+use Rattle.fdb_lines.specs.declared.key_watch.KeyWatch.{KeyWatch}
 use Rattle.fdb_lines.specs.declared.fault.Found.{Found}
 use Rattle.fdb_lines.specs.KeyWatch.{HasSeenByKey}
 use Rattle.fdb_lines.specs.ToldByKey.{HasTold}
 use Rattle.fdb_log_reader.specs.declared.error.Why.{Why}
 use Rattle.fdb_log_reader.specs.ReadLine.{SaidLine}
-use Rattle.fdb_audit.specs.declared.rows.Rows.{Rows}
+use Rattle.fdb_audit.specs.declared.counts.Counts.{Counts}
+use Rattle.fdb_audit.specs.declared.numbering.Numbering.{Numbering}
 use Rattle.fdb_audit.specs.declared.taking.Taking.{Taking}
-use Rattle.fdb_lines.specs.declared.key_watch.KeyWatch.{KeyWatch}
-use Rattle.fdb_audit.specs.Following.{Start, keys_taken, lines_taken}
-use Rattle.fdb_audit.specs.Taken.{AreTaken}
+use Rattle.fdb_audit.specs.Following.{Start, keys_taken, lines_since, lines_taken}
+use Rattle.fdb_audit.specs.Taken.{AreCounted, AreTaken, kept_by}
+use Rattle.fdb_audit.specs.Warned.{AreEarly}
 
-pub settled_taken : (start : Start) (old : Taking) (watch : KeyWatch) (rows : Rows) (read : List (Result SaidLine Why)) (told more : List Found) (behind at : ℕ)
+pub settled_taken : (start : Start) (old new : Taking) (read : List (Result SaidLine Why)) (told more : List Found) (behind at : ℕ)
     → AreTaken start old read told → behind ≡ start.behind → at ≡ old.newest - behind
-    → HasSeenByKey watch (lines_taken read) (keys_taken read) → watch.from ≡ max old.watch.from at
-    → (HasTold old.watch (lines_taken read) (keys_taken read) told → HasTold watch (lines_taken read) (keys_taken read) (told ++ more))
-    → AreTaken start (record old { watch = watch; rows = rows }) read (told ++ more)
-settled_taken start old watch rows read told more behind at are far at_is seen moved tells = record {
+    → HasSeenByKey new.watch (lines_taken read) (keys_taken read) → new.watch.from ≡ max old.watch.from at
+    → (HasTold old.watch (lines_taken read) (keys_taken read) told → HasTold new.watch (lines_taken read) (keys_taken read) (told ++ more))
+    → new.numbering ≡ old.numbering → new.taken ≡ old.taken → new.refused ≡ old.refused → new.counts ≡ old.counts → new.newest ≡ old.newest
+    → AreTaken start new read (told ++ more)
+settled_taken start old new read told more behind at are far at_is seen moved tells numbering count refused counts newest = record {
   seen = seen;
-  numbered = record { above = are.numbered.above; front = are.numbered.front; few = are.numbered.few };
-  count = are.count;
-  refused = are.refused;
-  counted = are.counted;
+  numbered = record {
+    above = ap (λ (numbering : Numbering). numbering.above.items) numbering ∙ are.numbered.above;
+    front = ap kept_by numbering ∙ are.numbered.front;
+    few = are.numbered.few;
+  };
+  count = count ∙ are.count;
+  refused = refused ∙ are.refused;
+  counted = subst (λ (counts : Counts). AreCounted counts (lines_since start read)) (sym counts) are.counted;
   few = are.few;
   before = are.before;
-  came = are.came;
+  came = subst (λ (counts : Counts). AreEarly start.numbers.more read counts.early counts.judged counts.last_early) (sym counts) are.came;
   reach = λ anew.
       let was = are.reach anew in
       let low = was.from in
-      record { newest = was.newest; from = omega (arith, low, far, at_is, moved); early = was.early };
-  once = λ none_before none. tells (are.once none_before none);
+      let le = was.early in
+      let early = ap (λ (counts : Counts). counts.early) counts in
+      record { newest = newest ∙ was.newest; from = omega (arith, low, far, at_is, moved, newest); early = omega (arith, le, early) };
+  once = λ none_before none. tells (are.once none_before (sym (ap (λ (counts : Counts). counts.early) counts) ∙ none));
+}
+
+-- and where its newest end is said to be later
+pub newest_later : (start : Start) (old new : Taking) (read : List (Result SaidLine Why)) (told : List Found) → start.anew ≡ false → AreTaken start old read told
+    → new.watch ≡ old.watch → new.numbering ≡ old.numbering → new.taken ≡ old.taken → new.refused ≡ old.refused → new.counts ≡ old.counts → AreTaken start new read told
+newest_later start old new read told on are watch numbering count refused counts = record {
+  seen = subst (λ (watch : KeyWatch). HasSeenByKey watch (lines_taken read) (keys_taken read)) (sym watch) are.seen;
+  numbered = record {
+    above = ap (λ (numbering : Numbering). numbering.above.items) numbering ∙ are.numbered.above;
+    front = ap kept_by numbering ∙ are.numbered.front;
+    few = are.numbered.few;
+  };
+  count = count ∙ are.count;
+  refused = refused ∙ are.refused;
+  counted = subst (λ (counts : Counts). AreCounted counts (lines_since start read)) (sym counts) are.counted;
+  few = are.few;
+  before = are.before;
+  came = subst (λ (counts : Counts). AreEarly start.numbers.more read counts.early counts.judged counts.last_early) (sym counts) are.came;
+  reach = λ anew. absurd (false≢true (sym on ∙ anew));
+  once = λ none_before none. subst (λ (watch : KeyWatch). HasTold watch (lines_taken read) (keys_taken read) told) (sym watch)
+      (are.once none_before (sym (ap (λ (counts : Counts). counts.early) counts) ∙ none));
 }

@@ -17,7 +17,7 @@ kind_of found = found.fault
 abbrev line_of : Found → ℕ
 line_of found = found.line
 
-range_more : (a n : ℕ) → range_with_len a n ++ (a + n) ∷ [] ≡ range_with_len a (suc n)
+pub range_more : (a n : ℕ) → range_with_len a n ++ (a + n) ∷ [] ≡ range_with_len a (suc n)
 range_more a zero = ap (λ (k : ℕ). k ∷ []) (add-zero a)
 range_more a (suc n) =
     let same : a + suc n ≡ (a + 1) + n = omega arith in

@@ -1,9 +1,9 @@
 -- What is said of lines on standard error, with one line more.
-use Rattle.std.proofs.Common.{◌≡◌, ◌∙◌, ℕ, zero, suc, ◌+◌, ◌-◌, ◌^◌, ◌<◌, ◌≤◌, Bool, true, false, List, [], ◌∷◌, ◌++◌, Option, None, Some, Result, Ok, Err, add-zero, ap, append-nil, append_assoc, arith, drop, get_or, is_some, length, length-drop, map, min, nat_lt, refl, slice_get, string_bytes, subst, sym}
+use Rattle.std.proofs.Common.{◌≡◌, ◌∙◌, ℕ, zero, suc, ◌+◌, ◌-◌, ◌^◌, ◌<◌, ◌≤◌, Bool, true, false, List, [], ◌∷◌, ◌++◌, Option, None, Some, Result, Ok, Err, add-one, add-zero, ap, append-nil, append_assoc, arith, drop, get_or, is_some, length, length-drop, map, min, nat_lt, refl, slice_get, string_bytes, subst, sym}
 use Rattle.std.specs.Prelude.{◌&&◌, IfSome, if◌then◌else◌}
 use Rattle.std.specs.List.{All, filter, flat_map, range_with_len}
 use Rattle.std.specs.Int.{is_power_of_two}
-use Rattle.std.proofs.lemmas.Bool.{false≢true}
+use Rattle.std.proofs.lemmas.Bool.{and_from, and_left, and_right, false≢true}
 use Rattle.std.proofs.lemmas.Bool.Decides.{nat_tests}
 use Rattle.std.proofs.lemmas.Grind.{flat_map-append}
 use Rattle.std.proofs.lemmas.List.{length_push, map_push}
@@ -24,6 +24,7 @@ use Rattle.fdb_audit.specs.Taken.{AreTaken, HasWarned}
 use Rattle.fdb_audit.specs.Warned.{AreEarly, AreWarnings, IsNumberOfTaken, IsSaid, IsWarned, all_refused, said_early, said_refused, warning_line}
 use Rattle.fdb_audit.specs.private.Followed.{AreEarlyIn, CameMore, NotesLine, early_text, one_more}
 use Rattle.fdb_audit.proofs.Following.{drop_on, few_read, line_number}
+use Rattle.fdb_audit.proofs.Totalled.{range_more}
 
 -- ---- the numbers of lines that were taken
 
@@ -45,10 +46,10 @@ last_stays more read further (Some number) is = number_stays more read further n
 
 -- ---- how lines came
 
-fewer : (is_early judged : Bool) (old_early old_judged : ℕ) → old_judged ≤ old_early → one_more (is_early && judged) old_judged ≤ one_more is_early old_early
-fewer true true early judged le = omega (arith, le)
-fewer true false early judged le = omega (arith, le)
-fewer false judged early some le = le
+fewer : (is_early judged : Bool) (old_early old_judged : ℕ) → old_judged ≤ old_early → old_early + 1 < 2 ^ 64 - 1 → one_more (is_early && judged) old_judged ≤ one_more is_early old_early
+fewer true true early judged le few = omega (arith, le)
+fewer true false early judged le few = omega (arith, le, few)
+fewer false judged early some le few = le
 
 one_at_most : (is_early : Bool) (early : ℕ) → one_more is_early early ≤ early + 1
 one_at_most true early = omega arith
@@ -65,12 +66,12 @@ taken_more more read further true number last is new = new
 taken_more more read further false number last is new = last_stays more read further last is
 
 early_on : (start : Start) (read : List (Result SaidLine Why)) (said : SaidLine) (is_early : Bool) (came : Came) (old new : Counts) → CameMore is_early came old new
-    → came.number ≡ start.numbers.more + length read + 1 → AreEarlyIn start read old → AreEarlyIn start (read ++ Ok said ∷ []) new
-early_on start read said is_early came old new more number are =
+    → came.number ≡ start.numbers.more + length read + 1 → length read + 1 < 2 ^ 64 - 1 → AreEarlyIn start read old → AreEarlyIn start (read ++ Ok said ∷ []) new
+early_on start read said is_early came old new more number few_lines are =
     let its : IsNumberOfTaken start.numbers.more (read ++ Ok said ∷ []) came.number = (length read, said, get_last read (Ok said), number) in
     record {
       most = (let was = are.most in let early = more.early in let size = length_push read (Ok said) in let one = one_at_most is_early old.early in omega (arith, was, early, size, one));
-      few = (let le = fewer is_early came.is_judged old.early old.judged are.few in let early = more.early in let judged = more.judged in omega (arith, le, early, judged));
+      few = (let most = are.most in let le = fewer is_early came.is_judged old.early old.judged are.few (omega (arith, most, few_lines)) in let early = more.early in let judged = more.judged in omega (arith, le, early, judged));
       some = ap is_some more.last ∙ (some_more is_early old.early came.number old.last_early are.some ∙ ap (nat_lt 0) (sym more.early));
       taken = subst (λ last. IfSome last (IsNumberOfTaken start.numbers.more (read ++ Ok said ∷ []))) (sym more.last)
           (taken_more start.numbers.more read (Ok said ∷ []) is_early came.number old.last_early are.taken its);
@@ -96,7 +97,7 @@ pub early_more : (start : Start) (old new : Taking) (read : List (Result SaidLin
     → old.taken + old.numbering.more + length old.numbering.above.items < 18446744073709551614 → NotesLine old.watch.from old new said.line
     → AreEarlyIn start read old.counts → AreEarlyIn start (read ++ Ok said ∷ []) new.counts
 early_more start old new read said told are room notes was =
-    early_on start read said _ _ old.counts new.counts notes.came (line_number start old new read said told are room notes) was
+    early_on start read said _ _ old.counts new.counts notes.came (line_number start old new read said told are room notes) (few_read start old read told are room) was
 
 -- ---- what is said
 
@@ -154,30 +155,25 @@ quiet_more more read said early text (warnings, are, texts) = (
   texts,
 )
 
-range_on : (a n : ℕ) → range_with_len a (n + 1) ≡ range_with_len a n ++ (a + n) ∷ []
-range_on a zero = ap (λ (k : ℕ). k ∷ []) (sym (add-zero a))
-range_on a (suc n) =
-    let same : (a + 1) + n ≡ a + suc n = omega arith in
-    ap (λ rest. a ∷ rest) (range_on (a + 1) n ∙ ap (λ (k : ℕ). range_with_len (a + 1) n ++ k ∷ []) same)
-
 filter_on : {X : Type 0} (test : X → Bool) (xs : List X) (x : X) → filter test (xs ++ x ∷ []) ≡ filter test xs ++ (if test x then x ∷ [] else [])
 filter_on test [] x = alone (test x) refl
   where
     alone : (b : Bool) → test x ≡ b → filter test (x ∷ []) ≡ (if test x then x ∷ [] else [])
-    alone true is = grind is
-    alone false is = grind is
-filter_on test (y ∷ xs) x = on (test y) refl
+    alone true is = grind (arith, is)
+    alone false is = grind (arith, is)
+filter_on test (y ∷ xs) x = on (test y) refl (filter_on test xs x)
   where
-    on : (b : Bool) → test y ≡ b → filter test (y ∷ xs ++ x ∷ []) ≡ filter test (y ∷ xs) ++ (if test x then x ∷ [] else [])
-    on true is = let rest = filter_on test xs x in grind (is, rest)
-    on false is = let rest = filter_on test xs x in grind (is, rest)
+    on : (b : Bool) → test y ≡ b → filter test (xs ++ x ∷ []) ≡ filter test xs ++ (if test x then x ∷ [] else [])
+        → filter test (y ∷ xs ++ x ∷ []) ≡ filter test (y ∷ xs) ++ (if test x then x ∷ [] else [])
+    on true is rest = grind (arith, is, rest)
+    on false is rest = grind (arith, is, rest)
 
 -- one more that came early
 counts_on : (early : ℕ) → filter is_power_of_two (range_with_len 1 (early + 1))
     ≡ filter is_power_of_two (range_with_len 1 early) ++ (if is_power_of_two (early + 1) then (early + 1) ∷ [] else [])
 counts_on early =
     let same : 1 + early ≡ early + 1 = omega arith in
-    ap (filter is_power_of_two) (range_on 1 early) ∙ (filter_on is_power_of_two (range_with_len 1 early) (1 + early)
+    ap (filter is_power_of_two) (ap (range_with_len 1) (add-one early) ∙ sym (range_more 1 early)) ∙ (filter_on is_power_of_two (range_with_len 1 early) (1 + early)
     ∙ ap (λ n. filter is_power_of_two (range_with_len 1 early) ++ (if is_power_of_two n then n ∷ [] else [])) same)
 
 early_quiet : (more : ℕ) (read : List (Result SaidLine Why)) (said : SaidLine) (early : ℕ) (text : List ℕ) → is_power_of_two (early + 1) ≡ false
@@ -217,7 +213,7 @@ early_loud more read said early text it is count by number (warnings, are, texts
 said_more : (more : ℕ) (read : List (Result SaidLine Why)) (said : SaidLine) (from began early new number by : ℕ) (text : List ℕ) → by ≡ from - began
     → early + 1 < 2 ^ 64 - 1 → new ≡ one_more (nat_lt began from) early → number ≡ more + length read + 1
     → IsWarned more read early text → IsWarned more (read ++ Ok said ∷ []) new (text ++ early_text number by new)
-said_more more read said from began early new number by text by_is few new_is number_is was = on (nat_lt began from) refl
+said_more more read said from start early new number by text by_is few new_is number_is was = on (nat_lt start from) refl
   where
     warned : ℕ → List ℕ → Type 0
     warned count text = IsWarned more (read ++ Ok said ∷ []) count text
@@ -226,26 +222,26 @@ said_more more read said from began early new number by text by_is few new_is nu
     doubles true is some next =
         let it : EarlyLine = record { line = number; by = by; count = new } in
         let said_is : early_text number by new ≡ warning_line (Early it) =
-        ap (λ test. if test then warning_line (Early it) else []) (let one : nat_lt 0 by ≡ true = grind (arith, nat_tests) in let two : is_power_of_two new ≡ true = ap is_power_of_two next ∙ is in grind (one, two)) in
+        ap (λ test. if test then warning_line (Early it) else []) (and_from (nat_lt 0 by) (is_power_of_two new) (grind (arith, nat_tests)) (ap is_power_of_two next ∙ is)) in
         subst (warned new) (ap (λ part. text ++ part) (sym said_is))
         (subst (λ count. warned count (text ++ warning_line (Early it))) (sym next) (early_loud more read said early text it is next some number_is was))
     doubles false is some next =
         let it : EarlyLine = record { line = number; by = by; count = new } in
         let none : early_text number by new ≡ [] =
-        ap (λ test. if test then warning_line (Early it) else []) (let two : is_power_of_two new ≡ false = ap is_power_of_two next ∙ is in grind (two)) in
+        ap (λ test. if test then warning_line (Early it) else []) (and_right (nat_lt 0 by) (is_power_of_two new) (ap is_power_of_two next ∙ is)) in
         subst (warned new) (sym (append-nil text) ∙ ap (λ part. text ++ part) (sym none))
         (subst (λ count. warned count text) (sym next) (early_quiet more read said early text is was))
 
-    on : (b : Bool) → nat_lt began from ≡ b → warned new (text ++ early_text number by new)
+    on : (b : Bool) → nat_lt start from ≡ b → warned new (text ++ early_text number by new)
     on true is =
-        let some : 0 < by = (let lt : began < from = grind (arith, nat_tests) in omega (arith, lt, by_is)) in
+        let some : 0 < by = (let lt : start < from = grind (arith, nat_tests) in omega (arith, lt, by_is)) in
         let next : new ≡ early + 1 = new_is ∙ (ap (λ b. one_more b early) is ∙ (let same : min (early + 1) (2 ^ 64 - 1) ≡ early + 1 = omega (arith, few) in same)) in
         doubles (is_power_of_two (early + 1)) refl some next
     on false is =
-        let zero_of : by ≡ 0 = (let le : from ≤ began = grind (arith, nat_tests) in omega (arith, le, by_is)) in
+        let zero_of : by ≡ 0 = (let le : from ≤ start = grind (arith, nat_tests) in omega (arith, le, by_is)) in
         let it : EarlyLine = record { line = number; by = by; count = new } in
         let none : early_text number by new ≡ [] =
-        ap (λ test. if test then warning_line (Early it) else []) (let one : nat_lt 0 by ≡ false = ap (nat_lt 0) zero_of in grind (one)) in
+        ap (λ test. if test then warning_line (Early it) else []) (and_left (nat_lt 0 by) (is_power_of_two new) (ap (nat_lt 0) zero_of)) in
         subst (warned new) (sym (append-nil text) ∙ ap (λ part. text ++ part) (sym none))
         (subst (λ count. warned count text) (sym (new_is ∙ ap (λ b. one_more b early) is)) (quiet_more more read said early text was))
 
@@ -265,18 +261,17 @@ noted_more start old new read said told warned are room notes was =
     (said_more more since said old.watch.from (began said.line) old.counts.early new.counts.early notes.number _ (warned ++ string_bytes old.warnings) refl
     (let most = are.came.most in omega (arith, most, few)) notes.came.early at was))
 
-pub left_more : (start : Start) (old new : Taking) (read : List (Result SaidLine Why)) (why : Why) (warned : List ℕ) (number : ℕ) → start.lines ≤ length read
-    → number ≡ start.numbers.more + 1 + length read → new.counts ≡ old.counts → (error : ReadError) → error ≡ record { line = number; why = why }
-    → string_bytes new.warnings ≡ string_bytes old.warnings ++ warning_line (Refused error)
-    → HasWarned start old read warned → HasWarned start new (read ++ Err why ∷ []) warned
-left_more start old new read why warned number less at counts error is text was =
+pub left_more : (start : Start) (old : Taking) (read : List (Result SaidLine Why)) (why : Why) (warned warnings : List ℕ) (error : ReadError) → start.lines ≤ length read
+    → error ≡ record { line = start.numbers.more + 1 + length read; why = why }
+    → warnings ≡ string_bytes old.warnings ++ warning_line (Refused error)
+    → HasWarned start old read warned → IsSaid start (read ++ Err why ∷ []) old.counts.early (warned ++ warnings)
+left_more start old read why warned warnings error less is text was =
     let more = start.numbers.more + start.lines in
     let since = drop start.lines read in
-    let here : number ≡ more + 1 + length since = (let size = length-drop start.lines read in omega (arith, at, size, less)) in
-    subst (λ read. IsWarned more read new.counts.early (warned ++ string_bytes new.warnings)) (sym (drop_on start.lines read (Err why ∷ []) less))
-    (subst (λ (counts : Counts). IsWarned more (since ++ Err why ∷ []) counts.early (warned ++ string_bytes new.warnings)) (sym counts)
+    let here : start.numbers.more + 1 + length read ≡ more + 1 + length since = (let size = length-drop start.lines read in omega (arith, size, less)) in
+    subst (λ read. IsWarned more read old.counts.early (warned ++ warnings)) (sym (drop_on start.lines read (Err why ∷ []) less))
     (subst (IsWarned more (since ++ Err why ∷ []) old.counts.early) (append_assoc warned (string_bytes old.warnings) (warning_line (Refused error)) ∙ ap (λ part. warned ++ part) (sym text))
-    (refused_more more since why old.counts.early (warned ++ string_bytes old.warnings) error (is ∙ ap (λ n. let it : ReadError = record { line = n; why = why } in it) here) was)))
+    (refused_more more since why old.counts.early (warned ++ string_bytes old.warnings) error (is ∙ ap (λ n. let it : ReadError = record { line = n; why = why } in it) here) was))
 
 -- nothing is said of no lines
 pub none_said : (start : Start) (read : List (Result SaidLine Why)) (counts : Counts) (text : List ℕ) → drop start.lines read ≡ [] → counts.early ≡ 0 → text ≡ [] → IsSaid start read counts.early text

@@ -16,7 +16,7 @@ pub returns-clause-early : goal.returns-clause-early
 returns-clause-early c =
     let came = c.args.came in
     let call = c.add_call.ensures.early in
-    let last = c.note_early.ensures in
+    let last = c.note_early.ensures.early in
     let begins : nat_lt c.began.result c.args.settled_to ≡ nat_lt (began c.args.line.now) c.args.settled_to = ap (λ n. nat_lt n c.args.settled_to) c.began.ensures in
     record {
       early = last.early ∙ (ap (λ b. one_more b c.add_call.new.self.early) begins ∙ ap (one_more (nat_lt (began c.args.line.now) c.args.settled_to)) call.0);

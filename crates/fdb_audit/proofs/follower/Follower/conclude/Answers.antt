@@ -1,4 +1,5 @@
-use Rattle.std.proofs.Common.{◌∙◌}
+use Rattle.std.proofs.Common.{◌∙◌, ap}
+use Rattle.fdb_audit.specs.declared.counts.Counts.{Counts}
 use Rattle.fdb_audit.specs.Following.{kinds_told, lines_told}
 use Rattle.fdb_audit.specs.Watched.{lines_asked, members_asked}
 use Rattle.fdb_audit.proofs.TellingOn.{all_told}
@@ -10,5 +11,6 @@ returns-clause-told c = λ asked start bytes told ends is names.
     let (end, end_is, text) = c.in_ok-end.ensures.text (members_asked asked) (lines_told read is.windows) (kinds_told is.windows) is.are.totals in
     all_told asked start ends c.args.self bytes told _ end _ _ is names
     (c.say-said.ensures.text ∙ text)
-    (c.say-said.ensures.first ∙ c.end.ensures.first) refl
+    (c.say-said.ensures.first ∙ c.end.ensures.first)
+    (ap (λ (counts : Counts). counts.last_early) c.say-said.ensures.taking.counts)
     end_is

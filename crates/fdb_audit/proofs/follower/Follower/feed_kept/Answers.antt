@@ -1,5 +1,4 @@
 use Rattle.std.proofs.Common.{◌≡◌, ◌∙◌, ◌++◌, [], ℕ, List, Result, ap, append-nil, map, option_map, refl, string_bytes, subst, sym}
-use Rattle.std.proofs.lemmas.Bool.{false≢true}
 use Rattle.fdb_log_reader.specs.declared.error.Why.{Why}
 use Rattle.fdb_log_reader.specs.LineReader.{lines_on}
 use Rattle.fdb_log_reader.specs.ReadLine.{SaidLine, no_names, said_in}
@@ -8,6 +7,7 @@ use Rattle.fdb_audit.specs.Kept.{start_from}
 use Rattle.fdb_audit.specs.Watched.{lines_asked}
 use Rattle.fdb_audit.specs.private.Followed.{AreTaken, HasWarned}
 use Rattle.fdb_audit.proofs.KeptTexts.{nothing_pending}
+use Rattle.fdb_audit.proofs.Settled.{newest_later}
 use Rattle.fdb_audit.proofs.TellingOn.{fed_first}
 use Rattle.fdb_audit.proofs.follower.Follower.feed_kept.Goals as goal
 
@@ -25,22 +25,17 @@ returns c = λ asked behind kept told_is settled_is ends is.
     let Took = λ (read : List (Result SaidLine Why)) (margin : ℕ).
     let start = start_from behind margin kept read in AreTaken start c.take_kept.new.self lines start.told × HasWarned start c.take_kept.new.self lines [] in
     let (took_so, said_so) : Took (lines_asked asked bytes) asked.opts.margin =
-    subst (λ (read : List (Result SaidLine Why)). Took read asked.opts.margin) whole (subst (Took lines) is.margin took) in
-    let taken : AreTaken start c.feed_kept.new.self.taking lines start.told = record {
-      seen = took_so.seen;
-      numbered = record { above = took_so.numbered.above; front = took_so.numbered.front; few = took_so.numbered.few };
-      count = took_so.count;
-      refused = took_so.refused;
-      counted = took_so.counted;
-      few = took_so.few;
-      before = took_so.before;
-      came = took_so.came;
-      reach = λ anew. absurd (false≢true anew);
-      once = took_so.once;
-    } in (
+    subst (λ (read : List (Result SaidLine Why)). Took read asked.opts.margin) whole (subst (Took lines) is.margin took) in (
       fed_first (start_with behind kept.numbers) start asked c.args.self.now _ bytes lines is refl refl
           c.in_ok-lines.ensures.read c.in_ok-lines.ensures.behind
-          taken
+          (newest_later start c.take_kept.new.self _ lines start.told refl took_so refl refl refl refl refl)
           c.take_kept.ensures.margin refl refl,
-      record { read = lines; goes = goes; behind = is.at; told = start.told; taken = taken; said = said_so },
+      record {
+        read = lines;
+        goes = goes;
+        behind = is.at;
+        told = start.told;
+        taken = newest_later start c.take_kept.new.self _ lines start.told refl took_so refl refl refl refl refl;
+        said = said_so;
+      },
     )

@@ -1,4 +1,4 @@
-use Rattle.std.proofs.Common.{◌++◌, Some, ◌∙◌, ap, arith, max, refl, subst, sym}
+use Rattle.std.proofs.Common.{◌++◌, Some, ◌∙◌, ap, max, refl, subst, sym}
 use Rattle.fdb_lines.specs.KeyWatch.{AreTold}
 use Rattle.fdb_lines.specs.ToldByKey.{told_by_all}
 use Rattle.fdb_lines.specs.declared.key_watch.KeyWatch.{KeyWatch}
@@ -20,9 +20,9 @@ returns-clause-told c = λ asked start read told is.
     let faults = start.told ++ told_in_all read is.windows in
     settled start asked old _ read told (told_by_all entries) is refl
     (c.note_settled.ensures.taken start read (faults ++ told_by_all entries)
-    (settled_taken start old.taking c.settle.new.self c.let_go_all.new.self read faults (told_by_all entries) old.behind c.saturating_sub-at.result is.taken is.behind c.saturating_sub-at.ensures
+    (settled_taken start old.taking _ read faults (told_by_all entries) old.behind c.saturating_sub-at.result is.taken is.behind c.saturating_sub-at.ensures
     (c.settle.ensures.seen lines keys is.taken.seen) c.in_ok-told.ensures.settled
-    (c.in_ok-told.ensures.once lines keys faults is.taken.seen)))
+    (c.in_ok-told.ensures.once lines keys faults is.taken.seen) refl refl refl refl refl))
     (ap (λ (watch : KeyWatch). watch.margin) c.note_settled.ensures.watch ∙ c.settle.ensures.margin.0)
     (subst (λ list. TellsOn start.numbers old.teller c.tell_all.new.self asked.opts.margin read (line_names old.reader).clients (told_by_all list)) c.deref.ensures.value
     (c.in_ok-tell_all.ensures start.numbers read to watch.parts.items asked.opts.margin (record { above = is.taken.numbered.above; front = is.taken.numbered.front; few = is.taken.numbered.few })
@@ -40,9 +40,9 @@ returns-clause-taken c =
           let keys = keys_taken read in (
             told_by_all entries,
             c.note_settled.ensures.taken start read (told ++ told_by_all entries)
-                (settled_taken start old.taking c.settle.new.self c.let_go_all.new.self read told (told_by_all entries) old.behind c.saturating_sub-at.result are behind c.saturating_sub-at.ensures
+                (settled_taken start old.taking _ read told (told_by_all entries) old.behind c.saturating_sub-at.result are behind c.saturating_sub-at.ensures
                 (c.settle.ensures.seen lines keys are.seen) c.in_ok-told.ensures.settled
-                (c.in_ok-told.ensures.once lines keys told are.seen)),
+                (c.in_ok-told.ensures.once lines keys told are.seen) refl refl refl refl refl),
           );
       warnings = c.note_settled.ensures.warnings;
       counts = c.note_settled.ensures.counts;

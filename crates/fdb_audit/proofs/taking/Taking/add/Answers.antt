@@ -16,7 +16,20 @@ returns-clause-taken c = λ start lines told are.
     let new = c.note.new.self in
     let more = lines_taken lines ++ said.line ∷ [] in
     let keys = keys_taken lines ++ said.key ∷ [] in
-    let notes = subst (λ from. NotesLine from old new said.line) c.push.ensures.settled c.in_ok-note.ensures.noted in
+    let its = c.in_ok-note.ensures.noted in
+    let notes : NotesLine old.watch.from old new said.line =
+    subst (λ from. NotesLine from old new said.line) c.push.ensures.settled (record {
+      number = its.number;
+      judged = its.judged;
+      numbering = its.numbering;
+      count = its.count;
+      refused = its.refused;
+      newest = its.newest;
+      counted = its.counted;
+      its_number = its.its_number;
+      came = record { early = its.came.early; judged = its.came.judged; last = its.came.last };
+      warned = its.warned;
+    }) in
     takes start old new lines said told are c.requires.room
     (subst (λ watch. HasSeenByKey watch more keys) (sym c.note.ensures.watch) (c.in-Ok.ensures.ok (lines_taken lines) (keys_taken lines) are.seen))
     notes (ap (λ (watch : KeyWatch). watch.from) c.note.ensures.watch ∙ c.push.ensures.settled)
@@ -25,5 +38,21 @@ returns-clause-taken c = λ start lines told are.
 
 pub returns-clause-warned : goal.returns-clause-warned
 returns-clause-warned c = λ start lines told warned are was.
-    noted_more start c.args.self.now c.note.new.self lines (said_by c.args.read) told warned are c.requires.room
-    (subst (λ from. NotesLine from c.args.self.now c.note.new.self (said_by c.args.read).line) c.push.ensures.settled c.in_ok-note.ensures.noted) was
+    let old = c.args.self.now in
+    let new = c.note.new.self in
+    let line = (said_by c.args.read).line in
+    let its = c.in_ok-note.ensures.noted in
+    let notes : NotesLine old.watch.from old new line =
+    subst (λ from. NotesLine from old new line) c.push.ensures.settled (record {
+      number = its.number;
+      judged = its.judged;
+      numbering = its.numbering;
+      count = its.count;
+      refused = its.refused;
+      newest = its.newest;
+      counted = its.counted;
+      its_number = its.its_number;
+      came = record { early = its.came.early; judged = its.came.judged; last = its.came.last };
+      warned = its.warned;
+    }) in
+    noted_more start old new lines (said_by c.args.read) told warned are c.requires.room notes was

@@ -1,4 +1,5 @@
-use Rattle.std.proofs.Common.{refl}
+use Rattle.std.proofs.Common.{ap, refl}
+use Rattle.fdb_log_reader.specs.declared.error.ReadError.{ReadError}
 use Rattle.fdb_audit.proofs.Following.{leaves_out, left_number}
 use Rattle.fdb_audit.proofs.Warned.{early_same, left_more}
 use Rattle.fdb_audit.proofs.taking.Taking.leave_out.Goals as goal
@@ -10,6 +11,5 @@ returns-clause-taken c = λ start lines told are.
 
 pub returns-clause-warned : goal.returns-clause-warned
 returns-clause-warned c = λ start lines told warned are was.
-    left_more start c.args.self.now _ lines c.args.why warned c.line_count-line.result are.few
-    (left_number start c.args.self.now _ lines c.args.why told c.line_count-line.result are c.requires.room c.in_ok-leave_out.ensures.ok c.leave_out.ensures.kept refl c.line_count-line.ensures)
-    refl _ refl c.in_ok-push_warning.ensures was
+    let number = left_number start c.args.self.now c.leave_out.new.self lines told c.line_count-line.result are c.requires.room c.in_ok-leave_out.ensures.ok c.leave_out.ensures.kept c.line_count-line.ensures in
+    left_more start c.args.self.now lines c.args.why warned _ _ are.few (ap (λ n. let it : ReadError = record { line = n; why = c.args.why } in it) number) c.in_ok-push_warning.ensures was

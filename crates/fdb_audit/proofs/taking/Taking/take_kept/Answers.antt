@@ -1,4 +1,4 @@
-use Rattle.std.proofs.Common.{◌≡◌, ◌∙◌, ◌++◌, ◌≤◌, ◌+◌, [], ℕ, List, Result, ap, arith, drop, false, length, map, max, min, refl, subst, sym, take}
+use Rattle.std.proofs.Common.{◌≡◌, ◌∙◌, ◌++◌, ◌≤◌, ◌+◌, [], ℕ, List, Result, ap, arith, drop, false, length, map, max, min, refl, string_bytes, subst, sym, take}
 use Rattle.std.proofs.lemmas.Bool.{false≢true}
 use Rattle.std.proofs.lemmas.List.{drop_all, length-map, map-append, take-append-drop}
 use Rattle.fdb_lines.specs.ToldByKey.{audited_to}
@@ -76,5 +76,5 @@ returns-clause-taken c = λ behind kept told_is settled_is are.
         came = none_early start all c.new-self.result c.new-self.ensures.early c.new-self.ensures.none.0 c.new-self.ensures.none.1;
         once = λ none_before none_since. last.once refl (omega (arith, most_last, none_before));
       },
-      none_said start all c.new-self.result (string_bytes c.new-self-2.result) none c.new-self.ensures.early c.new-self-2.ensures,
+      none_said start all c.new-self.result (string_bytes c.new.result) none c.new-self.ensures.early c.new.ensures.bytes,
     )

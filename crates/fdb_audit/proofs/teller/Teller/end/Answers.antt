@@ -60,11 +60,11 @@ returns-clause-text c = λ members lines kinds has.
       | else-is_none-via-else-is_none w ↦ and_left (not (is_some self.first)) (not self.wanted.json) (ap not (c.is_none.ensures ∙ ap not w.if-is_none.false))
     ] in
     let counted = subst (λ told. HasTotalsIn self.wanted.totals members told lines kinds) (sym c.in-Some.ensures.value) has in
-    let columns : members_of c.deref.result.now ≡ members = ap members_of c.deref.ensures.value ∙ counted.1.columns in
+    let columns : members_of c.deref-2.result.now ≡ members = ap members_of c.deref-2.ensures.value ∙ counted.1.columns in
     let it = c.in_ok-push.ensures members lines kinds counted.1 in
     let head = total_head self.wanted.json counts (told_with c.args.behind self members) in
     let json : c.push_head.new.self.wanted.json ≡ self.wanted.json = ap (λ wanted. wanted.json) c.push_head.ensures.wanted in
-    let shown : map string_bytes c.deref-2.result.now ≡ names = ap (map string_bytes) c.deref-2.ensures.value ∙ (c.in_ok-names.ensures.printed ∙ ap (map printed) c.names.ensures) in
+    let shown : map string_bytes c.deref-3.result.now ≡ names = ap (map string_bytes) c.deref-3.ensures.value ∙ (c.in_ok-names.ensures.printed ∙ ap (map printed) c.names.ensures) in
     let totals : AreTotals self.wanted.json names lines kinds it.0 =
     subst (λ (json : Bool). AreTotals json names lines kinds it.0) json (subst (λ (names : List (List ℕ)). AreTotals c.push_head.new.self.wanted.json names lines kinds it.0) shown it.1) in (
       head ++ it.0,

@@ -40,7 +40,7 @@ followed_printed : (arguments : List Text) (asked : AuditArguments) (log : Follo
     → MatchResult made (λ answer. PrintsBy asked.follow asked bytes (told ++ answer.text.items) answer.found answer.refused × (asked.follow ≡ None → answer.warnings.items ≡ [])) (Stops audit arguments bytes)
 followed_printed arguments asked log bytes told (Ok answer) is (behind, follows, kept, for, has) says stops =
     let all = says (started asked behind kept) (kept ++ bytes) told has in (
-      subst (λ follow. PrintsBy follow asked bytes (told ++ answer.text.items) answer.found answer.refused) (sym follows) (kept, for, all),
+      subst (λ follow. PrintsBy follow asked bytes (told ++ answer.text.items) answer.found answer.refused) (sym follows) (kept, for, all.0, all.1, all.2),
       λ none. absurd (false≢true (sym (ap is_some none) ∙ ap is_some follows)),
     )
 followed_printed arguments asked log bytes told (Err fault) is has says (inl memory) = subst (Stops audit arguments bytes) (sym memory) tt
