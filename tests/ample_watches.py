@@ -8,7 +8,7 @@ from ample_audits import CHEAP, DEAR, FEW, LINES, MARGINS, NUMBERS, PROGRAM, REF
 from ample_audits import all_stale, at_moment, by_model, calls, clients, ends, keyed, line
 from ample_audits import long_names, rising, rows, stale, stale_and_shown, worked
 from follow import lines_kept, warned_of
-from follow_model import Warned
+from follow_model import SAID_LAST, Warned
 from harness import Ran, apart, fault_of, grouped, run
 
 # How far behind the newest end lines may begin where none is settled before the end.
@@ -162,9 +162,8 @@ def early(count):
     said = f"audit early {watched(count + 1, early=count, reads=count, commits=1)} judged 0"
     warned = [Warned(at + 2, 4 * FAR + 1 - 4 * at, at + 1)
               for at in range(count) if at + 1 & at == 0]
-    last = f"logs refused: Early {count + 1}: it began before what had been settled"
     return ["--follow", "0"], [first, rest], Ran(
-        REFUSED, f"{said}\n".encode(), warned_of(*warned, last))
+        REFUSED, f"{said}\n".encode(), warned_of(*warned, SAID_LAST.format(count + 1)))
 
 
 def kept(count):

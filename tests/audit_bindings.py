@@ -8,7 +8,7 @@ from audit_lines import lines_of, refusal
 from audit_model import Log, Reason, Witness, options_of, printed
 from audit_right import why_wrong
 from audit_search import text_of
-from follow_model import asked_of, name_in
+from follow_model import asked_of, judged_as, name_in
 from follow_model import why_wrong as why_wrong_of_watch
 from harness import Ran, fault_of
 from reader import Refused
@@ -25,6 +25,13 @@ def worked(_program):
         if words:
             ran = bindings.python(["-m", "fdb_read_version", *words, "-"], given)
             yield name, fault_of(ran, audit_logs.ended_with(out)._replace(err=b""))
+    for name, given, words, out in audit_logs.worked_cases(follow.WORKED):
+        ran = bindings.python(["-m", "fdb_read_version", *words, "-"], given)
+        wanted = judged_as(given, words)._replace(out=out, err=None)
+        if "--summary" in words:
+            # (that, the package has not; argparse has this status)
+            wanted = wanted._replace(status=2, out=b"")
+        yield f"{name}, followed", fault_of(ran, wanted)
 
 
 def random_audits(_program):

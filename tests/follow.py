@@ -15,7 +15,7 @@ from audit_model import TOLD, printed
 from audit_search import random_lines, text_of
 from audit_streams import MUCH, told_of
 from command_line import LINE, TEXTS, WHOLE, audit
-from follow_model import WATCHED, Followed, Warned, judged_as, why_wrong
+from follow_model import SAID_LAST, WATCHED, Followed, Warned, judged_as, why_wrong
 from harness import NO_STREAM, ROOT, SECONDS, Ran, apart, fault_of, run, spent
 from reader import HIGHEST
 from shapes import repeated, text_of_lines, timed
@@ -295,8 +295,8 @@ def unjudged_is_not_ok():
              [Warned(2, 5, 1)],
              "lines 2 reads 2 commits 0 asks 0 reports 0 refused 0 early 1 judged 1")):
         pieces = [text_of_lines(it).encode() for it in (lines[:1], lines[1:])]
-        last = f"logs refused: Early {len(lines)}: it began before what had been settled"
-        wanted = Ran(REFUSED, f"audit early {counts}\n".encode(), warned_of(*warned, last))
+        err = warned_of(*warned, SAID_LAST.format(len(lines)))
+        wanted = Ran(REFUSED, f"audit early {counts}\n".encode(), err)
         yield f"{len(lines) - 1} early lines", fault_of(apart([PROGRAM, *words], pieces), wanted)
 
 

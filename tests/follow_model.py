@@ -15,9 +15,11 @@ WATCHED = ("Order", "NotAbove")
 # How many lines began before what was settled, and how many of these were judged, as it is printed.
 EARLY = re.compile(rb'\bearly"?[: ](\d+)(?:,?"? ?judged"?[: ](\d+))?')
 # One that did, as it is said on standard error, and the last, as that ends.
-EARLY_LINE = re.compile(r"fdb_audit: early line (\d+): it began (\d+) before what had been settled; "
-                        r"(\d+) so far: --follow is too small, or a clock is ahead")
-LAST_EARLY = re.compile(r"fdb_audit: logs refused: Early (\d+): it began before what had been settled")
+SAID_EARLY = "early line {}: it began {} before what had been settled; {} so far: " \
+    "--follow is too small, or a clock is ahead"
+SAID_LAST = "logs refused: Early {}: it began before what had been settled"
+EARLY_LINE, LAST_EARLY = (re.compile("fdb_audit: " + it.replace("{}", r"(\d+)"))
+                          for it in (SAID_EARLY, SAID_LAST))
 
 
 class Warned(NamedTuple):
@@ -27,8 +29,7 @@ class Warned(NamedTuple):
     count: int
 
     def __str__(self):
-        return (f"early line {self.number}: it began {self.by} before what had been settled; "
-                f"{self.count} so far: --follow is too small, or a clock is ahead")
+        return SAID_EARLY.format(*self)
 
 
 class Grown(Case):
@@ -110,7 +111,7 @@ class Followed(Log):
         last = [f"logs refused: {refusal(0, 'Empty')}"] if self.is_empty else [
             *self.refused.values()][-1:]
         if not last and self.last_early is not None:
-            last = [f"logs refused: Early {self.last_early}: it began before what had been settled"]
+            last = [SAID_LAST.format(self.last_early)]
         last = [f"audit fault: {first[0]} {first[1]}"] if self.told else last
         err = "".join(f"fdb_audit: {it}\n" for it in [
             *(warnings[number] for number in sorted(warnings)), *last])
@@ -198,7 +199,7 @@ def early_wrong(log, ran, most_early):
     log.early, log.judged = (int(it or 0) for it in counts.groups()) if counts else (
         max(said, default=0), 0)
     if not log.judged <= log.early <= most_early:
-        return f"{log.early} came early and {log.judged} were judged, where {most_early} are the most"
+        return f"{log.early} came early, {log.judged} were judged: {most_early} are the most"
     if [it for it in range(1, log.early + 1) if it & it - 1 == 0] != said:
         return f"of {log.early} early lines it is said {said}"
     numbers = [it.number for it in log.warned]

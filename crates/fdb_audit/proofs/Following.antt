@@ -23,11 +23,12 @@ use Rattle.fdb_log_reader.specs.ReadLine.{SaidLine}
 use Rattle.fdb_audit.specs.declared.counts.Counts.{Counts}
 use Rattle.fdb_audit.specs.declared.numbering.Numbering.{Numbering}
 use Rattle.fdb_audit.specs.declared.taking.Taking.{Taking}
-use Rattle.fdb_audit.specs.Following.{KeptNumbers, Start, keys_taken, last_refused, left_out, lines_since, lines_taken, newest_end, no_line, number_in, out_of_reach, taken, taken_above}
-use Rattle.fdb_audit.specs.Taken.{AreCounted, AreTaken, IsInReach, kept_by}
+use Rattle.fdb_audit.specs.Following.{KeptNumbers, Start, early_at, keys_taken, last_refused, left_out, lines_since, lines_taken, newest_end, no_line, number_in, out_of_reach, taken, taken_above}
+use Rattle.fdb_audit.specs.Taken.{AreCounted, AreTaken, HasSettled, IsInReach, kept_by}
 use Rattle.fdb_audit.specs.Warned.{AreEarly}
 use Rattle.fdb_audit.specs.private.Followed.{NotesLine, one_more}
 use Rattle.fdb_audit.specs.private.Numbering.{AreNumbersOf}
+use Rattle.fdb_audit.proofs.Settled.{drop_on, early_push, far_in_all, far_more, far_still, late_more, newest_more, settled_more, settled_still}
 
 -- ---- with one more line
 
@@ -73,11 +74,6 @@ counted above (Ok said ∷ read) = let rest = counted (above + 1) read in omega 
 counted above (Err why ∷ read) = let rest = counted above read in omega arith
 
 -- ---- of those that came since, with one more line
-
-pub drop_on : {X : Type 0} (n : ℕ) (xs ys : List X) → n ≤ length xs → drop n (xs ++ ys) ≡ drop n xs ++ ys
-drop_on zero xs ys le = refl
-drop_on (suc n) [] ys le = absurd (omega (arith, le))
-drop_on (suc n) (x ∷ xs) ys le = drop_on n xs ys (omega (arith, le))
 
 since_more : (start : Start) (read : List (Result SaidLine Why)) (said : SaidLine) → start.lines ≤ length read → lines_since start (read ++ Ok said ∷ []) ≡ lines_since start read ++ said.line ∷ []
 since_more start read said le = ap lines_taken (drop_on start.lines read (Ok said ∷ []) le) ∙ lines_more (drop start.lines read) said
@@ -197,10 +193,6 @@ none_early false count none = (refl, none)
 in_time : (began from : ℕ) → nat_lt began from ≡ false → from ≤ began
 in_time began from late = grind (arith, nat_tests)
 
-newest_more : (newest : ℕ) (lines : List Line) (line : Line) → newest_end newest (lines ++ line ∷ []) ≡ max (newest_end newest lines) (unwrap_or (ended line) 0)
-newest_more newest [] line = refl
-newest_more newest (one ∷ lines) line = newest_more (max newest (unwrap_or (ended one) 0)) lines line
-
 reach_more : (behind newest : ℕ) (lines : List Line) (line : Line)
     → out_of_reach behind newest (lines ++ line ∷ []) ≡ out_of_reach behind newest lines + cond (nat_lt (began line + behind) (newest_end newest lines)) 1 0
 reach_more behind newest [] line = let n = cond {A = ℕ} (nat_lt (began line + behind) newest) 1 0 in omega arith
@@ -222,20 +214,19 @@ early_more behind newest from began count many low le = by (nat_lt began from) r
         let one : cond {A = ℕ} (nat_lt (began + behind) newest) 1 0 ≡ 1 = ap (λ b. cond {A = ℕ} b 1 0) out in
         omega (arith, one, le)
 
-in_reach_more : (behind : ℕ) (old new : Taking) (lines : List Line) (line : Line) → IsInReach behind old lines → new.newest ≡ max old.newest (unwrap_or (ended line) 0)
-    → new.watch.from ≡ old.watch.from → new.counts.early ≡ one_more (nat_lt (began line) old.watch.from) old.counts.early → IsInReach behind new (lines ++ line ∷ [])
-in_reach_more behind old new lines line is newest from early =
+in_reach_more : (behind : ℕ) (old new : Taking) (lines : List Line) (line : Line) → IsInReach behind old lines → old.settled ≤ length lines → new.settled ≡ old.settled
+    → new.newest ≡ max old.newest (unwrap_or (ended line) 0) → new.watch.from ≡ old.watch.from → new.counts.early ≡ one_more (nat_lt (began line) old.watch.from) old.counts.early
+    → IsInReach behind new (lines ++ line ∷ [])
+in_reach_more behind old new lines line is come settled newest from early =
     let was = is.newest in
-    let low = is.from in
+    let low = far_in_all old behind lines is.from in
     let le = is.early in
-    let more = early_more behind old.newest old.watch.from (began line) old.counts.early (out_of_reach behind 0 lines) low le in
+    let more = early_more behind (newest_end 0 lines) old.watch.from (began line) old.counts.early (out_of_reach behind 0 lines) low le in
     let out = reach_more behind 0 lines line in
-    let same : cond {A = ℕ} (nat_lt (began line + behind) old.newest) 1 0 ≡ cond {A = ℕ} (nat_lt (began line + behind) (newest_end 0 lines)) 1 0 =
-    ap (λ n. cond {A = ℕ} (nat_lt (began line + behind) n) 1 0) was in
     record {
       newest = newest ∙ (ap (λ n. max n (unwrap_or (ended line) 0)) was ∙ sym (newest_more 0 lines line));
-      from = omega (arith, newest, from, low);
-      early = omega (arith, early, more, out, same);
+      from = far_more old new behind lines line come is.from settled from;
+      early = omega (arith, early, more, out);
     }
 
 -- the number of a line more that is taken
@@ -260,6 +251,21 @@ few_read start old read told are room =
     let above = ap length are.numbered.above in
     let was = are.count in
     omega (arith, all, above, was, room)
+
+takes_late : (start : Start) (old new : Taking) (read : List (Result SaidLine Why)) (said : SaidLine) {told : List Found} → AreTaken start old read told
+    → new.counts.early ≡ one_more (nat_lt (began said.line) old.watch.from) old.counts.early → early_at start.from (lines_since start (read ++ Ok said ∷ [])) ≤ new.counts.early
+takes_late start old new read said are early =
+    let since = lines_since start read in
+    let all = ap (early_at start.from) (since_more start read said are.few) in
+    let push = early_push start.from since said.line in
+    let most = count_by-le-length (λ (line : Line). nat_lt (began line) start.from) since in
+    let least = since_few start read in
+    let few = are.numbered.few in
+    let low = are.from in
+    let late = are.late in
+    let was : early_at start.from since ≤ 0 + old.counts.early = omega (arith, late) in
+    let more = late_more start.from old.watch.from (began said.line) old.counts.early (early_at start.from since) 0 low was (omega (arith, most, least, few)) in
+    omega (arith, all, push, more, early)
 
 pub takes : (start : Start) (old new : Taking) (read : List (Result SaidLine Why)) (said : SaidLine) (told : List Found) → AreTaken start old read told
     → old.taken + old.numbering.more + length old.numbering.above.items < 18446744073709551614
@@ -290,7 +296,11 @@ takes start old new read said told are room seen notes from tells came =
           (notes.counted (lines_since start read) (let least = since_few start read in omega (arith, least, few)) are.counted);
       few = (let was = are.few in omega (arith, was, size));
       before = are.before;
-      reach = λ anew. subst (IsInReach start.behind new) (sym (lines_more read said)) (in_reach_more start.behind old new (lines_taken read) said.line (are.reach anew) notes.newest from early);
+      from = (let was = are.from in omega (arith, was, from));
+      late = takes_late start old new read said are early;
+      settled = subst (HasSettled start new) (sym (lines_more read said))
+          (settled_more start old new (lines_taken read) said.line are.settled (let size = length-map (taken read) (λ (said : SaidLine). said.line) in omega (arith, size, all, few)) notes.settled from early);
+      reach = λ anew. subst (IsInReach start.behind new) (sym (lines_more read said)) (in_reach_more start.behind old new (lines_taken read) said.line (are.reach anew) are.settled.come notes.settled notes.newest from early);
       came = came;
       once = λ none_before none.
           let is = none_early (nat_lt (began said.line) old.watch.from) old.counts.early (sym early ∙ none) in
@@ -316,11 +326,11 @@ left_number start old numbering read told number are room above same is =
 pub leaves_out : (start : Start) (old new : Taking) (read : List (Result SaidLine Why)) (why : Why) (told : List Found) (number : ℕ) → AreTaken start old read told
     → old.taken + old.numbering.more + length old.numbering.above.items < 18446744073709551614
     → new.watch ≡ old.watch → new.numbering.above.items ≡ old.numbering.above.items ++ old.taken ∷ [] → kept_by new.numbering ≡ kept_by old.numbering
-    → new.taken ≡ old.taken → new.counts ≡ old.counts → new.refused ≡ Some (record { line = number; why = why })
+    → new.taken ≡ old.taken → new.counts ≡ old.counts → new.settled ≡ old.settled → new.refused ≡ Some (record { line = number; why = why })
     → number ≡ min (new.taken + new.numbering.more + length new.numbering.above.items) (2 ^ 64 - 1) → new.newest ≡ old.newest
     → AreEarly start.numbers.more (read ++ Err why ∷ []) new.counts.early new.counts.judged new.counts.last_early
     → AreTaken start new (read ++ Err why ∷ []) told
-leaves_out start old new read why told number are room watch above same count counts refused is newest came =
+leaves_out start old new read why told number are room watch above same count counts settled refused is newest came =
     let more = read ++ Err why ∷ [] in
     let all = counted 0 read in
     let was_above = ap length are.numbered.above in
@@ -343,12 +353,16 @@ leaves_out start old new read why told number are room watch above same count co
       counted = subst (AreCounted new.counts) (sym (since_same start read why are.few)) (subst (λ counts. AreCounted counts (lines_since start read)) (sym counts) are.counted);
       few = (let was = are.few in omega (arith, was, size));
       before = are.before;
+      from = (let was = are.from in let same = ap (λ (watch : KeyWatch). watch.from) watch in omega (arith, was, same));
+      late = (let was = are.late in let same = ap (λ (counts : Counts). counts.early) counts in let since = ap (early_at start.from) (since_same start read why are.few) in omega (arith, was, same, since));
+      settled = subst (HasSettled start new) (sym (lines_same read why))
+          (settled_still start old new (lines_taken read) are.settled settled (ap (λ (watch : KeyWatch). watch.from) watch) (ap (λ (counts : Counts). counts.early) counts));
       came = came;
       reach = λ anew.
           let was = are.reach anew in
           subst (IsInReach start.behind new) (sym (lines_same read why)) (record {
             newest = newest ∙ was.newest;
-            from = (let low = was.from in let from = ap (λ (watch : KeyWatch). watch.from) watch in omega (arith, low, from, newest));
+            from = far_still old new start.behind (lines_taken read) was.from settled (ap (λ (watch : KeyWatch). watch.from) watch);
             early = (let le = was.early in let early = ap (λ (counts : Counts). counts.early) counts in omega (arith, le, early));
           });
       once = λ none_before none.

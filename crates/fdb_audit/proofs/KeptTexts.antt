@@ -12,17 +12,16 @@ use Rattle.fdb_log_reader.specs.declared.line_reader.LineReader.{LineReader}
 use Rattle.fdb_log_reader.specs.declared.read_line.ReadLine.{ReadLine}
 use Rattle.fdb_log_reader.specs.LineReader.{line_names, lines_on}
 use Rattle.fdb_log_reader.specs.ReadLine.{LineNames, SaidLine, line_read, lines_read, member_in, names_after, names_behind, no_names, said_in}
-use Rattle.fdb_log_reader.specs.Reading.{lines_in}
+use Rattle.fdb_log_reader.specs.Reading.{EndsALine, lines_in}
 use Rattle.fdb_audit.specs.declared.arguments.AuditArguments.{AuditArguments}
 use Rattle.fdb_audit.specs.declared.follower.Follower.{Follower}
 use Rattle.fdb_audit.specs.Watched.{HasFollowed, names_asked}
-use Rattle.fdb_audit.specs.Following.{Start, lines_taken, taken}
-use Rattle.fdb_audit.specs.Kept.{KeptSaid, early_at, kept_said, number_kept, read_by, settled_by}
-use Rattle.fdb_audit.specs.private.Kept.{EndsALine}
+use Rattle.fdb_audit.specs.Following.{Start, early_at, lines_taken, taken}
+use Rattle.fdb_audit.specs.Kept.{KeptSaid, kept_said, number_kept, read_by, settled_by}
 
 -- ---- where a text ends
 
-as_many : (shown : List (List ℕ)) (names : LineNames) (lines : List (List ℕ)) → length (lines_read shown names lines) ≡ length lines
+pub as_many : (shown : List (List ℕ)) (names : LineNames) (lines : List (List ℕ)) → length (lines_read shown names lines) ≡ length lines
 as_many shown names [] = refl
 as_many shown names (line ∷ lines) = let rest = as_many shown (names_after names (line_read shown names line)) lines in omega (arith, rest)
 
@@ -180,7 +179,7 @@ of_key : (key : Option (List ℕ)) → member_in (no_names key) ≡ key
 of_key None = refl
 of_key (Some name) = refl
 
-abbrev StaysInOne : Type 0
+abbrev pub StaysInOne : Type 0
 StaysInOne = (shown : List (List ℕ)) (names : LineNames) (lines : List (List ℕ)) → member_in (names_behind shown names lines) ≡ member_in names
 
 pub member_asked : (asked : AuditArguments) (bytes : List ℕ) → StaysInOne → member_in (names_asked asked bytes) ≡ option_map string_bytes asked.key

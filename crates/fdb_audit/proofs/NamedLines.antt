@@ -1,10 +1,10 @@
 -- When lines say the same, whatever numbers their clients and keys have.
-use Rattle.std.proofs.Common.{◌≡◌, ◌∙◌, ℕ, suc, ◌<◌, ◌≤◌, Bool, true, false, List, [], ◌∷◌, Option, None, Some, IfSome, Result, Ok, Err, ap, arith, eqb-true, if◌then◌else◌, length, map, nat_eq, refl, subst, sym}
-use Rattle.std.specs.List.{All}
+use Rattle.std.proofs.Common.{◌≡◌, ◌∙◌, ℕ, suc, ◌<◌, ◌≤◌, Bool, true, false, List, [], ◌∷◌, Option, None, Some, IfSome, Result, Ok, Err, ap, arith, eqb-true, if◌then◌else◌, inl, inr, length, map, nat_eq, refl, subst, sym}
+use Rattle.std.specs.List.{All, slice_index}
 use Rattle.std.specs.List.Sorted.{IsNonDecreasing, IsNonDecreasingBy}
 use Rattle.std.specs.Option.{option_eq}
 use Rattle.std.proofs.Props.{props}
-use Rattle.std.proofs.lemmas.Bool.{false≢true}
+use Rattle.std.proofs.lemmas.Bool.{cases_lt, false≢true}
 use Rattle.std.proofs.lemmas.Bool.Decides.{nat_tests}
 use Rattle.std.proofs.lemmas.List.{get_or-map, length-map}
 use Rattle.fdb_lines.specs.contracts.line.OperationPartialEq.TheImpl.{eq-value as call-eq}
@@ -22,7 +22,7 @@ use Rattle.fdb_log_reader.specs.Members.{and_then}
 use Rattle.fdb_log_reader.specs.ReadLine.{LineNames, SaidLine, line_in, line_read, lines_read, names_after, names_behind, no_names, refusal_alone, said_in, showing, unless, with_names}
 use Rattle.fdb_log_reader.specs.Reading.{lines_in, value_of}
 use Rattle.fdb_audit.specs.Following.{keys_taken, lines_taken, taken}
-use Rattle.fdb_audit.specs.Kept.{Named, named, named_at, named_in, named_said}
+use Rattle.fdb_audit.specs.Kept.{Named, Rise, named, named_at, named_in, named_said}
 use Rattle.fdb_audit.specs.private.KeptTexts.{named_kept, number_of}
 
 -- ---- what was done, and when
@@ -89,6 +89,22 @@ places_rise (one ∷ kept) rise = λ i j d le lt.
     let last = get_or-map number_of all j one d within in
     let up = rise i j one le within in
     omega (arith, first, last, up)
+
+-- they are apart where their numbers are
+pub places_apart : (number : ℕ → ℕ) (places : List ℕ) → IsNonDecreasing places → Rise (map number places) → Rise places
+places_apart number places rise apart = λ i j lt within.
+    let size = length-map places number in
+    let first = get_or-map number places i 0 0 (omega (arith, lt, within)) in
+    let last = get_or-map number places j 0 0 within in
+    let up = rise i j 0 (omega (arith, lt)) within in
+    let above = apart i j lt (omega (arith, within, size)) in
+    elim (cases_lt (slice_index places i) (slice_index places j)) [
+      | inl less ↦ less
+      | inr ge ↦
+          let same : slice_index places i ≡ slice_index places j = omega (arith, ge, up) in
+          let both = ap number same in
+          absurd (omega (arith, first, last, above, both))
+    ]
 
 -- ---- whatever is shown of them
 

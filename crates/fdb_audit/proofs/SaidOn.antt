@@ -1,5 +1,5 @@
 -- What is said of a log that is followed, with what is read next.
-use Rattle.std.proofs.Common.{◌≡◌, ◌∙◌, ◌++◌, ℕ, List, [], Result, ap, Option, append-nil, append_assoc, is_some, refl, subst, string_bytes, sym}
+use Rattle.std.proofs.Common.{◌≡◌, ◌∙◌, ◌++◌, ℕ, List, [], Result, ap, Option, append-nil, append_assoc, is_some, subst, string_bytes, sym}
 use Rattle.fdb_lines.specs.declared.fault.Found.{Found}
 use Rattle.fdb_log_reader.specs.declared.error.Why.{Why}
 use Rattle.fdb_log_reader.specs.LineReader.{lines_on}
@@ -34,14 +34,6 @@ said_on start asked old new before bytes warned further has goes takes warns far
       taken = takes read has.told has.taken;
       said = warns read has.told warned has.taken has.said;
     }
-
--- where it settles, if it is time to, nothing is said
-pub settles_not : (behind : ℕ) (taking : Taking) → SettlesOn behind taking taking
-settles_not behind taking = record {
-  taken = λ start read told far are. ([], subst (AreTaken start taking read) (sym (append-nil told)) are);
-  warnings = refl;
-  counts = refl;
-}
 
 -- what is said next is what was to be said
 pub said_next : (start : Start) (asked : AuditArguments) (old new : Follower) (settled : Taking) (bytes warned warnings : List ℕ) → HasSaid asked start old bytes warned

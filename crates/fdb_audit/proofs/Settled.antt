@@ -1,64 +1,122 @@
--- The lines that were taken, once a watch has settled.
-use Rattle.std.proofs.Common.{◌≡◌, ◌∙◌, ◌++◌, ◌-◌, ℕ, false, List, Result, ap, arith, max, subst, sym}
-use Rattle.std.proofs.lemmas.Bool.{false≢true}
-use Rattle.fdb_lines.specs.declared.key_watch.KeyWatch.{KeyWatch}
-use Rattle.fdb_lines.specs.declared.fault.Found.{Found}
-use Rattle.fdb_lines.specs.KeyWatch.{HasSeenByKey}
-use Rattle.fdb_lines.specs.ToldByKey.{HasTold}
-use Rattle.fdb_log_reader.specs.declared.error.Why.{Why}
-use Rattle.fdb_log_reader.specs.ReadLine.{SaidLine}
-use Rattle.fdb_audit.specs.declared.counts.Counts.{Counts}
-use Rattle.fdb_audit.specs.declared.numbering.Numbering.{Numbering}
+-- Up to when a watch has settled, by the lines that had come then.
+use Rattle.std.proofs.Common.{◌≡◌, ◌∙◌, ℕ, zero, suc, ◌+◌, ◌-◌, ◌^◌, ◌<◌, ◌≤◌, Bool, true, false, cond, nat_lt, List, [], ◌∷◌, ◌++◌, ap, arith, drop, length, max, min, refl, sym, take}
+use Rattle.std.specs.Prelude.{unwrap_or}
+use Rattle.std.proofs.lemmas.Bool.Decides.{nat_tests}
+use Rattle.std.proofs.lemmas.List.{drop_all, length-drop, length_push, take-append-le, take_all}
+use Rattle.std.proofs.lemmas.List.Sums.{count_by-le-length, sum_by-append, sum_by-cons}
+use Rattle.fdb_lines.specs.declared.line.Line.{Line}
+use Rattle.fdb_lines.specs.Before.{began, ended}
 use Rattle.fdb_audit.specs.declared.taking.Taking.{Taking}
-use Rattle.fdb_audit.specs.Following.{Start, keys_taken, lines_since, lines_taken}
-use Rattle.fdb_audit.specs.Taken.{AreCounted, AreTaken, kept_by}
-use Rattle.fdb_audit.specs.Warned.{AreEarly}
+use Rattle.fdb_audit.specs.Following.{Start, early_at, newest_end}
+use Rattle.fdb_audit.specs.Taken.{HasSettled}
+use Rattle.fdb_audit.specs.private.Followed.{one_more}
 
-pub settled_taken : (start : Start) (old new : Taking) (read : List (Result SaidLine Why)) (told more : List Found) (behind at : ℕ)
-    → AreTaken start old read told → behind ≡ start.behind → at ≡ old.newest - behind
-    → HasSeenByKey new.watch (lines_taken read) (keys_taken read) → new.watch.from ≡ max old.watch.from at
-    → (HasTold old.watch (lines_taken read) (keys_taken read) told → HasTold new.watch (lines_taken read) (keys_taken read) (told ++ more))
-    → new.numbering ≡ old.numbering → new.taken ≡ old.taken → new.refused ≡ old.refused → new.counts ≡ old.counts → new.newest ≡ old.newest
-    → AreTaken start new read (told ++ more)
-settled_taken start old new read told more behind at are far at_is seen moved tells numbering count refused counts newest = record {
-  seen = seen;
-  numbered = record {
-    above = ap (λ (numbering : Numbering). numbering.above.items) numbering ∙ are.numbered.above;
-    front = ap kept_by numbering ∙ are.numbered.front;
-    few = are.numbered.few;
-  };
-  count = count ∙ are.count;
-  refused = refused ∙ are.refused;
-  counted = subst (λ (counts : Counts). AreCounted counts (lines_since start read)) (sym counts) are.counted;
-  few = are.few;
-  before = are.before;
-  came = subst (λ (counts : Counts). AreEarly start.numbers.more read counts.early counts.judged counts.last_early) (sym counts) are.came;
-  reach = λ anew.
-      let was = are.reach anew in
-      let low = was.from in
-      let le = was.early in
-      let early = ap (λ (counts : Counts). counts.early) counts in
-      record { newest = newest ∙ was.newest; from = omega (arith, low, far, at_is, moved, newest); early = omega (arith, le, early) };
-  once = λ none_before none. tells (are.once none_before (sym (ap (λ (counts : Counts). counts.early) counts) ∙ none));
-}
+-- ---- the newest end of lines
 
--- and where its newest end is said to be later
-pub newest_later : (start : Start) (old new : Taking) (read : List (Result SaidLine Why)) (told : List Found) → start.anew ≡ false → AreTaken start old read told
-    → new.watch ≡ old.watch → new.numbering ≡ old.numbering → new.taken ≡ old.taken → new.refused ≡ old.refused → new.counts ≡ old.counts → AreTaken start new read told
-newest_later start old new read told on are watch numbering count refused counts = record {
-  seen = subst (λ (watch : KeyWatch). HasSeenByKey watch (lines_taken read) (keys_taken read)) (sym watch) are.seen;
-  numbered = record {
-    above = ap (λ (numbering : Numbering). numbering.above.items) numbering ∙ are.numbered.above;
-    front = ap kept_by numbering ∙ are.numbered.front;
-    few = are.numbered.few;
-  };
-  count = count ∙ are.count;
-  refused = refused ∙ are.refused;
-  counted = subst (λ (counts : Counts). AreCounted counts (lines_since start read)) (sym counts) are.counted;
-  few = are.few;
-  before = are.before;
-  came = subst (λ (counts : Counts). AreEarly start.numbers.more read counts.early counts.judged counts.last_early) (sym counts) are.came;
-  reach = λ anew. absurd (false≢true (sym on ∙ anew));
-  once = λ none_before none. subst (λ (watch : KeyWatch). HasTold watch (lines_taken read) (keys_taken read) told) (sym watch)
-      (are.once none_before (sym (ap (λ (counts : Counts). counts.early) counts) ∙ none));
-}
+pub newest_more : (newest : ℕ) (lines : List Line) (line : Line) → newest_end newest (lines ++ line ∷ []) ≡ max (newest_end newest lines) (unwrap_or (ended line) 0)
+newest_more newest [] line = refl
+newest_more newest (one ∷ lines) line = newest_more (max newest (unwrap_or (ended one) 0)) lines line
+
+no_older : (newest : ℕ) (lines : List Line) → newest ≤ newest_end newest lines
+no_older newest [] = omega arith
+no_older newest (line ∷ lines) = let rest = no_older (max newest (unwrap_or (ended line) 0)) lines in omega (arith, rest)
+
+pub newest_part : (newest n : ℕ) (lines : List Line) → newest_end newest (take n lines) ≤ newest_end newest lines
+newest_part newest zero lines = no_older newest lines
+newest_part newest (suc n) [] = omega arith
+newest_part newest (suc n) (line ∷ lines) = newest_part (max newest (unwrap_or (ended line) 0)) n lines
+
+-- ---- how many began before a moment
+
+pub early_push : (at : ℕ) (lines : List Line) (line : Line) → early_at at (lines ++ line ∷ []) ≡ early_at at lines + cond (nat_lt (began line) at) 1 0
+early_push at lines line =
+    let f = λ (one : Line). cond {A = ℕ} (nat_lt (began one) at) 1 0 in
+    let sum = sum_by-append f lines (line ∷ []) in
+    let last = sum_by-cons f line [] in
+    omega (arith, sum, last)
+
+-- one more that began before what had been told is counted, as it began before what is settled
+pub late_more : (from at began count early before : ℕ) → from ≤ at → early ≤ before + count → early + 1 < 2 ^ 64
+    → early + cond (nat_lt began from) 1 0 ≤ before + one_more (nat_lt began at) count
+late_more from at began count early before low le few = by (nat_lt began at) refl
+  where
+    most : (b : Bool) → cond {A = ℕ} b 1 0 ≤ 1
+    most true = omega arith
+    most false = omega arith
+
+    by : (b : Bool) → nat_lt began at ≡ b → early + cond {A = ℕ} (nat_lt began from) 1 0 ≤ before + one_more b count
+    by true is = let one = most (nat_lt began from) in omega (arith, one, le, few)
+    by false is =
+        let not : nat_lt began from ≡ false = grind (arith, nat_tests) in
+        let none : cond {A = ℕ} (nat_lt began from) 1 0 ≡ 0 = ap (λ b. cond {A = ℕ} b 1 0) not in
+        omega (arith, none, le)
+
+-- ---- with a line more, and where it has settled
+
+pub drop_on : {X : Type 0} (n : ℕ) (xs ys : List X) → n ≤ length xs → drop n (xs ++ ys) ≡ drop n xs ++ ys
+drop_on zero xs ys le = refl
+drop_on (suc n) [] ys le = absurd (omega (arith, le))
+drop_on (suc n) (x ∷ xs) ys le = drop_on n xs ys (omega (arith, le))
+
+pub settled_more : (start : Start) (old new : Taking) (lines : List Line) (line : Line) → HasSettled start old lines → length lines + 1 < 2 ^ 64
+    → new.settled ≡ old.settled → new.watch.from ≡ old.watch.from → new.counts.early ≡ one_more (nat_lt (began line) old.watch.from) old.counts.early
+    → HasSettled start new (lines ++ line ∷ [])
+settled_more start old new lines line is room settled from early =
+    let come = is.come in
+    let was = is.since in
+    let size = length_push lines line in
+    let since = drop old.settled lines in
+    let same : early_at new.watch.from (drop new.settled (lines ++ line ∷ [])) ≡ early_at old.watch.from (since ++ line ∷ []) =
+    (λ i. early_at (from i) (drop (settled i) (lines ++ line ∷ []))) ∙ ap (early_at old.watch.from) (drop_on old.settled lines (line ∷ []) come) in
+    let push = early_push old.watch.from since line in
+    let least = count_by-le-length (λ (line : Line). nat_lt (began line) old.watch.from) since in
+    let few = length-drop old.settled lines in
+    let more = late_more old.watch.from old.watch.from (began line) old.counts.early (early_at old.watch.from since) start.early (omega arith) was (omega (arith, least, few, room)) in
+    record {
+      come = omega (arith, come, size, settled);
+      since = omega (arith, same, push, more, early);
+    }
+
+pub settled_still : (start : Start) (old new : Taking) (lines : List Line) → HasSettled start old lines → new.settled ≡ old.settled → new.watch.from ≡ old.watch.from
+    → new.counts.early ≡ old.counts.early → HasSettled start new lines
+settled_still start old new lines is settled from early =
+    let come = is.come in
+    let was = is.since in
+    let same : early_at new.watch.from (drop new.settled lines) ≡ early_at old.watch.from (drop old.settled lines) = (λ i. early_at (from i) (drop (settled i) lines)) in
+    record {
+      come = omega (arith, come, settled);
+      since = omega (arith, same, was, early);
+    }
+
+-- where all lines had come
+pub settled_now : (start : Start) (new : Taking) (lines : List Line) → new.settled ≡ length lines → HasSettled start new lines
+settled_now start new lines all =
+    let none : early_at new.watch.from (drop new.settled lines) ≡ 0 = ap (early_at new.watch.from) (drop_all new.settled lines (omega (arith, all))) in
+    record {
+      come = omega (arith, all);
+      since = omega (arith, none);
+    }
+
+-- ---- how far it has
+
+pub far_more : (old new : Taking) (behind : ℕ) (lines : List Line) (line : Line) → old.settled ≤ length lines → old.watch.from ≤ newest_end 0 (take old.settled lines) - behind
+    → new.settled ≡ old.settled → new.watch.from ≡ old.watch.from → new.watch.from ≤ newest_end 0 (take new.settled (lines ++ line ∷ [])) - behind
+far_more old new behind lines line come is settled from =
+    let part : newest_end 0 (take new.settled (lines ++ line ∷ [])) ≡ newest_end 0 (take old.settled lines) =
+    ap (newest_end 0) ((λ i. take (settled i) (lines ++ line ∷ [])) ∙ take-append-le old.settled lines (line ∷ []) come) in
+    omega (arith, is, from, part)
+
+pub far_still : (old new : Taking) (behind : ℕ) (lines : List Line) → old.watch.from ≤ newest_end 0 (take old.settled lines) - behind
+    → new.settled ≡ old.settled → new.watch.from ≡ old.watch.from → new.watch.from ≤ newest_end 0 (take new.settled lines) - behind
+far_still old new behind lines is settled from =
+    let part : newest_end 0 (take new.settled lines) ≡ newest_end 0 (take old.settled lines) = (λ i. newest_end 0 (take (settled i) lines)) in
+    omega (arith, is, from, part)
+
+-- so it is where the newest end of all lines is
+pub far_in_all : (taking : Taking) (behind : ℕ) (lines : List Line) → taking.watch.from ≤ newest_end 0 (take taking.settled lines) - behind → taking.watch.from ≤ newest_end 0 lines - behind
+far_in_all taking behind lines is = let part = newest_part 0 taking.settled lines in omega (arith, is, part)
+
+pub far_now : (from come behind : ℕ) (lines : List Line) → come ≡ length lines → from ≤ newest_end 0 lines - behind → from ≤ newest_end 0 (take come lines) - behind
+far_now from come behind lines all is =
+    let whole : newest_end 0 (take come lines) ≡ newest_end 0 lines = ap (newest_end 0) (take_all come lines (omega (arith, all))) in
+    omega (arith, is, whole)

@@ -16,7 +16,7 @@ use Rattle.fdb_audit.specs.declared.arguments.AuditArguments.{AuditArguments}
 use Rattle.fdb_audit.specs.declared.fault.LogFault.{LogFault}
 use Rattle.fdb_audit.specs.declared.follower.Follower.{Follower}
 use Rattle.fdb_audit.specs.declared.teller.Teller.{Teller}
-use Rattle.fdb_audit.specs.Following.{AreWindows, FollowArguments, IsCounted, IsEnd, Start, Window, first_told, keys_taken, kinds_told, lines_taken, lines_told, out_of_reach, told_in_all}
+use Rattle.fdb_audit.specs.Following.{AreWindows, FollowArguments, IsCounted, IsEnd, Start, Window, early_at, first_told, keys_taken, kinds_told, lines_since, lines_taken, lines_told, out_of_reach, told_in_all}
 use Rattle.fdb_audit.specs.Watched.{HasFollowed, HasToldAll, IsComplete, IsFollowed, IsTelling, IsTold, followed_by, lines_asked, members_asked, names_asked}
 use Rattle.fdb_audit.specs.private.Followed.{AreTaken, HasTotals, IsUnread, TellsOn, counted_of, told_with}
 use Rattle.fdb_audit.specs.Warned.{AreEarly}
@@ -180,6 +180,13 @@ early_for start old read are new counts anew =
     let same = ap (λ (counts : Counts). counts.early) counts in
     omega (arith, le, same)
 
+late_for : (start : Start) (old : Follower) (read : List (Result SaidLine Why)) {told : List Found} → AreTaken start old.taking read told → (new : Follower)
+    → new.taking.counts ≡ old.taking.counts → early_at start.from (lines_since start read) ≤ new.taking.counts.early
+late_for start old read are new counts =
+    let le = are.late in
+    let same = ap (λ (counts : Counts). counts.early) counts in
+    omega (arith, le, same)
+
 -- and when it settles for good
 pub settled_all : (start : Start) (asked : AuditArguments) (ends : Bool) (old new : Follower) (read : List (Result SaidLine Why)) (told : List ℕ) (faults : List Found) → (is : IsTelling asked start old read told)
     → new.reader ≡ old.reader → TellsOn start.numbers old.teller new.teller asked.opts.margin read (line_names old.reader).clients faults → new.behind ≡ old.behind
@@ -198,6 +205,7 @@ settled_all start asked ends old new read told faults is reader more behind coun
       before = is.taken.before;
       early = λ anew. early_for start old read is.taken new counts anew;
       came = subst (λ (counts : Counts). AreEarly start.numbers.more read counts.early counts.judged counts.last_early) (sym counts) is.taken.came;
+      late = late_for start old read is.taken new counts;
       whole = λ none_before none. subst (IsComplete ends asked.opts.margin read) (faults_on start old.teller new.teller asked.opts.margin read names is.windows faults more)
           (whole none_before (sym (ap (λ (counts : Counts). counts.early) counts) ∙ none));
     }
@@ -224,6 +232,7 @@ told_so_far start asked old read told is each_once = (
     before = is.taken.before;
     early = λ anew. early_for start old read is.taken old refl anew;
     came = is.taken.came;
+    late = late_for start old read is.taken old refl;
   },
   refl,
 )
@@ -241,7 +250,7 @@ pub all_told : (asked : AuditArguments) (start : Start) (ends : Bool) (last : Fo
     → text ≡ string_bytes last.teller.text ++ end → found ≡ last.teller.first → last_early ≡ last.taking.counts.last_early
     → IsEnd (not (is_some last.teller.first) && not last.teller.wanted.json) last.teller.wanted.totals last.teller.wanted.json (counted_of last.taking) (told_with last.behind last.teller (members_asked asked))
     (map printed (line_names last.reader).clients) (lines_told (lines_asked asked bytes) is.windows) (kinds_told is.windows) end
-    → (followed : IsFollowed asked start ends bytes (told ++ text) found last_early) × (followed.windows ≡ is.windows)
+    → (followed : IsFollowed asked start ends bytes (told ++ text) found last_early) × (followed.windows ≡ is.windows) × (followed.counts ≡ counted_of last.taking)
 all_told asked start ends last bytes told text end found last_early is names texts first early end_is =
     let read = lines_asked asked bytes in
     let lines = lines_told read is.windows in
@@ -268,6 +277,8 @@ all_told asked start ends last bytes told text end found last_early is names tex
         before = is.before;
         early = is.early;
         came = subst (AreEarly start.numbers.more read last.taking.counts.early last.taking.counts.judged) (sym early) is.came;
+        late = is.late;
       },
+      refl,
       refl,
     )

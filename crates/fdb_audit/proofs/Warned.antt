@@ -21,7 +21,7 @@ use Rattle.fdb_audit.specs.declared.warning.Warning.{Warning}
 use Rattle.fdb_audit.specs.declared.warning.Warning.TheVariants.{Early, Refused}
 use Rattle.fdb_audit.specs.Following.{Start}
 use Rattle.fdb_audit.specs.Taken.{AreTaken, HasWarned}
-use Rattle.fdb_audit.specs.Warned.{AreEarly, AreWarnings, IsNumberOfTaken, IsSaid, IsWarned, all_refused, said_early, said_refused, warning_line}
+use Rattle.fdb_audit.specs.Warned.{IsNumberOfTaken, IsSaid, IsWarned, all_refused, said_early, said_refused, warning_line}
 use Rattle.fdb_audit.specs.private.Followed.{AreEarlyIn, CameMore, NotesLine, early_text, one_more}
 use Rattle.fdb_audit.proofs.Following.{drop_on, few_read, line_number}
 use Rattle.fdb_audit.proofs.Totalled.{range_more}

@@ -70,12 +70,13 @@ pub record KeptNumbers : Type 0 where
 abbrev pub none_kept : KeptNumbers
 none_kept = record { numbers = []; more = 0 }
 
--- From where a log is followed: how far behind the newest end a line that comes may begin; whether that is from its beginning;
--- the numbers of the lines that were kept of what was read before, and of these how many lines they are, how many had come early,
--- and which faults had been told.
+-- From where a log is followed: how far behind the newest end a line that comes may begin; whether that is from its beginning; up
+-- to when all had been told; the numbers of the lines that were kept of what was read before, and of these how many lines they are,
+-- how many had come early, and which faults had been told.
 pub record Start : Type 0 where
   pub behind : ℕ
   pub anew : Bool
+  pub from : ℕ
   pub numbers : KeptNumbers
   pub lines : ℕ
   pub early : ℕ
@@ -83,7 +84,7 @@ pub record Start : Type 0 where
 
 -- none of the lines that have these numbers has been read yet
 abbrev pub start_with : ℕ → KeptNumbers → Start
-start_with behind numbers = record { behind = behind; anew = true; numbers = numbers; lines = 0; early = 0; told = [] }
+start_with behind numbers = record { behind = behind; anew = true; from = 0; numbers = numbers; lines = 0; early = 0; told = [] }
 
 -- nothing was read before
 abbrev pub fresh : ℕ → Start
@@ -92,6 +93,10 @@ fresh behind = start_with behind none_kept
 -- the lines that were taken of those that came since
 abbrev pub lines_since : Start → List (Result SaidLine Why) → List Line
 lines_since start read = lines_taken (drop start.lines read)
+
+-- how many of some lines began before a moment
+abbrev pub early_at : ℕ → List Line → ℕ
+early_at at lines = count_by (λ line. nat_lt (began line) at) lines
 
 -- the newest end of some lines that is known, or of what was before
 abbrev pub newest_end : ℕ → List Line → ℕ

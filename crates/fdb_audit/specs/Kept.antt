@@ -1,25 +1,24 @@
 -- What a text says that has the lines which are kept of a log that is followed. (this product's own)
-use Rattle.std.specs.Prelude.{◌≡◌, ℕ, ◌+◌, ◌-◌, nat_lt, false, IsPermutation, List, [], ◌∷◌, Option, codes, count_by, drop, is_some, length, map, option_and_then, option_map, slice_get, string_bytes, take, unwrap_or, Result, if◌then◌else◌}
+use Rattle.std.specs.Prelude.{◌≡◌, ℕ, ◌+◌, ◌-◌, ◌<◌, nat_lt, false, IsPermutation, List, [], ◌∷◌, ◌++◌, Option, codes, count_by, drop, is_some, length, map, option_and_then, option_map, slice_get, slice_index, string_bytes, take, unwrap_or, Result, if◌then◌else◌}
 use Rattle.std.specs.List.{flat_map}
-use Rattle.std.specs.List.Sorted.{IsNonDecreasing}
 use Rattle.std.specs.Option.{option_flatten}
 use Rattle.fdb_lines.specs.declared.key_part.KeyPart.{KeyPart}
 use Rattle.fdb_lines.specs.declared.key_watch.KeyWatch.{KeyWatch}
 use Rattle.fdb_lines.specs.declared.line.Line.{Line}
-use Rattle.fdb_lines.specs.declared.line.Operation.{Operation}
-use Rattle.fdb_lines.specs.declared.line.Times.{Times}
-use Rattle.fdb_lines.specs.Before.{began}
 use Rattle.fdb_lines.specs.Keys.{key_at}
 use Rattle.fdb_lines.specs.Lines.{line_at}
 use Rattle.fdb_lines.specs.ToldByKey.{audited_to}
 use Rattle.fdb_log_reader.specs.declared.error.Why.{Why}
 use Rattle.fdb_log_reader.specs.Members.{whole}
+pub use Rattle.fdb_log_reader.specs.Named.{Named, client_named, key_named, named, named_said}
 use Rattle.fdb_log_reader.specs.ReadLine.{LineNames, SaidLine, lines_read, names_behind, no_names}
-use Rattle.fdb_log_reader.specs.Reading.{lines_in}
+use Rattle.fdb_log_reader.specs.Reading.{EndsALine, lines_in}
 use Rattle.fdb_audit.specs.declared.arguments.AuditArguments.{AuditArguments}
+use Rattle.fdb_audit.specs.declared.fault.LogFault.{LogFault}
 use Rattle.fdb_audit.specs.declared.taking.Taking.{Taking}
-use Rattle.fdb_audit.specs.Following.{KeptNumbers, Start, keys_taken, lines_taken, number_in, taken}
-use Rattle.fdb_audit.specs.Watched.{lines_asked}
+use Rattle.fdb_audit.specs.Following.{KeptNumbers, Start, early_at, keys_taken, lines_taken, number_in, taken, told_in_all}
+use Rattle.fdb_audit.specs.Taken.{AreTaken}
+use Rattle.fdb_audit.specs.Watched.{IsFollowed, lines_asked, names_asked}
 
 -- the members that say as what a line is kept: its number among all lines that were read, counted from 1; how many had been
 -- read; and up to when all was told, which is left out in lines that came since
@@ -58,16 +57,13 @@ kept_said lines = record {
   settled = settled_by 0 lines;
 }
 
--- how many of some lines began before a moment
-abbrev pub early_at : ℕ → List Line → ℕ
-early_at at lines = count_by (λ line. nat_lt (began line) at) lines
-
 -- From where a log is followed on of which lines were kept: of those that had come when it settled what there was to tell has been
 -- told, up to when it had; and of the others those are early that began before.
 abbrev pub start_from : ℕ → ℕ → KeptSaid → List (Result SaidLine Why) → Start
 start_from behind margin kept read = record {
   behind = behind;
   anew = false;
+  from = kept.settled;
   numbers = kept.numbers;
   lines = length read;
   early = early_at kept.settled (lines_taken (drop kept.told read));
@@ -89,26 +85,6 @@ kept_at before read places come settled =
       settled = if nat_lt 0 told then settled else 0;
     }
 
--- the name of a client, and that of a key, by its number, if there is one
-abbrev pub client_named : LineNames → Option ℕ → Option (List ℕ)
-client_named names client = option_and_then (slice_get names.clients) client
-
-abbrev pub key_named : LineNames → Option ℕ → Option (List ℕ)
-key_named names key = option_and_then (λ keys. option_and_then (slice_get keys.names) key) names.keys
-
--- What a line says, whatever numbers its client and its key have: their names, its call, and its times.
-pub record Named : Type 0 where
-  pub client : Option (List ℕ)
-  pub key : Option (List ℕ)
-  pub call : Operation
-  pub times : Option Times
-
-abbrev pub named : LineNames → Line → Option ℕ → Named
-named names line key = record { client = client_named names line.client; key = key_named names key; call = line.call; times = line.times }
-
-abbrev pub named_said : LineNames → SaidLine → Named
-named_said names said = named names said.line said.key
-
 -- what the lines of a text say, where a member has the keys, and these members are shown
 abbrev pub named_in : Option (List ℕ) → List (List ℕ) → List ℕ → List Named
 named_in key shown text =
@@ -122,12 +98,28 @@ named_at names read place = named names (line_at (lines_taken read) place) (key_
 abbrev pub places_kept : KeyWatch → List ℕ
 places_kept watch = flat_map (λ (part : KeyPart). part.numbers.items) watch.parts.items
 
--- A text says which lines are kept, in the order in which they came, each under its number, how many lines were read, and up to
--- when all was told; and of each line, whatever is shown of it, what it said when it was taken, by these names.
+-- each of some places is above those in front of it
+abbrev pub Rise : List ℕ → Type 0
+Rise places = (i j : ℕ) → i < j → j < length places → slice_index places i < slice_index places j
+
+-- A text says which lines are kept, in the order in which they came, each once and under its number, how many lines were read, and
+-- up to when all was told; and of each line, whatever is shown of it, what it said when it was taken, by these names. Each of its
+-- lines is one of them, and it ends where a line does.
 pub record Keeps (key : Option (List ℕ)) (names : LineNames) (before : KeptNumbers) (taking : Taking) (read : List (Result SaidLine Why)) (text : List ℕ)
     : Type 0 where
   pub places : List ℕ
   pub all : IsPermutation (places_kept taking.watch) places
-  pub rise : IsNonDecreasing places
+  pub rise : Rise places
   pub said : kept_said (lines_kept key text) ≡ kept_at before read places taking.settled taking.watch.from
   pub lines : (shown : List (List ℕ)) → named_in key shown text ≡ map (named_at names read) places
+  pub whole : length (lines_in text) ≡ length places
+  pub ends : EndsALine text
+
+-- A watch has stopped: what it has told of these bytes, and by what it goes on from them, which a text keeps.
+pub record IsStopped (asked : AuditArguments) (start : Start) (bytes text : List ℕ) (found : Option LogFault) (last_early : Option ℕ) (kept : List ℕ) : Type 0 where
+  pub followed : IsFollowed asked start false bytes text found last_early
+  pub taking : Taking
+  pub margin : taking.watch.margin ≡ asked.opts.margin
+  pub early : followed.counts.early ≡ taking.counts.early
+  pub taken : AreTaken start taking (lines_asked asked bytes) (start.told ++ told_in_all (lines_asked asked bytes) followed.windows)
+  pub keeps : Keeps (option_map string_bytes asked.key) (names_asked asked bytes) start.numbers taking (lines_asked asked bytes) kept

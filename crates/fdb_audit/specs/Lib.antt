@@ -10,5 +10,6 @@ pub mod Warned
 pub mod Taken
 pub mod Watched
 pub mod Kept
+pub mod Pieces
 pub mod Program
 pub mod private

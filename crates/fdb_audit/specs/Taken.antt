@@ -1,5 +1,5 @@
 -- The lines that a follower has taken, of those that were read, and what it has told of them. (this product's own)
-use Rattle.std.specs.Prelude.{◌≡◌, ℕ, ◌+◌, ◌-◌, ◌<◌, ◌≤◌, ◌^◌, ◌++◌, Bool, true, false, All, List, MatchOption, None, Option, Result, length, map, string_bytes}
+use Rattle.std.specs.Prelude.{◌≡◌, ℕ, ◌+◌, ◌-◌, ◌<◌, ◌≤◌, ◌^◌, ◌++◌, Bool, true, false, All, List, MatchOption, None, Option, Result, drop, length, map, string_bytes, take}
 use Rattle.std.specs.List.{range_with_len}
 use Rattle.fdb_lines.specs.declared.fault.Fault.{Fault}
 use Rattle.fdb_lines.specs.declared.fault.Found.{Found}
@@ -17,7 +17,7 @@ use Rattle.fdb_audit.specs.declared.teller.Teller.{Teller}
 use Rattle.fdb_audit.specs.declared.beside.Column.{Column}
 use Rattle.fdb_audit.specs.declared.told_faults.ToldFaults.{ToldFaults}
 use Rattle.fdb_audit.specs.Warned.{AreEarly, IsSaid}
-use Rattle.fdb_audit.specs.Following.{Counted, KeptNumbers, Start, keys_taken, last_refused, lines_since, lines_taken, newest_end, out_of_reach, taken, taken_above}
+use Rattle.fdb_audit.specs.Following.{Counted, KeptNumbers, Start, early_at, keys_taken, last_refused, lines_since, lines_taken, newest_end, out_of_reach, taken, taken_above}
 
 -- the numbers of the lines that were kept of others and come first, and how many more there were
 abbrev pub kept_by : Numbering → KeptNumbers
@@ -37,14 +37,21 @@ pub record AreCounted (counts : Counts) (all : List Line) : Type 0 where
   pub asks : counts.asks ≡ how_many is_ask all
   pub reports : counts.reports ≡ how_many is_report all
 
--- It has settled no further than to where lines that come may begin, and so no more have come early than began out of reach.
+-- It has settled no further than to where lines that came after that might begin, and so no more have come early than began out of
+-- reach.
 pub record IsInReach (behind : ℕ) (taking : Taking) (lines : List Line) : Type 0 where
   pub newest : taking.newest ≡ newest_end 0 lines
-  pub from : taking.watch.from ≤ taking.newest - behind
+  pub from : taking.watch.from ≤ newest_end 0 (take taking.settled lines) - behind
   pub early : taking.counts.early ≤ out_of_reach behind 0 lines
 
+-- So many lines had come when it settled last; of those that came since no more began before that than came early.
+pub record HasSettled (start : Start) (taking : Taking) (lines : List Line) : Type 0 where
+  pub come : taking.settled ≤ length lines
+  pub since : early_at taking.watch.from (drop taking.settled lines) ≤ start.early + taking.counts.early
+
 -- The lines that were taken, of those that were read, and what was told of them: where none came early, each fault of a key once
--- that stands at a line that began before where it has settled.
+-- that stands at a line that began before where it has settled. Each line that came since and began before that up to which all had
+-- been told is counted as early.
 pub record AreTaken (start : Start) (taking : Taking) (read : List (Result SaidLine Why)) (told : List Found) : Type 0 where
   pub seen : HasSeenByKey taking.watch (lines_taken read) (keys_taken read)
   pub numbered : AreNumbered start.numbers taking read
@@ -53,6 +60,9 @@ pub record AreTaken (start : Start) (taking : Taking) (read : List (Result SaidL
   pub counted : AreCounted taking.counts (lines_since start read)
   pub few : start.lines ≤ length read
   pub before : start.early ≡ 0 → All (λ (found : Found). found.line < start.lines) start.told
+  pub from : start.from ≤ taking.watch.from
+  pub late : early_at start.from (lines_since start read) ≤ taking.counts.early
+  pub settled : HasSettled start taking (lines_taken read)
   pub reach : start.anew ≡ true → IsInReach start.behind taking (lines_taken read)
   pub came : AreEarly start.numbers.more read taking.counts.early taking.counts.judged taking.counts.last_early
   pub once : start.early ≡ 0 → taking.counts.early ≡ 0 → HasTold taking.watch (lines_taken read) (keys_taken read) told

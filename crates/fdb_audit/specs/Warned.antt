@@ -1,5 +1,5 @@
 -- What is said on standard error of a log that is followed. (this product's own)
-use Rattle.std.specs.Prelude.{◌≡◌, ℕ, ◌+◌, ◌<◌, ◌≤◌, ◌++◌, All, IfSome, List, [], ◌∷◌, Option, None, Some, Result, Ok, Err, codes, decimal, drop, is_some, length, map, nat_lt, slice_get, string_bytes}
+use Rattle.std.specs.Prelude.{◌≡◌, ℕ, ◌+◌, ◌<◌, ◌≤◌, ◌++◌, All, IfSome, List, [], ◌∷◌, Option, None, Some, Result, Ok, Err, codes, decimal, drop, is_some, length, map, nat_lt, slice_get}
 use Rattle.std.specs.List.{filter, flat_map, range_with_len}
 use Rattle.std.specs.Int.{is_power_of_two}
 use Rattle.fdb_log_reader.specs.declared.error.ReadError.{ReadError}
@@ -57,15 +57,16 @@ refused_text (Kept refused) = kept_refused_text refused
 
 -- ---- what is said of lines
 
-abbrev pub warning_text : Warning → List ℕ
-warning_text (Refused error) = refused_text (Log error)
-warning_text (Of_early it) =
-    codes "early line " ++ decimal it.line ++ codes ": it began " ++ decimal it.by ++ codes " before what had been settled; " ++ decimal it.count
-    ++ codes " so far: --follow is too small, or a clock is ahead"
+-- a number between two texts
+abbrev pub counted : List ℕ → ℕ → List ℕ → List ℕ
+counted before number after = before ++ decimal number ++ after
 
 -- a line of standard error, behind the program's name
 abbrev pub warning_line : Warning → List ℕ
-warning_line warning = line (codes "fdb_audit: " ++ warning_text warning)
+warning_line (Refused error) = line (codes "fdb_audit: " ++ refused_text (Log error))
+warning_line (Of_early it) =
+    counted (codes "fdb_audit: early line ") it.line (codes ": it began ") ++ counted [] it.by (codes " before what had been settled; ")
+    ++ counted [] it.count (line (codes " so far: --follow is too small, or a clock is ahead"))
 
 -- the lines that are refused, each by its number and why, where the first has a number
 abbrev pub all_refused : ℕ → List (Result SaidLine Why) → List ReadError

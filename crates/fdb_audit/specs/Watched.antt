@@ -11,7 +11,7 @@ use Rattle.fdb_audit.specs.declared.arguments.AuditArguments.{AuditArguments}
 use Rattle.fdb_audit.specs.declared.fault.LogFault.{LogFault}
 use Rattle.fdb_audit.specs.declared.follower.Follower.{Follower}
 use Rattle.fdb_audit.specs.declared.teller.Teller.{Teller}
-use Rattle.fdb_audit.specs.Following.{AreWindows, Counted, FollowArguments, IsCounted, IsEnd, Start, Window, first_told, keys_taken, kinds_told, lines_taken, lines_told, out_of_reach, told_in_all}
+use Rattle.fdb_audit.specs.Following.{AreWindows, Counted, FollowArguments, IsCounted, IsEnd, Start, Window, early_at, first_told, keys_taken, kinds_told, lines_since, lines_taken, lines_told, out_of_reach, told_in_all}
 use Rattle.fdb_audit.specs.Taken.{AreTaken, HasTotals, HasWarned, counted_of}
 use Rattle.fdb_audit.specs.Warned.{AreEarly, IsSaid}
 
@@ -77,8 +77,8 @@ IsComplete true margin read told = IsPermutation told (audited margin (lines_tak
 IsComplete false margin read told = (to : ℕ) × IsPermutation told (audited_to margin to (lines_taken read) (keys_taken read))
 
 -- What is told of all lines of a text, window by window, and at the end how much was read; the first fault, if one was told, and
--- the number of the last line that came early, if one did. Where none came early, it is whole; and from its beginning no more
--- came early than began out of reach.
+-- the number of the last line that came early, if one did. Where none came early, it is whole; from its beginning no more came early
+-- than began out of reach, and no fewer did than began before that up to which all had been told.
 pub record IsFollowed (asked : AuditArguments) (start : Start) (ends : Bool) (bytes text : List ℕ) (found : Option LogFault) (last_early : Option ℕ) : Type 0 where
   pub windows : List Window
   pub told : List ℕ
@@ -94,6 +94,7 @@ pub record IsFollowed (asked : AuditArguments) (start : Start) (ends : Bool) (by
   pub whole : start.early ≡ 0 → counts.early ≡ 0 → IsComplete ends asked.opts.margin (lines_asked asked bytes) (start.told ++ told_in_all (lines_asked asked bytes) windows)
   pub early : start.anew ≡ true → counts.early ≤ out_of_reach start.behind 0 (lines_taken (lines_asked asked bytes))
   pub came : AreEarly start.numbers.more (lines_asked asked bytes) counts.early counts.judged last_early
+  pub late : early_at start.from (lines_since start (lines_asked asked bytes)) ≤ counts.early
 
 -- all that is told of these lines has been told, but for what is told next
 pub record HasToldAll (asked : AuditArguments) (start : Start) (ends : Bool) (follower : Follower) (read : List (Result SaidLine Why)) (told : List ℕ) : Type 0 where
@@ -106,3 +107,4 @@ pub record HasToldAll (asked : AuditArguments) (start : Start) (ends : Bool) (fo
   pub whole : start.early ≡ 0 → follower.taking.counts.early ≡ 0 → IsComplete ends asked.opts.margin read (start.told ++ told_in_all read windows)
   pub early : start.anew ≡ true → follower.taking.counts.early ≤ out_of_reach start.behind 0 (lines_taken read)
   pub came : AreEarly start.numbers.more read follower.taking.counts.early follower.taking.counts.judged follower.taking.counts.last_early
+  pub late : early_at start.from (lines_since start read) ≤ follower.taking.counts.early

@@ -9,12 +9,16 @@ use Rattle.fdb_lines.specs.declared.key_order.Order.TheVariants.{One, ByKey}
 use Rattle.fdb_lines.specs.Judged.{HaveKeys}
 use Rattle.fdb_lines.specs.Lines.{Lines}
 use Rattle.fdb_lines.specs.Log.{lines_of}
+use Rattle.fdb_log_reader.specs.Names.{names_of}
+use Rattle.fdb_log_reader.specs.Printed.{printed}
 use Rattle.fdb_audit.specs.Figures.{Figure}
 use Rattle.fdb_audit.specs.Groups.{by_client, by_member, number_of, Grouping}
 use Rattle.fdb_audit.specs.Text.{Beside, PrintedLog}
 use Rattle.fdb_audit.specs.Judged.{orders_text, steps_text}
 use Rattle.fdb_audit.specs.declared.asked.Asked.{Asked}
 use Rattle.fdb_audit.specs.declared.beside.Column.{Column}
+use Rattle.fdb_audit.specs.declared.client_names.ClientNames.{ClientNames}
+use Rattle.fdb_audit.specs.declared.client_names.ClientNames.TheVariants.{Texts, OfLog}
 use Rattle.fdb_audit.specs.declared.figures.Figure.{Figure as Written}
 use Rattle.fdb_audit.specs.declared.grouped.By.{By}
 use Rattle.fdb_audit.specs.declared.grouped.By.TheVariants.{Client, Member}
@@ -31,10 +35,15 @@ members_of columns = map (λ (column : Column). string_bytes column.member) colu
 abbrev pub figure_of : Written → Figure
 figure_of it = record { name = it.0.now; number = it.1 }
 
+-- the names of clients as they are printed
+abbrev pub names_in : ClientNames → List (List ℕ)
+names_in (Texts texts) = map string_bytes texts.now
+names_in (OfLog names) = map printed (names_of names.now)
+
 abbrev pub shown_in : Printer → PrintedLog
 shown_in printer = record {
   lines = (lines_of printer.log.now).lines;
-  names = map string_bytes printer.names.now;
+  names = names_in printer.names;
   numbers = printer.numbers.now;
   beside = map beside_of printer.beside.now;
 }

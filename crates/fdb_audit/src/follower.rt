@@ -4,11 +4,10 @@ ghost use Rattle.std.specs.Prelude.{◌≡◌, ◌++◌, ℕ, [], Bool, IfOk, Li
 ghost use Rattle.std.specs.Prelude.{◌<◌, Option, Result, option_map, string_bytes};
 ghost use Rattle.fdb_log_reader.specs.ReadLine.{SaidLine};
 ghost use Rattle.fdb_log_reader.specs.declared.error.Why.{Why};
-ghost use Rattle.fdb_audit.specs.Following.{Start, fresh, left_out, start_with, told_in_all};
+ghost use Rattle.fdb_audit.specs.Following.{Start, fresh, left_out, start_with};
 ghost use Rattle.fdb_lines.specs.declared.fault.Found.{Found};
 ghost use Rattle.fdb_audit.specs.Kept.{KeptSaid, start_from, start_of, Keeps};
 ghost use Rattle.fdb_audit.specs.Taken.{AreTaken};
-ghost use Rattle.fdb_audit.specs.declared.taking.Taking.{Taking};
 ghost use Rattle.fdb_log_reader.specs.ReadLine.{member_in};
 ghost use Rattle.fdb_audit.specs.Watched.{IsFollowed};
 ghost use Rattle.fdb_audit.specs.declared.arguments.AuditArguments.{AuditArguments};
@@ -78,10 +77,11 @@ impl Follower {
     ghost use Rattle.fdb_audit.specs.Watched.{lines_asked, names_asked, HasFollowed, HasSaid};
     ghost use Rattle.fdb_audit.specs.Watched.{HasSaidAll};
     ghost use Rattle.fdb_audit.specs.Watched.{HasToldAll, IsTelling};
-    ghost use Rattle.fdb_audit.specs.Taken.{kept_by};
+    ghost use Rattle.fdb_audit.specs.Kept.{IsStopped};
+    ghost use Rattle.fdb_audit.specs.Taken.{counted_of, kept_by};
     ghost use Rattle.fdb_audit.specs.private.Followed.{AreEarlyIn, HasWarned, IsUnread, SaysNext};
     ghost use Rattle.fdb_audit.specs.private.Followed.{SettlesOn};
-    ghost use Rattle.fdb_audit.specs.private.Kept.{EndsALine};
+    ghost use Rattle.fdb_log_reader.specs.Reading.{EndsALine};
     ghost use Rattle.fdb_log_reader.specs.LineReader.{line_names};
 
     /// An audit that has read no line, as the arguments ask for it. A line that comes may begin so far
@@ -328,13 +328,8 @@ impl Follower {
             → it.followed.refused ≡ left_out start.numbers (lines_asked asked bytes)) }
         ensures kept { IfOk result (λ it. IfOk it.kept (λ text. (asked : AuditArguments)
             → (start : Start) → (bytes told : List ℕ) → HasFollowed asked start self bytes told
-            → (followed : IsFollowed asked start false bytes
-            (told ++ string_bytes it.followed.said.text) it.followed.found
-            it.followed.last_early) × (taking : Taking)
-            × AreTaken start taking (lines_asked asked bytes)
-            (start.told ++ told_in_all (lines_asked asked bytes) followed.windows)
-            × Keeps (option_map string_bytes asked.key) (names_asked asked bytes) start.numbers
-            taking (lines_asked asked bytes) (string_bytes text))) }
+            → IsStopped asked start bytes (told ++ string_bytes it.followed.said.text)
+            it.followed.found it.followed.last_early (string_bytes text))) }
     {
         self.take_last()?;
         let refused = self.taking.left_out();
@@ -390,7 +385,8 @@ impl Follower {
             → (all : HasToldAll asked start ends self (lines_asked asked bytes) told)
             → names_asked asked bytes ≡ line_names self.reader → (followed : IsFollowed asked
             start ends bytes (told ++ string_bytes it.said.text) it.found it.last_early)
-            × (followed.windows ≡ all.windows)) }
+            × (followed.windows ≡ all.windows)
+            × (followed.counts ≡ counted_of self.taking)) }
         ensures refused { IfOk result (λ it. it.refused ≡ refused) }
         ensures early { IfOk result (λ it. it.last_early ≡ self.taking.counts.last_early) }
         ensures warnings { IfOk result (λ it. it.said.warnings ≡ self.taking.warnings) }

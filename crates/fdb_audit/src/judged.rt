@@ -13,6 +13,7 @@ ghost use Rattle.fdb_audit.specs.private.{keys_in, log_in, shown_in, HasKeys};
 
 use crate::asked::Asked;
 use crate::beside::members_beside;
+use crate::client_names::ClientNames;
 use crate::listing::{listed, one_fault};
 use crate::passing::{explained, passed};
 use crate::printer::Printer;
@@ -65,7 +66,7 @@ pub fn judge<'x>(
 {
     let printer = Printer {
         log,
-        names,
+        names: ClientNames::Texts(names),
         numbers: &[],
         beside: &[],
     };
@@ -191,11 +192,10 @@ pub fn judge_named<'x>(
     ensures { IfOk result (λ found. IsTextOfReading (reading_of named.entry.now) opts.entry.now wanted
         found.fault (string_bytes found.text)) }
 {
-    let names = named.names.printed(alloc)?;
     let beside = members_beside(alloc, named)?;
     let printer = Printer {
         log: &named.log,
-        names: &names,
+        names: ClientNames::OfLog(&named.names),
         numbers: &[],
         beside: &beside,
     };
@@ -219,11 +219,10 @@ pub(crate) fn judge_named_by<'x, R: Threads + Sync>(
     ensures { IfOk result (λ found. IsTextOfReading (reading_of named.entry.now) opts.entry.now wanted
         found.fault (string_bytes found.text)) }
 {
-    let names = named.names.printed(alloc)?;
     let beside = members_beside(alloc, named)?;
     let printer = Printer {
         log: &named.log,
-        names: &names,
+        names: ClientNames::OfLog(&named.names),
         numbers: &[],
         beside: &beside,
     };

@@ -1,15 +1,17 @@
 //! The lines that are kept of a log that is followed, as a log of their own: with each it stands as
 //! what it was kept.
 
-ghost use Rattle.std.specs.Prelude.{◌≡◌, ◌∷◌, ◌++◌, ◌<◌, ◌^◌, [], List, IfOk, IfSome, Ok, OnOk};
+ghost use Rattle.std.specs.Prelude.{◌≡◌, ◌∷◌, ◌++◌, ◌<◌, ◌^◌, [], All, List, IfOk, IfSome};
+ghost use Rattle.std.specs.Prelude.{Ok, OnOk};
 ghost use Rattle.std.specs.Prelude.{Option, Some, codes, decimal, is_some, length, map, option_map};
 ghost use Rattle.std.specs.Prelude.{string_bytes, true};
 ghost use Rattle.fdb_log_reader.specs.LineReader.{line_names};
 ghost use Rattle.fdb_log_reader.specs.ReadLine.{SaidLine, said_by, said_in};
+ghost use Rattle.fdb_log_reader.specs.Reading.{lines_in, EndsALine};
 ghost use Rattle.fdb_audit.specs.Following.{taken};
 ghost use Rattle.fdb_audit.specs.Kept.{client_named, kept_members, kept_said, key_named};
-ghost use Rattle.fdb_audit.specs.Kept.{lines_kept, named_in, named_said, number_kept};
-ghost use Rattle.fdb_audit.specs.private.Kept.{EndsALine, IsKeptAs};
+ghost use Rattle.fdb_audit.specs.Kept.{lines_kept, named_in, named_said, number_kept, Rise};
+ghost use Rattle.fdb_audit.specs.private.Kept.{IsKeptAs};
 
 use crate::figures::{Figure, push_figures};
 use crate::refused::KeptRefused;
@@ -41,6 +43,7 @@ pub(crate) struct KeptText {
     /// The moment up to which it had settled.
     pub(crate) settled: u64,
     ghost few: { more < 18446744073709551615 },
+    ghost rise: { Rise numbers.items },
 }
 
 /// A text that keeps lines, as it was read.
@@ -88,6 +91,8 @@ impl KeptText {
         ensures lines { IfOk result (λ it. IfOk it (λ read. map
             (named_said (line_names read.reader)) (taken (map said_in read.lines.items))
             ≡ named_in (option_map (λ key. key.now) key.entry) kept_members text.now)) }
+        ensures many { IfOk result (λ it. IfOk it (λ read.
+            length (lines_in text.now) ≡ length read.lines.items)) }
         ensures ends { IfOk result (λ it. OnOk it (EndsALine text.now)) }
     {
         a_space_more_is_of_one_line();
@@ -173,8 +178,10 @@ impl KeptText {
     /// Whether a line may stand behind those above it: its number is above theirs, and no lines are
     /// told behind some that are not.
     fn goes_on(&self, kept: KeptAs) -> bool
-        ensures { result ≡ true → is_some kept.settled ≡ true
+        ensures told { result ≡ true → is_some kept.settled ≡ true
             → self.now.told ≡ length self.now.numbers.items }
+        ensures above { result ≡ true
+            → All (λ number. number < kept.number) self.now.numbers.items }
     {
         let count = self.numbers.len();
         let last = self.numbers.last().copied().unwrap_or(0);

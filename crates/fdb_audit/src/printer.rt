@@ -1,6 +1,6 @@
 //! The lines that are printed, and the names of their clients as they are printed.
 
-ghost use Rattle.std.specs.Prelude.{◌≡◌, ◌++◌, [], OnOk, map, option_map, slice_get, string_bytes};
+ghost use Rattle.std.specs.Prelude.{◌≡◌, ◌++◌, [], OnOk, slice_get, string_bytes};
 ghost use Rattle.fdb_lines.specs.Lines.{line_at};
 ghost use Rattle.fdb_lines.specs.Log.{lines_of};
 ghost use Rattle.fdb_audit.specs.Text.{call_text, client_or, fault_of, members_text, mention};
@@ -8,6 +8,7 @@ ghost use Rattle.fdb_audit.specs.Text.{name_or_number, number_at, number_text, w
 ghost use Rattle.fdb_audit.specs.private.{shown_in};
 
 use crate::beside::Column;
+use crate::client_names::ClientNames;
 use crate::fault::LogFault;
 use fdb_lines::{Found, Line, Log, Operation};
 use std::alloc::AllocError;
@@ -27,7 +28,7 @@ const NOBODY: Line = Line {
 #[derive(Clone, Copy)]
 pub(crate) struct Printer<'a> {
     pub log: &'a Log,
-    pub names: &'a [String],
+    pub names: ClientNames<'a>,
     pub numbers: &'a [u64],
     pub beside: &'a [Column],
 }
@@ -59,24 +60,12 @@ impl Printer<'_> {
         }
     }
 
-    /// The name of a client; none where its number is beyond the names.
-    pub(crate) fn name(&self, client: u32) -> Option<&str>
-        ensures { option_map (λ name. name.now) result
-            ≡ slice_get (shown_in self.now).names client }
-    {
-        let name = self.names.get(client as usize)?;
-        Some(name.as_str())
-    }
-
     /// Writes the name of a client, or its number where it has none.
     pub(crate) fn push_name(self, out: &mut String, number: u32) -> Result<(), AllocError>
         ensures { let names = (shown_in self.entry).names in OnOk result (string_bytes out.new
             ≡ string_bytes out.old ++ name_or_number number (slice_get names number)) }
     {
-        match self.name(number) {
-            Some(name) => write!(out, "{name}"),
-            None => write!(out, "{number}"),
-        }
+        self.names.push(out, number)
     }
 
     /// Writes a client behind a text, or another text where it is not known.

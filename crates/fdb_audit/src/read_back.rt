@@ -10,9 +10,10 @@ ghost use Rattle.fdb_lines.specs.KeyWatch.{HasSeenByKey, IsKept};
 ghost use Rattle.fdb_log_reader.specs.declared.error.Why.{Why};
 ghost use Rattle.fdb_log_reader.specs.LineReader.{line_names};
 ghost use Rattle.fdb_log_reader.specs.ReadLine.{SaidLine, member_in, said_in};
+ghost use Rattle.fdb_log_reader.specs.Reading.{lines_in, EndsALine};
 ghost use Rattle.fdb_audit.specs.Following.{Start, keys_taken, lines_taken, taken};
 ghost use Rattle.fdb_audit.specs.Kept.{client_named, kept_at, kept_members, kept_said, key_named};
-ghost use Rattle.fdb_audit.specs.Kept.{lines_kept, named_in, named_said, places_kept};
+ghost use Rattle.fdb_audit.specs.Kept.{lines_kept, named_in, named_said, places_kept, Rise};
 ghost use Rattle.fdb_audit.specs.Taken.{AreTaken, kept_by};
 ghost use Rattle.fdb_audit.specs.private.KeptTexts.{named_kept, number_of, said_of};
 ghost use Rattle.fdb_audit.specs.private.Numbering.{AreNumbersOf};
@@ -65,6 +66,11 @@ pub(crate) fn refusal_of(
         start.numbers read (map number_of kept.now) taking.now.settled taking.now.watch.from) }
     ensures lines { IfOk result (λ it. it ≡ None → let names = line_names reader.now in
         named_in (member_in names) kept_members text.now ≡ map (named_kept names) kept.now) }
+    ensures rise { IfOk result (λ it. it ≡ None → let names = line_names reader.now in
+        Rise (kept_said (lines_kept (member_in names) text.now)).numbers.numbers) }
+    ensures many { IfOk result (λ it. it ≡ None
+        → length (lines_in text.now) ≡ length kept.now) }
+    ensures ends { IfOk result (λ it. it ≡ None → EndsALine text.now) }
 {
     let read = match KeptText::read(alloc, reader.key_member(), text)? {
         Ok(read) => read,
@@ -117,8 +123,10 @@ fn are_said(
     kept: &[KeptLine],
     theirs: &LineReader,
 ) -> bool
-    ensures { result ≡ true → map (named_said (line_names reader.now)) (taken (map said_in said.now))
+    ensures said { result ≡ true
+        → map (named_said (line_names reader.now)) (taken (map said_in said.now))
         ≡ map (named_kept (line_names theirs.now)) kept.now }
+    ensures many { result ≡ true → length said.now ≡ length kept.now }
 {
     if said.len() != kept.len() {
         return false;

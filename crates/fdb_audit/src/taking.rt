@@ -45,10 +45,10 @@ pub(crate) struct Taking {
 
 impl Taking {
     ghost use Rattle.fdb_audit.specs.Following.{Start, keys_taken, left_out, lines_taken};
-    ghost use Rattle.fdb_audit.specs.Following.{start_with};
-    ghost use Rattle.fdb_audit.specs.Kept.{KeptSaid, early_at, start_from};
+    ghost use Rattle.fdb_audit.specs.Following.{early_at, start_with};
+    ghost use Rattle.fdb_audit.specs.Kept.{KeptSaid, start_from};
     ghost use Rattle.fdb_audit.specs.Taken.{AreCounted, HasWarned, kept_by};
-    ghost use Rattle.fdb_audit.specs.private.Followed.{AreTaken, NotesLine, early_text};
+    ghost use Rattle.fdb_audit.specs.private.Followed.{AreTaken, NotesLine, early_text, noted};
 
     /// No line has been taken; those of these numbers come first. It fails only where memory is
     /// refused.
@@ -180,7 +180,7 @@ impl Taking {
     /// Notes that it has settled.
     pub(crate) fn note_settled(&mut self)
         ensures taken { (start : Start) → (lines : List (Result SaidLine Why))
-            → (told : List Found) → AreTaken start self.old lines told
+            → (told : List Found) → AreTaken start (noted self.old) lines told
             → AreTaken start self.new lines told }
         ensures watch { self.new.watch ≡ self.old.watch }
         ensures counts { self.new.counts ≡ self.old.counts }

@@ -25,6 +25,7 @@ ghost use Rattle.fdb_audit.specs.private.Followed.{IsSameTeller, TellsOn};
 
 use crate::arguments::AuditArguments;
 use crate::beside::Column;
+use crate::client_names::ClientNames;
 use crate::fault::LogFault;
 use crate::figures::{Figure, push_line, push_total_object};
 use crate::judged::Wanted;
@@ -122,14 +123,13 @@ impl Teller {
             (told_by entry.now)) }
     {
         let settled = &entry.settled;
-        let names = reader.names().printed(alloc)?;
         let numbers = taking.numbering.numbers(alloc, settled)?;
         let mut beside = Vec::new(alloc);
         self.add_key(alloc, reader, entry, &mut beside)?;
         taking.rows.add_beside(alloc, settled, &mut beside)?;
         let printer = Printer {
             log: &settled.log,
-            names: &names,
+            names: ClientNames::OfLog(reader.names()),
             numbers: &numbers,
             beside: &beside,
         };
@@ -218,8 +218,8 @@ impl Teller {
             return Ok(());
         };
         self.push_head(alloc, taking, behind, &told.columns)?;
-        let names = reader.names().printed(alloc)?;
-        told.push(alloc, &mut self.text, self.wanted.json, &names)?;
+        let names = ClientNames::OfLog(reader.names());
+        told.push(alloc, &mut self.text, self.wanted.json, names)?;
         Ok(())
     }
 

@@ -6,10 +6,11 @@ ghost use Rattle.fdb_lines.specs.declared.fault.Fault.{Fault};
 ghost use Rattle.fdb_lines.specs.declared.line.Line.{Line};
 ghost use Rattle.fdb_lines.specs.Lines.{line_at};
 ghost use Rattle.fdb_audit.specs.Following.{AreTotals};
-ghost use Rattle.fdb_audit.specs.private.{members_of, shown_in};
+ghost use Rattle.fdb_audit.specs.private.{members_of, names_in, shown_in};
 ghost use Rattle.fdb_audit.specs.private.Followed.{HasCounted};
 
 use crate::beside::Column;
+use crate::client_names::ClientNames;
 use crate::grouped::push_totals;
 use crate::printer::Printer;
 use fdb_lines::{Found, Log};
@@ -79,11 +80,11 @@ impl ToldFaults {
         alloc: Global,
         out: &mut String,
         json: bool,
-        names: &[String],
+        names: ClientNames<'_>,
     ) -> Result<(), AllocError>
         ensures { OnOk result ((members : List (List ℕ)) → (lines : List Line)
             → (kinds : List Fault) → HasCounted members self lines kinds → (totals : List ℕ)
-            × AreTotals json (map string_bytes names.now) lines kinds totals
+            × AreTotals json (names_in names.entry) lines kinds totals
             × (string_bytes out.new ≡ string_bytes out.old ++ totals)) }
     {
         let printer = Printer {

@@ -10,3 +10,7 @@ pub mod UsualForm
 pub mod ShownTexts
 pub mod SingleLines
 pub mod ShownNumbers
+pub mod NamedOnce
+pub mod Behind
+pub mod Alike
+pub mod Apart

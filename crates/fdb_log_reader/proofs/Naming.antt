@@ -97,7 +97,7 @@ none_behind k count = elim (nat_lt k count) as (λ b. nat_lt k count ≡ b → c
 ] refl
 
 -- a name that has no number is none of the names
-differs : (names : List (List ℕ)) (name : List ℕ) (k : ℕ) (d : List ℕ) → number_in names name ≡ None → k < length names
+pub differs : (names : List (List ℕ)) (name : List ℕ) (k : ℕ) (d : List ℕ) → number_in names name ≡ None → k < length names
     → slice_index_or names k d ≡ name → ⊥
 differs names name k d none within same =
     let behind = none_behind (position_or_len (bytes_eq name) names) (length names) none in

@@ -299,11 +299,26 @@ last_taken old new read some none takes =
 
 -- ---- the member that has the keys is one and the same
 
-more_behind : (shown : List (List ℕ)) (names : LineNames) (lines : List (List ℕ)) → AreMore names (names_behind shown names lines)
+pub more_behind : (shown : List (List ℕ)) (names : LineNames) (lines : List (List ℕ)) → AreMore names (names_behind shown names lines)
 more_behind shown names [] = all_same names
 more_behind shown names (line ∷ lines) =
     let next = names_after names (line_read shown names line) in
     all_yet names next (names_behind shown next lines) (fits shown names line).more (more_behind shown next lines)
+
+still_said : (names more : LineNames) (read : Result SaidLine Why) → AreMore names more → IfOk read (IsNumbered names) → IfOk read (IsNumbered more)
+still_said names more (Ok said) are is = still names more said are is
+still_said names more (Err why) are is = tt
+
+-- and lines have numbers of the names behind them
+pub numbered_behind : (shown : List (List ℕ)) (names : LineNames) (lines : List (List ℕ))
+    → All (λ read. IfOk read (IsNumbered (names_behind shown names lines))) (lines_read shown names lines)
+numbered_behind shown names [] = All-nil (λ read. IfOk read (IsNumbered names))
+numbered_behind shown names (line ∷ lines) =
+    let read = line_read shown names line in
+    let next = names_after names read in
+    let behind = names_behind shown next lines in
+    All-cons (λ read. IfOk read (IsNumbered behind)) (line_in read) (lines_read shown next lines)
+    (still_said next behind (line_in read) (more_behind shown next lines) (fits shown names line).numbers) (numbered_behind shown next lines)
 
 member_same : (keys more : Option MemberNames) → AreMoreKeys keys more → option_map (λ (one : MemberNames). one.member) more ≡ option_map (λ (one : MemberNames). one.member) keys
 member_same None more is = ap (option_map (λ (one : MemberNames). one.member)) is

@@ -8,5 +8,6 @@ pub mod Reading
 pub mod Text
 pub mod Reader
 pub mod ReadLine
+pub mod Named
 pub mod LineReader
 pub mod private

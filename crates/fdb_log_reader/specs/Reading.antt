@@ -1,5 +1,5 @@
 -- The log that a text of JSON Lines stands for. (this product's own)
-use Rattle.std.specs.Prelude.{◌≡◌, ◌⊎◌, ℕ, ◌+◌, ◌==◌, Bool, false, nat_le, nat_lt, List, [], ◌∷◌, length, map, Option, None, Some, option_map, Result, Ok, Err, if◌then◌else◌}
+use Rattle.std.specs.Prelude.{◌≡◌, ◌⊎◌, ℕ, ◌+◌, ◌==◌, Bool, false, nat_le, nat_lt, List, [], ◌∷◌, ◌++◌, length, map, Option, None, Some, option_map, Result, Ok, Err, if◌then◌else◌}
 use Rattle.std.specs.List.{slice_split}
 use Rattle.std.specs.Str.{is_utf8}
 use Rattle.serde_json.specs.Data.{Data}
@@ -37,6 +37,10 @@ without_empty_end (line ∷ next ∷ lines) = line ∷ without_empty_end (next �
 
 abbrev pub lines_in : List ℕ → List (List ℕ)
 lines_in bytes = without_empty_end (slice_split is_line_feed bytes)
+
+-- a text ends where a line does: what comes behind it is a line of its own
+abbrev pub EndsALine : List ℕ → Type 0
+EndsALine text = length (lines_in (text ++ 32 ∷ [])) ≡ length (lines_in text) + 1
 
 -- ---- what has been read with a line more, or why that is refused
 

@@ -1,12 +1,16 @@
 //! Laws of the definitions. The functions do nothing: each stands for its contract.
 
-ghost use Rattle.std.specs.Prelude.{ℕ, ◌<◌, ◌≡◌, ◌^◌, ◌∷◌, [], List, Option, Some, String};
-ghost use Rattle.std.specs.Prelude.{decimal, length, option_and_then, string_bytes};
+ghost use Rattle.std.specs.Prelude.{ℕ, ◌<◌, ◌≡◌, ◌^◌, ◌++◌, ◌∷◌, [], All, IfOk, List, Option, Some};
+ghost use Rattle.std.specs.Prelude.{String, decimal, false, length, map, option_and_then};
+ghost use Rattle.std.specs.Prelude.{string_bytes};
 ghost use Rattle.std.specs.declared.alloc.Global.{Global};
 ghost use Rattle.fdb_log_reader.specs.declared.line_reader.LineReader.{LineReader};
-ghost use Rattle.fdb_log_reader.specs.LineReader.{lines_on};
+ghost use Rattle.fdb_log_reader.specs.LineReader.{AreMore, lines_on};
 ghost use Rattle.fdb_log_reader.specs.Members.{whole};
-ghost use Rattle.fdb_log_reader.specs.ReadLine.{member_in, names_behind, text_says, LineNames};
+ghost use Rattle.fdb_log_reader.specs.Named.{HaveOneNumber, named_if};
+ghost use Rattle.fdb_log_reader.specs.ReadLine.{are_full, lines_read, member_in, names_behind};
+ghost use Rattle.fdb_log_reader.specs.ReadLine.{no_names, text_says, IsNumbered, LineNames};
+ghost use Rattle.fdb_log_reader.specs.Reading.{lines_in, EndsALine};
 
 /// Behind any lines the keys are still in the member that they were in.
 pub fn keys_stay_in_one_member()
@@ -14,9 +18,45 @@ pub fn keys_stay_in_one_member()
         → member_in (names_behind shown names lines) ≡ member_in names }
 {}
 
+/// Names keep their numbers: behind any lines there are no others but new ones.
+pub fn names_keep_their_numbers()
+    ensures { (shown : List (List ℕ)) (names : LineNames) (lines : List (List ℕ))
+        → AreMore names (names_behind shown names lines) }
+{}
+
+/// No two clients of a text have one name, and no two keys.
+pub fn each_name_has_one_number()
+    ensures { (shown : List (List ℕ)) (key : Option (List ℕ)) (lines : List (List ℕ))
+        → HaveOneNumber (names_behind shown (no_names key) lines) }
+{}
+
+/// The numbers that lines have are those of names that stand behind them.
+pub fn numbers_are_those_of_names()
+    ensures { (shown : List (List ℕ)) (names : LineNames) (lines : List (List ℕ))
+        → All (λ read. IfOk read (IsNumbered (names_behind shown names lines)))
+        (lines_read shown names lines) }
+{}
+
+/// Lines say the same behind any others, but for how clients and keys are numbered, and the same of
+/// them are refused, as long as there is room for names.
+pub fn what_lines_say_is_theirs_alone()
+    ensures { (shown : List (List ℕ)) (names others : LineNames) (lines : List (List ℕ))
+        → member_in names ≡ member_in others
+        → are_full (names_behind shown names lines) ≡ false
+        → are_full (names_behind shown others lines) ≡ false
+        → map (named_if (names_behind shown names lines)) (lines_read shown names lines)
+        ≡ map (named_if (names_behind shown others lines)) (lines_read shown others lines) }
+{}
+
 /// Whatever has been read, a space behind it is of one line: the one that has not ended, or the next.
 pub fn a_space_more_is_of_one_line()
     ensures { (reader : LineReader) → length (lines_on reader (32 ∷ [])) ≡ 1 }
+{}
+
+/// What comes behind a text that ends where a line does is lines of its own.
+pub fn what_follows_an_ended_line_is_apart()
+    ensures { (text more : List ℕ) → EndsALine text
+        → lines_in (text ++ more) ≡ lines_in text ++ lines_in more }
 {}
 
 /// Decimal digits that are shown of a line are read as their number.

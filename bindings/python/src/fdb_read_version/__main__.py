@@ -2,18 +2,66 @@
 from __future__ import annotations
 
 import argparse
+import os
 import sys
-from typing import List, Optional
+from typing import Any, Dict, List, Optional
 
-from . import Audit, LogRefused, Refused, Status
+from . import Audit, LogRefused, Refused, Status, Watch
 
 # (2 is argparse's, of words that are refused)
 _FINE, _LOG_REFUSED, _NO_MEMORY, _FAULT, _NO_STREAM = 0, 1, 3, 4, 5
 
 
+# The most bytes that are read at once of a log that is followed.
+_PIECE = 65_536
+
+
 def _read(name: str) -> bytes:
     with open(0 if name == "-" else name, "rb", closefd=name != "-") as file:
         return file.read()
+
+
+def _write(text: str) -> None:
+    with open(1, "wb", closefd=False) as out:
+        out.write(text.encode())
+
+
+def _audited(given: argparse.Namespace, asked: Dict[str, Any]) -> Status:
+    """Audits the whole log, and prints what is found."""
+    with Audit(
+        complete=given.complete,
+        all=(given.all or given.json) and not given.summary,
+        history=given.history,
+        **asked,
+    ) as found:
+        found.push(_read(given.log))
+        status = found.end()
+        _write(found.text())
+    return status
+
+
+def _said(watch: Watch) -> None:
+    sys.stderr.write(watch.warnings())
+    sys.stderr.flush()
+    _write(watch.text())
+
+
+def _followed(given: argparse.Namespace, asked: Dict[str, Any]) -> Status:
+    """Follows the log until it ends, and prints each fault as soon as it is certain."""
+    from_input = given.log == "-"
+    with Watch(given.follow, **asked) as watch, open(
+        0 if from_input else given.log, "rb", closefd=not from_input
+    ) as log:
+        piece = os.read(log.fileno(), _PIECE)
+        while piece:
+            watch.push(piece)
+            watch.tell(idle=len(piece) < _PIECE)
+            _said(watch)
+            piece = os.read(log.fileno(), _PIECE)
+        try:
+            return watch.end()
+        finally:
+            _said(watch)
 
 
 def _count(text: str) -> int:
@@ -40,6 +88,13 @@ def main(words: Optional[List[str]] = None) -> int:
     reader.add_argument(
         "--margin", type=_count, default=0, metavar="N", help="how far two clocks may be apart"
     )
+    reader.add_argument(
+        "--follow",
+        type=_count,
+        metavar="N",
+        help="tell each Order and NotAbove as the log grows, until it ends; a line begins at most N "
+        "behind the newest end",
+    )
     reader.add_argument("--key", metavar="MEMBER", help="judge each key, which it has, by itself")
     reader.add_argument(
         "--show", metavar="MEMBERS", help="members, parted by commas, to write with each line"
@@ -56,20 +111,16 @@ def main(words: Optional[List[str]] = None) -> int:
     try:
         if given.key == "":
             raise ValueError("--key names no member")
-        with Audit(
-            complete=given.complete,
-            margin=given.margin,
-            key=given.key,
-            show=() if given.show is None else given.show.split(","),
-            all=(given.all or given.json) and not given.summary,
-            history=given.history,
-            totals=given.all or given.json or given.summary,
-            json=given.json,
-        ) as found:
-            found.push(_read(given.log))
-            status, text = found.end(), found.text()
-        with open(1, "wb", closefd=False) as out:
-            out.write(text.encode())
+        if given.follow is not None and (given.complete is not None or given.history or given.summary):
+            raise ValueError("--complete, --history and --summary do not suit --follow")
+        asked = {
+            "margin": given.margin,
+            "key": given.key,
+            "show": () if given.show is None else given.show.split(","),
+            "totals": given.all or given.json or given.summary,
+            "json": given.json,
+        }
+        status = (_audited if given.follow is None else _followed)(given, asked)
     except ValueError as error:
         reader.error(str(error))
     except (Refused, MemoryError, OSError) as error:

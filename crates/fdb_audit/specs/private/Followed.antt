@@ -67,11 +67,16 @@ pub record NotesLine (from : ℕ) (old new : Taking) (line : Line) : Type 0 wher
   pub numbering : new.numbering ≡ old.numbering
   pub count : new.taken ≡ old.taken + 1
   pub refused : new.refused ≡ old.refused
+  pub settled : new.settled ≡ old.settled
   pub newest : new.newest ≡ max old.newest (unwrap_or (ended line) 0)
   pub counted : (lines : List Line) → length lines + 1 < 2 ^ 64 → AreCounted old.counts lines → AreCounted new.counts (lines ++ line ∷ [])
   pub its_number : number ≡ min (new.taken + new.numbering.more + length new.numbering.above.items) (2 ^ 64 - 1)
   pub came : CameMore (nat_lt (began line) from) (record { number = number; is_judged = judged }) old.counts new.counts
   pub warned : string_bytes new.warnings ≡ string_bytes old.warnings ++ early_text number (from - began line) new.counts.early
+
+-- the same, once it is noted that it has settled
+abbrev pub noted : Taking → Taking
+noted taking = record taking { settled = taking.taken }
 
 -- by which arguments what is told is told
 abbrev pub told_with : ℕ → Teller → List (List ℕ) → FollowArguments

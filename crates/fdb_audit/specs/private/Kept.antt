@@ -1,7 +1,6 @@
 -- How a log that is followed stops the program, and what is read of a text that keeps lines. (this product's own)
-use Rattle.std.specs.Prelude.{◌≡◌, ℕ, ◌+◌, ◌++◌, ◌∷◌, [], Bool, List, Some, length, true, ⊤}
+use Rattle.std.specs.Prelude.{◌≡◌, Bool, Some, true, ⊤}
 use Rattle.fdb_log_reader.specs.ReadLine.{SaidLine}
-use Rattle.fdb_log_reader.specs.Reading.{lines_in}
 use Rattle.fdb_audit.specs.declared.kept.KeptAs.{KeptAs}
 use Rattle.fdb_audit.specs.Kept.{number_kept}
 use Rattle.fdb_command.specs.declared.failure.Failure.{Failure}
@@ -26,7 +25,3 @@ pub record IsKeptAs (kept : KeptAs) (said : SaidLine) : Type 0 where
   pub number : number_kept 0 said ≡ Some kept.number
   pub read : number_kept 1 said ≡ Some kept.read
   pub settled : number_kept 2 said ≡ kept.settled
-
--- a text ends where a line does: what comes behind it is a line of its own
-abbrev pub EndsALine : List ℕ → Type 0
-EndsALine text = length (lines_in (text ++ 32 ∷ [])) ≡ length (lines_in text) + 1

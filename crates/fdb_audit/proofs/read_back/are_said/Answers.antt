@@ -31,8 +31,8 @@ loop-one-preserved c =
           (say_the_same own theirs c.in-Some.one.now c.in-Some.other.now now.a.rest.now now.b.rest.now (c.is_said.ensures c.if-not-is_said.false) rest)));
     }
 
-pub returns : goal.returns
-returns c = λ _.
+pub returns-clause-said : goal.returns-clause-said
+returns-clause-said c = λ _.
     let it = c.loop-one.one-iterator in
     let own = line_names c.args.reader.now in
     let theirs = line_names c.args.theirs.now in

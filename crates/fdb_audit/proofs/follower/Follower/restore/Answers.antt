@@ -1,9 +1,9 @@
 use Rattle.std.proofs.Common.{◌≡◌, ◌∙◌, [], IfOk, OnOk, ap, option_map, refl, string_bytes, subst}
+use Rattle.fdb_log_reader.specs.Reading.{EndsALine}
 use Rattle.fdb_audit.specs.Following.{start_with}
 use Rattle.fdb_audit.specs.Kept.{kept_said, lines_kept, start_from}
 use Rattle.fdb_audit.specs.Watched.{HasFollowed, HasSaid, lines_asked}
 use Rattle.fdb_audit.specs.private.Followed.{IsUnread}
-use Rattle.fdb_audit.specs.private.Kept.{EndsALine}
 use Rattle.fdb_audit.specs.private.KeptTexts.{said_of}
 use Rattle.fdb_audit.proofs.follower.Follower.restore.Goals as goal
 

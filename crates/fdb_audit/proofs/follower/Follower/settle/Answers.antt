@@ -3,9 +3,10 @@ use Rattle.fdb_lines.specs.KeyWatch.{AreTold}
 use Rattle.fdb_lines.specs.ToldByKey.{told_by_all}
 use Rattle.fdb_lines.specs.declared.key_watch.KeyWatch.{KeyWatch}
 use Rattle.fdb_log_reader.specs.LineReader.{line_names}
-use Rattle.fdb_audit.specs.Following.{keys_taken, lines_taken, told_in_all}
+use Rattle.fdb_log_reader.specs.ReadLine.{SaidLine}
+use Rattle.fdb_audit.specs.Following.{keys_taken, lines_taken, taken, told_in_all}
 use Rattle.fdb_audit.specs.private.Followed.{TellsOn}
-use Rattle.fdb_audit.proofs.Settled.{settled_taken}
+use Rattle.fdb_audit.proofs.SettledOn.{settled_taken}
 use Rattle.fdb_audit.proofs.TellingOn.{settled}
 use Rattle.fdb_audit.proofs.follower.Follower.settle.Goals as goal
 
@@ -22,7 +23,7 @@ returns-clause-told c = λ asked start read told is.
     (c.note_settled.ensures.taken start read (faults ++ told_by_all entries)
     (settled_taken start old.taking _ read faults (told_by_all entries) old.behind c.saturating_sub-at.result is.taken is.behind c.saturating_sub-at.ensures
     (c.settle.ensures.seen lines keys is.taken.seen) c.in_ok-told.ensures.settled
-    (c.in_ok-told.ensures.once lines keys faults is.taken.seen) refl refl refl refl refl))
+    (c.in_ok-told.ensures.once lines keys faults is.taken.seen) refl refl refl refl refl refl))
     (ap (λ (watch : KeyWatch). watch.margin) c.note_settled.ensures.watch ∙ c.settle.ensures.margin.0)
     (subst (λ list. TellsOn start.numbers old.teller c.tell_all.new.self asked.opts.margin read (line_names old.reader).clients (told_by_all list)) c.deref.ensures.value
     (c.in_ok-tell_all.ensures start.numbers read to watch.parts.items asked.opts.margin (record { above = is.taken.numbered.above; front = is.taken.numbered.front; few = is.taken.numbered.few })
@@ -42,7 +43,7 @@ returns-clause-taken c =
             c.note_settled.ensures.taken start read (told ++ told_by_all entries)
                 (settled_taken start old.taking _ read told (told_by_all entries) old.behind c.saturating_sub-at.result are behind c.saturating_sub-at.ensures
                 (c.settle.ensures.seen lines keys are.seen) c.in_ok-told.ensures.settled
-                (c.in_ok-told.ensures.once lines keys told are.seen) refl refl refl refl refl),
+                (c.in_ok-told.ensures.once lines keys told are.seen) refl refl refl refl refl refl),
           );
       warnings = c.note_settled.ensures.warnings;
       counts = c.note_settled.ensures.counts;

@@ -1,7 +1,7 @@
 use Rattle.std.proofs.Common.{◌∙◌, ◌++◌, List, ap, false, string_bytes, subst, sym}
 use Rattle.std.proofs.lemmas.Result.{IfOk-weaker}
 use Rattle.fdb_log_reader.specs.ReadLine.{LineNames, member_in}
-use Rattle.fdb_audit.specs.Following.{Window, told_in_all}
+use Rattle.fdb_audit.specs.Following.{Counted, Window, told_in_all}
 use Rattle.fdb_audit.specs.Kept.{Keeps}
 use Rattle.fdb_audit.specs.Taken.{AreTaken}
 use Rattle.fdb_audit.specs.Watched.{lines_asked, names_asked}
@@ -30,14 +30,17 @@ returns-clause-kept c =
     let is = c.in_ok-take_last.ensures.told asked start bytes told has in
     let same = c.in_ok-take_last.ensures.names asked start bytes told has in
     let (all, windows) = told_so_far start asked _ read told is c.all_is_told_up_to_where_it_settled.ensures.each_once in
-    let (followed, as_all) = c.in_ok-followed.ensures.told asked start bytes told false all same in (
-      followed,
-      taking,
-      subst (λ (windows : List Window). AreTaken start taking read (start.told ++ told_in_all read windows)) (sym (as_all ∙ windows)) is.taken,
-      subst (λ key. Keeps key names start.numbers taking read (string_bytes text)) (member_asked asked bytes c.keys_stay_in_one_member.ensures)
+    let (followed, as_all, counts) = c.in_ok-followed.ensures.told asked start bytes told false all same in
+    record {
+      followed = followed;
+      taking = taking;
+      margin = is.margin;
+      early = ap (λ (counts : Counted). counts.early) counts;
+      taken = subst (λ (windows : List Window). AreTaken start taking read (start.told ++ told_in_all read windows)) (sym (as_all ∙ windows)) is.taken;
+      keeps = subst (λ key. Keeps key names start.numbers taking read (string_bytes text)) (member_asked asked bytes c.keys_stay_in_one_member.ensures)
           (subst (λ (names : LineNames). Keeps (member_in names) names start.numbers taking read (string_bytes text)) (sym same)
-          (says start read (start.told ++ told_in_all read is.windows) is.taken)),
-    )) c.in_ok-kept.ensures
+          (says start read (start.told ++ told_in_all read is.windows) is.taken));
+    }) c.in_ok-kept.ensures
 
 pub returns-clause-said : goal.returns-clause-said
 returns-clause-said c = λ asked start bytes warned has.

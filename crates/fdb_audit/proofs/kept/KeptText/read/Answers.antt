@@ -1,4 +1,5 @@
-use Rattle.std.proofs.Common.{◌≡◌, ◌∙◌, ◌++◌, ◌∷◌, [], List, MatchOption, None, Option, Result, ap, append-nil, map, option_map, string_bytes, subst, sym, ℕ}
+use Rattle.std.proofs.Common.{◌≡◌, ◌∙◌, ◌++◌, ◌∷◌, [], List, MatchOption, None, Option, Result, ap, append-nil, length, map, option_map, string_bytes, subst, sym, ℕ}
+use Rattle.std.proofs.lemmas.List.{length-map}
 use Rattle.fdb_log_reader.specs.declared.error.Why.{Why}
 use Rattle.fdb_log_reader.specs.declared.read_line.ReadLine.{ReadLine}
 use Rattle.fdb_log_reader.specs.LineReader.{line_names, lines_on}
@@ -6,7 +7,7 @@ use Rattle.fdb_log_reader.specs.ReadLine.{LineNames, SaidLine, lines_read, names
 use Rattle.fdb_log_reader.specs.Reading.{lines_in}
 use Rattle.fdb_audit.specs.Following.{taken}
 use Rattle.fdb_audit.specs.Kept.{kept_members, kept_said, named_said}
-use Rattle.fdb_audit.proofs.KeptTexts.{all_read, ends_so, on_not_err}
+use Rattle.fdb_audit.proofs.KeptTexts.{all_read, as_many, ends_so, on_not_err}
 use Rattle.fdb_audit.proofs.kept.KeptText.read.Goals as goal
 
 none_left : (left : List (Result SaidLine Why)) (last : Option (Result ReadLine Why)) → last ≡ None
@@ -45,6 +46,18 @@ returns-clause-lines c =
     ∙ ap (λ (text : List ℕ). names_behind kept_members names (lines_in text)) (append-nil text)))) in
     ap (λ (names : LineNames). map (named_said names) (taken lines)) behind
     ∙ ap (λ (lines : List (Result SaidLine Why)). map (named_said (names_behind kept_members names (lines_in text))) (taken lines)) (sym all)
+
+pub returns-clause-many : goal.returns-clause-many
+returns-clause-many c =
+    let text = c.args.text.now in
+    let names = no_names (option_map (λ key. key.now) c.args.key) in
+    let reader = c.feed.new.self in
+    let lines = map said_in c.in_ok-lines.lines.items in
+    let members : map string_bytes c.deref.result.now ≡ kept_members = ap (map string_bytes) c.deref.ensures.value ∙ c.in_ok-members.ensures in
+    let goes : lines_read kept_members names (lines_in (text ++ [])) ≡ lines ++ lines_on reader [] =
+    sym (c.in_ok-reader.ensures.read (text ++ []) ∙ ap (λ (shown : List (List ℕ)). lines_read shown names (lines_in (text ++ []))) members) ∙ c.in_ok-lines.ensures.read [] in
+    let all = all_read kept_members names reader text lines goes (none_left (lines_on reader []) c.in_ok-finish.field-0 c.in-None.is c.in_ok-finish.ensures.read) in
+    sym (as_many kept_members names (lines_in text)) ∙ (ap length all ∙ length-map c.in_ok-lines.lines.items said_in)
 
 pub returns-clause-ends : goal.returns-clause-ends
 returns-clause-ends c =

@@ -9,7 +9,7 @@ returns-in-Some c = λ _ before said is same.
     let old = c.args.self.now in
     let kept = c.args.kept in
     let goes : c.goes_on.result ≡ true = grind (arith, common_steps, c.if-not-goes_on.false, c.if-not-goes_on.ensures) in
-    let all = c.goes_on.ensures goes (ap is_some c.in-Some.is) in
+    let all = c.goes_on.ensures.told goes (ap is_some c.in-Some.is) in
     added (said_of old) c.push.new.self.items c.saturating_sub-more.result c.len-self.result c.in-Some.settled before said kept.number kept.read (Some c.in-Some.settled) same
     is.number is.read (is.settled ∙ c.in-Some.is) c.in_ok-push.ensures.items
     (let count = c.len-count.ensures in let one = c.saturating_sub.ensures in let two = c.saturating_sub-more.ensures in omega (arith, count, one, two))

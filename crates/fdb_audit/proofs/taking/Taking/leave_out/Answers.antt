@@ -6,7 +6,7 @@ use Rattle.fdb_audit.proofs.taking.Taking.leave_out.Goals as goal
 
 pub returns-clause-taken : goal.returns-clause-taken
 returns-clause-taken c = λ start lines told are.
-    leaves_out start c.args.self.now _ lines c.args.why told c.line_count-line.result are c.requires.room refl c.in_ok-leave_out.ensures.ok c.leave_out.ensures.kept refl refl refl c.line_count-line.ensures refl
+    leaves_out start c.args.self.now _ lines c.args.why told c.line_count-line.result are c.requires.room refl c.in_ok-leave_out.ensures.ok c.leave_out.ensures.kept refl refl refl refl c.line_count-line.ensures refl
     (early_same start lines c.args.why c.args.self.now.counts _ refl are.came)
 
 pub returns-clause-warned : goal.returns-clause-warned

@@ -3,8 +3,7 @@ use Rattle.std.proofs.lemmas.List.{map_push}
 use Rattle.fdb_log_reader.specs.declared.error.Why.{Why}
 use Rattle.fdb_log_reader.specs.declared.read_line.ReadLine.{ReadLine}
 use Rattle.fdb_log_reader.specs.ReadLine.{said_in}
-use Rattle.fdb_audit.specs.Following.{lines_taken}
-use Rattle.fdb_audit.specs.Kept.{early_at}
+use Rattle.fdb_audit.specs.Following.{early_at, lines_taken}
 use Rattle.fdb_audit.specs.private.Followed.{AreTaken, HasWarned}
 use Rattle.fdb_audit.proofs.KeptTexts.{early_on}
 use Rattle.fdb_audit.proofs.taking.Taking.take_all.Goals as goal

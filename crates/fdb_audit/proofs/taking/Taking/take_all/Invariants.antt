@@ -2,8 +2,7 @@ use Rattle.std.proofs.Common.{◌≡◌, ◌≤◌, ◌+◌, ◌++◌, ℕ, List
 use Rattle.fdb_lines.specs.declared.fault.Found.{Found}
 use Rattle.fdb_log_reader.specs.declared.error.Why.{Why}
 use Rattle.fdb_log_reader.specs.ReadLine.{SaidLine, said_in}
-use Rattle.fdb_audit.specs.Following.{Start, lines_taken}
-use Rattle.fdb_audit.specs.Kept.{early_at}
+use Rattle.fdb_audit.specs.Following.{Start, early_at, lines_taken}
 use Rattle.fdb_audit.specs.private.Followed.{AreTaken, HasWarned}
 use Rattle.fdb_audit.proofs.taking.Taking.take_all.Given as goal
 

@@ -1,4 +1,4 @@
-use Rattle.std.proofs.Common.{◌≡◌, ◌∙◌, ◌++◌, ◌≤◌, ◌+◌, [], ℕ, List, Result, ap, arith, drop, false, length, map, max, min, refl, string_bytes, subst, sym, take}
+use Rattle.std.proofs.Common.{◌≡◌, ◌∙◌, ◌++◌, ◌≤◌, [], ℕ, List, Result, ap, arith, drop, false, length, map, max, min, refl, string_bytes, subst, sym, take}
 use Rattle.std.proofs.lemmas.Bool.{false≢true}
 use Rattle.std.proofs.lemmas.List.{drop_all, length-map, map-append, take-append-drop}
 use Rattle.fdb_lines.specs.ToldByKey.{audited_to}
@@ -6,11 +6,12 @@ use Rattle.fdb_log_reader.specs.declared.error.Why.{Why}
 use Rattle.fdb_log_reader.specs.declared.read_line.ReadLine.{ReadLine}
 use Rattle.fdb_log_reader.specs.ReadLine.{SaidLine, said_in}
 use Rattle.fdb_audit.specs.declared.counts.Counts.{Counts}
-use Rattle.fdb_audit.specs.Following.{keys_taken, lines_taken, start_with, taken}
-use Rattle.fdb_audit.specs.Kept.{early_at, start_from}
+use Rattle.fdb_audit.specs.Following.{early_at, keys_taken, lines_taken, start_with, taken}
+use Rattle.fdb_audit.specs.Kept.{start_from}
 use Rattle.fdb_audit.specs.Taken.{AreCounted}
 use Rattle.fdb_audit.specs.private.Followed.{AreTaken}
 use Rattle.fdb_audit.proofs.Following.{counted}
+use Rattle.fdb_audit.proofs.Settled.{far_in_all}
 use Rattle.fdb_audit.proofs.KeptTexts.{drop_least, drop_mapped, none_at, take_least, take_mapped}
 use Rattle.fdb_audit.proofs.Warned.{none_early, none_said}
 use Rattle.fdb_audit.proofs.taking.Taking.take_kept.Goals as goal
@@ -33,7 +34,7 @@ returns-clause-taken c = λ behind kept told_is settled_is are.
     let two = c.settle_untold.new.self in
     let three = c.take_all-2.new.self in
     let reach = are.reach refl in
-    let low : old.watch.from ≡ 0 = (let f = reach.from in let newest = reach.newest in omega (arith, f, newest)) in
+    let low : old.watch.from ≡ 0 = (let f = far_in_all old behind [] reach.from in omega (arith, f)) in
     let least : n ≡ min kept.told (length lines) = (let is = c.min.ensures in let size = c.len.ensures in omega (arith, is, size, told_is)) in
     let first_same : told ≡ take kept.told all = ap (λ m. map said_in (take m lines)) least ∙ (ap (map said_in) (take_least kept.told lines) ∙ sym (take_mapped said_in kept.told lines)) in
     let last_same : map said_in (drop n lines) ≡ drop kept.told all = ap (λ m. map said_in (drop m lines)) least ∙ (ap (map said_in) (drop_least kept.told lines) ∙ sym (drop_mapped said_in kept.told lines)) in
@@ -67,6 +68,12 @@ returns-clause-taken c = λ behind kept told_is settled_is are.
         refused = last.refused;
         counted = subst (λ since. AreCounted c.new-self.result (lines_taken since)) (sym none) c.new-self.ensures.counted;
         few = omega arith;
+        from = (let still = c.take_all-2.ensures.from in let moment = c.in_ok-settle_untold.ensures.from in omega (arith, still, moment, at));
+        late = (let is : early_at kept.settled (lines_taken (drop (length all) all)) ≡ 0 = ap (λ (since : List (Result SaidLine Why)). early_at kept.settled (lines_taken since)) none in omega (arith, is));
+        settled = record {
+          come = last.settled.come;
+          since = (let since = last.settled.since in omega (arith, since, most_last));
+        };
         before = λ none_before k d lt.
             let came = (last.once refl (omega (arith, most_last, none_before))).came k d lt in
             let size = length-map (taken all) (λ (said : SaidLine). said.line) in

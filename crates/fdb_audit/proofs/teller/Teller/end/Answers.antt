@@ -4,6 +4,7 @@ use Rattle.std.proofs.lemmas.Result.{on_ok_weaker}
 use Rattle.fdb_lines.specs.declared.fault.Fault.{Fault}
 use Rattle.fdb_lines.specs.declared.line.Line.{Line}
 use Rattle.fdb_log_reader.specs.LineReader.{line_names}
+use Rattle.fdb_log_reader.specs.Names.{names_of}
 use Rattle.fdb_log_reader.specs.Printed.{printed}
 use Rattle.fdb_audit.specs.Following.{AreTotals, Counted, FollowArguments, IsEnd, counted_figures, total_head, verdict_of}
 use Rattle.fdb_audit.specs.Figures.{Figure, figures_words}
@@ -64,7 +65,7 @@ returns-clause-text c = λ members lines kinds has.
     let it = c.in_ok-push.ensures members lines kinds counted.1 in
     let head = total_head self.wanted.json counts (told_with c.args.behind self members) in
     let json : c.push_head.new.self.wanted.json ≡ self.wanted.json = ap (λ wanted. wanted.json) c.push_head.ensures.wanted in
-    let shown : map string_bytes c.deref-3.result.now ≡ names = ap (map string_bytes) c.deref-3.ensures.value ∙ (c.in_ok-names.ensures.printed ∙ ap (map printed) c.names.ensures) in
+    let shown : map printed (names_of c.names.result.now) ≡ names = ap (map printed) c.names.ensures in
     let totals : AreTotals self.wanted.json names lines kinds it.0 =
     subst (λ (json : Bool). AreTotals json names lines kinds it.0) json (subst (λ (names : List (List ℕ)). AreTotals c.push_head.new.self.wanted.json names lines kinds it.0) shown it.1) in (
       head ++ it.0,

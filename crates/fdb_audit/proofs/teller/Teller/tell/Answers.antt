@@ -1,5 +1,6 @@
-use Rattle.std.proofs.Common.{◌∙◌, ap, map, string_bytes, subst}
+use Rattle.std.proofs.Common.{◌∙◌, ap, map, subst}
 use Rattle.fdb_log_reader.specs.LineReader.{line_names}
+use Rattle.fdb_log_reader.specs.Names.{names_of}
 use Rattle.fdb_log_reader.specs.Printed.{printed}
 use Rattle.fdb_audit.specs.private.{beside_of}
 use Rattle.fdb_audit.specs.private.Numbering.{AreNumbersOf}
@@ -10,8 +11,8 @@ pub returns : goal.returns
 returns c = λ kept read to part margin numbered same told.
     let entry = c.args.entry.now in
     let names = (line_names c.args.reader.now).clients in
-    tells_for kept c.args.self.now c.add.new.self margin to read names entry part (map string_bytes c.deref.result.now) c.deref-2.result.now
-    (map beside_of c.deref-3.result.now) c.deref-4.result.now
-    (ap (map string_bytes) c.deref.ensures.value ∙ (c.in_ok-names.ensures.printed ∙ ap (map printed) c.names.ensures))
-    (c.deref-2.ensures.value ∙ subst (λ kept. AreNumbersOf kept c.args.taking.now.numbering.above.items entry.settled.numbers.items c.in_ok-numbers.numbers.items) numbered.front c.in_ok-numbers.ensures read numbered.above numbered.few (kept_within to read entry part told))
-    c.deref-4.ensures.value same told c.in_ok-add.ensures.text c.in_ok-add.ensures.first c.in_ok-add.ensures.counts c.add.ensures.same
+    tells_for kept c.args.self.now c.add.new.self margin to read names entry part (map printed (names_of c.names.result.now)) c.deref.result.now
+    (map beside_of c.deref-2.result.now) c.deref-3.result.now
+    (ap (map printed) c.names.ensures)
+    (c.deref.ensures.value ∙ subst (λ kept. AreNumbersOf kept c.args.taking.now.numbering.above.items entry.settled.numbers.items c.in_ok-numbers.numbers.items) numbered.front c.in_ok-numbers.ensures read numbered.above numbered.few (kept_within to read entry part told))
+    c.deref-3.ensures.value same told c.in_ok-add.ensures.text c.in_ok-add.ensures.first c.in_ok-add.ensures.counts c.add.ensures.same

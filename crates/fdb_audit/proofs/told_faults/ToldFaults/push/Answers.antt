@@ -4,14 +4,14 @@ use Rattle.fdb_lines.specs.declared.fault.Found.{Found}
 use Rattle.fdb_audit.specs.Groups.{groupings, AreMostOfEach}
 use Rattle.fdb_audit.specs.Text.{PrintedLog, line}
 use Rattle.fdb_audit.specs.Totals.{faults_line}
-use Rattle.fdb_audit.specs.private.{beside_of}
+use Rattle.fdb_audit.specs.private.{beside_of, names_in}
 use Rattle.fdb_audit.proofs.told_faults.ToldFaults.push.Goals as goal
 
 pub returns : goal.returns
 returns c = λ members lines kinds has.
     let it = c.in_ok-push_totals.ensures in
     let json = c.args.json in
-    let names = map string_bytes c.args.names.now in
+    let names = names_in c.args.names in
     let found = c.args.self.found.items in
     let groups = it.0 in
     let beside = map beside_of c.deref.result.now in

@@ -1,0 +1,77 @@
+-- The lines that were taken, once a watch has settled.
+use Rattle.std.proofs.Common.{◌≡◌, ◌∙◌, ◌++◌, ◌-◌, ℕ, false, List, Result, ap, arith, length, max, subst, sym}
+use Rattle.std.proofs.lemmas.Bool.{false≢true}
+use Rattle.std.proofs.lemmas.List.{length-map}
+use Rattle.fdb_lines.specs.declared.key_watch.KeyWatch.{KeyWatch}
+use Rattle.fdb_lines.specs.declared.fault.Found.{Found}
+use Rattle.fdb_lines.specs.KeyWatch.{HasSeenByKey}
+use Rattle.fdb_lines.specs.ToldByKey.{HasTold}
+use Rattle.fdb_log_reader.specs.declared.error.Why.{Why}
+use Rattle.fdb_log_reader.specs.ReadLine.{SaidLine}
+use Rattle.fdb_audit.specs.declared.counts.Counts.{Counts}
+use Rattle.fdb_audit.specs.declared.numbering.Numbering.{Numbering}
+use Rattle.fdb_audit.specs.declared.taking.Taking.{Taking}
+use Rattle.fdb_audit.specs.Following.{Start, keys_taken, lines_since, lines_taken, taken}
+use Rattle.fdb_audit.specs.Taken.{AreCounted, AreTaken, kept_by}
+use Rattle.fdb_audit.specs.Warned.{AreEarly}
+use Rattle.fdb_audit.proofs.Settled.{far_in_all, far_now, settled_now, settled_still}
+
+pub settled_taken : (start : Start) (old new : Taking) (read : List (Result SaidLine Why)) (told more : List Found) (behind at : ℕ)
+    → AreTaken start old read told → behind ≡ start.behind → at ≡ old.newest - behind
+    → HasSeenByKey new.watch (lines_taken read) (keys_taken read) → new.watch.from ≡ max old.watch.from at
+    → (HasTold old.watch (lines_taken read) (keys_taken read) told → HasTold new.watch (lines_taken read) (keys_taken read) (told ++ more))
+    → new.numbering ≡ old.numbering → new.taken ≡ old.taken → new.refused ≡ old.refused → new.counts ≡ old.counts → new.newest ≡ old.newest
+    → new.settled ≡ old.taken → AreTaken start new read (told ++ more)
+settled_taken start old new read told more behind at are far at_is seen moved tells numbering count refused counts newest settled =
+    let lines = lines_taken read in
+    let all : new.settled ≡ length lines = settled ∙ (are.count ∙ sym (length-map (taken read) (λ (said : SaidLine). said.line))) in
+    record {
+      seen = seen;
+      numbered = record {
+        above = ap (λ (numbering : Numbering). numbering.above.items) numbering ∙ are.numbered.above;
+        front = ap kept_by numbering ∙ are.numbered.front;
+        few = are.numbered.few;
+      };
+      count = count ∙ are.count;
+      refused = refused ∙ are.refused;
+      counted = subst (λ (counts : Counts). AreCounted counts (lines_since start read)) (sym counts) are.counted;
+      few = are.few;
+      before = are.before;
+      came = subst (λ (counts : Counts). AreEarly start.numbers.more read counts.early counts.judged counts.last_early) (sym counts) are.came;
+      from = (let was = are.from in omega (arith, was, moved));
+      late = (let was = are.late in let same = ap (λ (counts : Counts). counts.early) counts in omega (arith, was, same));
+      settled = settled_now start new lines all;
+      reach = λ anew.
+          let was = are.reach anew in
+          let newest_was = was.newest in
+          let low = far_in_all old start.behind lines was.from in
+          let le = was.early in
+          let early = ap (λ (counts : Counts). counts.early) counts in
+          record { newest = newest ∙ newest_was; from = far_now _ _ start.behind lines all (omega (arith, low, far, at_is, moved, newest_was)); early = omega (arith, le, early) };
+      once = λ none_before none. tells (are.once none_before (sym (ap (λ (counts : Counts). counts.early) counts) ∙ none));
+    }
+
+-- and where its newest end is said to be later
+pub newest_later : (start : Start) (old new : Taking) (read : List (Result SaidLine Why)) (told : List Found) → start.anew ≡ false → AreTaken start old read told
+    → new.watch ≡ old.watch → new.numbering ≡ old.numbering → new.taken ≡ old.taken → new.refused ≡ old.refused → new.counts ≡ old.counts
+    → new.settled ≡ old.settled → AreTaken start new read told
+newest_later start old new read told on are watch numbering count refused counts settled = record {
+  seen = subst (λ (watch : KeyWatch). HasSeenByKey watch (lines_taken read) (keys_taken read)) (sym watch) are.seen;
+  numbered = record {
+    above = ap (λ (numbering : Numbering). numbering.above.items) numbering ∙ are.numbered.above;
+    front = ap kept_by numbering ∙ are.numbered.front;
+    few = are.numbered.few;
+  };
+  count = count ∙ are.count;
+  refused = refused ∙ are.refused;
+  counted = subst (λ (counts : Counts). AreCounted counts (lines_since start read)) (sym counts) are.counted;
+  few = are.few;
+  before = are.before;
+  came = subst (λ (counts : Counts). AreEarly start.numbers.more read counts.early counts.judged counts.last_early) (sym counts) are.came;
+  from = (let was = are.from in let same = ap (λ (watch : KeyWatch). watch.from) watch in omega (arith, was, same));
+  late = (let was = are.late in let same = ap (λ (counts : Counts). counts.early) counts in omega (arith, was, same));
+  settled = settled_still start old new (lines_taken read) are.settled settled (ap (λ (watch : KeyWatch). watch.from) watch) (ap (λ (counts : Counts). counts.early) counts);
+  reach = λ anew. absurd (false≢true (sym on ∙ anew));
+  once = λ none_before none. subst (λ (watch : KeyWatch). HasTold watch (lines_taken read) (keys_taken read) told) (sym watch)
+      (are.once none_before (sym (ap (λ (counts : Counts). counts.early) counts) ∙ none));
+}

@@ -1,0 +1,87 @@
+//! Laws of the definitions. The functions do nothing: each stands for its contract.
+
+ghost use Rattle.std.specs.Prelude.{ℕ, ◌≡◌, ◌++◌, IsPermutation, List, Option, map, option_map};
+ghost use Rattle.std.specs.Prelude.{string_bytes, true};
+ghost use Rattle.fdb_lines.specs.declared.fault.Found.{Found};
+ghost use Rattle.fdb_lines.specs.Keys.{placed_found};
+ghost use Rattle.fdb_audit.specs.declared.arguments.AuditArguments.{AuditArguments};
+ghost use Rattle.fdb_audit.specs.declared.fault.LogFault.{LogFault};
+ghost use Rattle.fdb_audit.specs.declared.taking.Taking.{Taking};
+ghost use Rattle.fdb_audit.specs.Following.{early_at, lines_since, told_in_all, Start};
+ghost use Rattle.fdb_audit.specs.Kept.{start_of, IsStopped, Keeps};
+ghost use Rattle.fdb_audit.specs.Pieces.{audited_in, places_beyond, MayGoOn};
+ghost use Rattle.fdb_audit.specs.Taken.{AreTaken};
+ghost use Rattle.fdb_audit.specs.Watched.{lines_asked, names_asked, IsFollowed};
+
+use fdb_lines::laws::{
+    logs_that_say_the_same_differ_in_numbers_alone, what_a_watch_keeps_stands_for_all,
+    who_goes_on_from_what_a_watch_kept_tells_the_rest,
+};
+use fdb_log_reader::laws::{
+    each_name_has_one_number, keys_stay_in_one_member, names_keep_their_numbers,
+    numbers_are_those_of_names, what_follows_an_ended_line_is_apart,
+    what_lines_say_is_theirs_alone,
+};
+
+/// What a watch kept says of itself, where no line came early: that none did of the lines it kept. And
+/// where the watch began at the beginning of its log, up to when it had told all: if it had told of any
+/// line that had ended, it keeps one that had come by then, and with that the moment.
+pub fn what_is_kept_says_when_all_was_told()
+    ensures none_early { (asked : AuditArguments) (start : Start) (behind : ℕ)
+        (piece kept text : List ℕ) (found : Option LogFault) (last : Option ℕ)
+        → (one : IsStopped asked start piece text found last kept)
+        → start.early ≡ 0 → one.followed.counts.early ≡ 0
+        → (start_of asked behind kept).early ≡ 0 }
+    ensures when { (asked : AuditArguments) (start : Start) (behind : ℕ)
+        (piece kept text : List ℕ) (found : Option LogFault) (last : Option ℕ)
+        → (one : IsStopped asked start piece text found last kept) → start.anew ≡ true
+        → start.early ≡ 0 → one.followed.counts.early ≡ 0
+        → (start_of asked behind kept).from ≡ one.taking.watch.from }
+{
+    what_a_watch_keeps_stands_for_all();
+}
+
+/// A log that is watched in pieces is told as by one watch. A watch stops where a line ends, and what
+/// it kept says up to when it had told all; another, with the same arguments, goes on from what it
+/// kept, over the lines that come then. Where no line came early, what the first has told and what the
+/// other tells, each fault at the place of its line among all lines, are together what an audit of all
+/// lines finds: nothing twice, and nothing lost.
+///
+/// The first clause says so of two watches, of which the other ends. The second says so of whatever
+/// tells all there is to tell of the lines that were kept and those that come then, so that it goes
+/// for any number of pieces: each goes on from the one before, and the last ends.
+pub fn a_log_watched_in_pieces_is_told_as_by_one_watch()
+    ensures two_watches { (asked : AuditArguments) (start : Start) (behind : ℕ)
+        (piece kept next text text_too : List ℕ) (found found_too : Option LogFault)
+        (last last_too : Option ℕ) → (one : IsStopped asked start piece text found last kept)
+        → (other : IsFollowed asked (start_of asked behind kept) true (kept ++ next) text_too
+        found_too last_too) → MayGoOn asked piece kept next
+        → (start_of asked behind kept).from ≡ one.taking.watch.from
+        → start.early ≡ 0 → one.followed.counts.early ≡ 0 → other.counts.early ≡ 0
+        → IsPermutation ((start.told ++ told_in_all (lines_asked asked piece) one.followed.windows)
+        ++ map (placed_found (places_beyond asked piece next one.keeps.places))
+        (told_in_all (lines_asked asked (kept ++ next)) other.windows))
+        (audited_in asked (piece ++ next)) }
+    ensures any_more { (asked : AuditArguments) (start : Start) (behind : ℕ)
+        (piece kept next : List ℕ) (taking : Taking) (told now : List Found)
+        → taking.watch.margin ≡ asked.opts.margin
+        → AreTaken start taking (lines_asked asked piece) told
+        → (keeps : Keeps (option_map string_bytes asked.key) (names_asked asked piece)
+        start.numbers taking (lines_asked asked piece) kept) → MayGoOn asked piece kept next
+        → let on = start_of asked behind kept in on.from ≡ taking.watch.from
+        → start.early ≡ 0 → taking.counts.early ≡ 0
+        → early_at on.from (lines_since on (lines_asked asked (kept ++ next))) ≡ 0
+        → IsPermutation (on.told ++ now) (audited_in asked (kept ++ next))
+        → IsPermutation (told ++ map (placed_found (places_beyond asked piece next keeps.places))
+        now) (audited_in asked (piece ++ next)) }
+{
+    each_name_has_one_number();
+    keys_stay_in_one_member();
+    logs_that_say_the_same_differ_in_numbers_alone();
+    names_keep_their_numbers();
+    numbers_are_those_of_names();
+    what_a_watch_keeps_stands_for_all();
+    what_follows_an_ended_line_is_apart();
+    what_lines_say_is_theirs_alone();
+    who_goes_on_from_what_a_watch_kept_tells_the_rest();
+}
