@@ -44,10 +44,11 @@ extern "C" {
 
 /* The version of this header, and that of the library which is linked: 10,000 for a major one, 100
  * for a minor one, 1 for a patch, in which alone the two may differ. */
-#define FDB_READ_VERSION_VERSION 300
+#define FDB_READ_VERSION_VERSION 400
 uint32_t fdb_read_version_version(void);
 
-/* What a function answers: FDB_OK, or why it refuses; of a log FDB_FAULT too, which is a verdict.
+/* What a function answers: FDB_OK, or why it refuses; of a log FDB_FAULT too, which is a verdict,
+ * and FDB_UNJUDGED, where there is none.
  * (Texts and docs/FORMATS.md spell FDB_NOT_JSON as NotJson.) */
 enum {
     FDB_OK = 0,
@@ -74,7 +75,8 @@ enum {
     FDB_SOME_TIMES = 38,      /* some lines have times, and some have none */
     FDB_BAD_MEMBER = 39,      /* a member is missing, of another kind, or may not stand there */
     FDB_EMPTY = 40,           /* a text has no line */
-    FDB_OVER = 41             /* a log has ended or was refused before, or memory was */
+    FDB_OVER = 41,            /* a log has ended or was refused before, or memory was */
+    FDB_UNJUDGED = 42         /* no fault was told of a watched log, but lines came early */
 };
 
 /* The name of what a function answers, as NOT_JSON, or NULL where there is no such answer. */
@@ -105,6 +107,7 @@ static inline const char *fdb_status_name(uint8_t status) {
     case FDB_BAD_MEMBER: return "BAD_MEMBER";
     case FDB_EMPTY: return "EMPTY";
     case FDB_OVER: return "OVER";
+    case FDB_UNJUDGED: return "UNJUDGED";
     default: return NULL;
     }
 }
@@ -451,7 +454,8 @@ typedef struct fdb_audit_options {
 
 /* Why a log is refused, beside the status. */
 typedef struct fdb_refused {
-    uint64_t line;  /* the first line that is wrong, counted from 1; on FDB_EMPTY 0 */
+    uint64_t line;  /* the first line that is wrong, of a watch the last, or on FDB_UNJUDGED the
+                       last that came early, counted from 1; on FDB_EMPTY 0 */
     uint8_t member; /* on FDB_BAD_MEMBER which, from FDB_CLIENT to FDB_KEY; else 0 */
 } fdb_refused;
 
@@ -685,11 +689,11 @@ uint8_t fdb_watch_push(fdb_watch *watch, const uint8_t *bytes, size_t bytes_leng
  * drawn and is not above what its caller knew, once. With `is_idle`, which is always allowed, it
  * looks at once, and else, where more is there to be read, once 8,192 lines came since it last did,
  * and were not refused: at each call that began more than `behind` before the newest end. A line
- * that comes later and began as early is no refused one; its version counts, but it is judged only
- * if it began at most `behind` before that or, with a `key`, before where its own key settled last:
- * a key of which no line came may stay further behind. What is said, be it nothing, is then the
- * text, and the warnings have a line for each line that was refused since; what they were before is
- * gone. `*watch` must be a watch.
+ * that comes later and began as early came early. It is no refused one; its version counts, but it
+ * is judged only if it began at most `behind` before that or, with a `key`, before where its own
+ * key settled last: a key of which no line came may stay further behind. What is said, be it
+ * nothing, is then the text, and the warnings are those since; what they were before is gone.
+ * `*watch` must be a watch.
  *
  * FDB_OK, else FDB_OVER or FDB_MEMORY, as fdb_watch_push; text and warnings are then as they were.
  * `n log n` in the lines that are kept.
@@ -699,13 +703,16 @@ uint8_t fdb_watch_tell(fdb_watch *watch, bool is_idle);
 /*
  * Says what is left where the log ends, with half a line that has come last: the text and the
  * warnings are that, as by fdb_watch_tell, and the watch is over. Where no fault was told, the text
- * is `audit ok` and how many lines were not refused; with `json` it is empty but for `totals`.
- * `*watch` must be a watch.
+ * is `audit ok` and how many lines were not refused, or where lines came early `audit early`, that,
+ * and how many of these were judged; with `json` it is empty but for `totals`. `*watch` must be a
+ * watch.
  *
  * FDB_FAULT where a fault was told, at any time. Else why the last line that was refused was, from
  * FDB_TOO_LONG to FDB_BAD_MEMBER, as fdb_audit_end, and `*refused` says which; FDB_EMPTY where no
- * line came. Else FDB_OK. FDB_OVER and FDB_MEMORY leave text and warnings as they were. But for a
- * refusal `*refused` is as it was.
+ * line came. Else FDB_UNJUDGED where lines came early, and `*refused` says which was the last: then
+ * not all was judged, since `behind` is too small, or a clock is ahead. Else FDB_OK. FDB_OVER and
+ * FDB_MEMORY leave text and warnings as they were. But for a refusal and FDB_UNJUDGED `*refused` is
+ * as it was.
  */
 uint8_t fdb_watch_end(fdb_watch *watch, fdb_refused *refused);
 
@@ -719,7 +726,8 @@ uint8_t fdb_watch_end(fdb_watch *watch, fdb_refused *refused);
 uint8_t fdb_watch_text(fdb_watch *watch, uint8_t *text, size_t text_length, uint64_t *size);
 
 /* Writes the warnings that came with it, as fdb_watch_text the text: a line for each line that was
- * refused, with its number and why. */
+ * refused, with its number and why, and for the first, second, fourth, eighth and so on that came
+ * early, with its number, by how much, and how many did so far. */
 uint8_t fdb_watch_warnings(fdb_watch *watch, uint8_t *text, size_t text_length, uint64_t *size);
 
 /* Frees a watch, over or not; the handle is then none. Of FDB_WATCH_NONE nothing is done. */

@@ -166,25 +166,34 @@ def refused_audits(_program):
 
 
 def said_of(refused):
-    """What the program says of a log that is refused."""
+    """What the program says of a log that is refused, or of which lines came early."""
+    if refused.status == bindings.package().Status.UNJUDGED:
+        at = f"Early {refused.line}: it began before what had been settled"
+        return f"fdb_audit: logs refused: {at}\n"
     member = f" {refused.member.name.lower()}" if refused.member else ""
     why = refusal(refused.line, f"{named(refused.status)}{member}")
     return f"fdb_audit: logs refused: {why}\n"
 
 
 def random_watches(_program):
-    """Of random logs in pieces a watch tells what the audit of all lines tells, each once."""
+    """Of random logs in pieces a watch tells what the audit of all lines tells, each once.
+
+    Of every fourth log some lines are refused; of every fifth some may come early.
+    """
     for number in range(follow.RANDOM):
-        dice = random.Random(f"watched {number}")
-        lines = follow.disordered(follow.grown(dice), dice.choice((0, 0, 2, 10)), dice)
+        dice, is_early = random.Random(f"watched {number}"), number % 5 == 4
+        by = 30 if is_early else dice.choice((0, 0, 2, 10))
+        lines = follow.disordered(follow.grown(dice), by, dice)
         given = text_of(lines, dice)
         given = follow.with_refused(given, dice) if number % 4 == 3 else given
-        behind = max(follow.behind_ends(lines)) + dice.randint(0, 2)
+        most = max(follow.behind_ends(lines))
+        behind = dice.randint(0, most // 2) if is_early else most + dice.randint(0, 2)
         words = [dice.choice(("--all", "--json")), "--margin", str(dice.choice((0, 0, 1, 5)))]
         words += ["--key", dice.choice(("key", "client"))] * (dice.random() < 0.3)
         words += ["--show", dice.choice(("note", "none,note"))] * (dice.random() < 0.3)
         words += ["--follow", str(behind)]
-        fault = why_wrong_of_watch(given, words, watched(given, words, dice))
+        early = sum(it > behind for it in follow.behind_ends(lines))
+        fault = why_wrong_of_watch(given, words, watched(given, words, dice), early)
         yield f"log {number}", fault and f"{fault}, of {given} with {words}"
 
 

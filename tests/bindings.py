@@ -55,7 +55,7 @@ for name in ("Version", "Summary", "Author-email", "Requires-Python"):
 print(fdb_read_version.Chain(100, 200, 1).ask(0, 1, 5).version, len(fdb_read_version.__all__))
 """
 METADATA = b"""\
-0.3.0
+0.4.0
 The read-version path of FoundationDB 7.1, proved, and an audit of logs, from Python
 Joskleme maintainers <maintainers@users.noreply.joskleme.example>
 >=3.9
@@ -190,10 +190,10 @@ def fault_of_installed():
     with tempfile.TemporaryDirectory() as room:
         made = "import build_wheel, sys; print(build_wheel.build_sdist(sys.argv[1]))"
         ran = run([sys.executable, "-c", made, room], env=env)
-        if ran != done(b"fdb_read_version-0.3.0.tar.gz\n"):
+        if ran != done(b"fdb_read_version-0.4.0.tar.gz\n"):
             return f"the sdist: {ran}"
         how = ["--quiet", "--no-index", "--no-build-isolation", "--no-compile", "--target"]
-        words = ["pip", "install", *how, f"{room}/site", f"{room}/fdb_read_version-0.3.0.tar.gz"]
+        words = ["pip", "install", *how, f"{room}/site", f"{room}/fdb_read_version-0.4.0.tar.gz"]
         ran = run(words, seconds=MANY_SECONDS, env=env)
         if ran.status:
             return ran.err[-1000:].decode(errors="replace")

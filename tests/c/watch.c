@@ -153,11 +153,68 @@ static void left_out(void) {
     assert(watch.at == NULL);
 }
 
+#define READ(began, ended) "{\"client\":\"c\",\"read\":0,\"began\":" began ",\"ended\":" ended "}\n"
+#define CAME(number, by, count) \
+    "fdb_audit: early line " number ": it began " by " before what had been settled; " count \
+    " so far: --follow is too small, or a clock is ahead\n"
+#define COUNTS(lines, refused, early) \
+    "lines " lines " reads " lines " commits 0 asks 0 reports 0 refused " refused " early " early
+
+/* What comes, before and after it was settled up to 105, or 16; and then the end. */
+static const struct {
+    fdb_watch_options options;
+    const char *before, *after;
+    uint8_t status;
+    uint64_t line;
+    const char *text, *warnings;
+} EARLY[] = {
+    /* it began 5 before 105, and so it is judged all the same */
+    {{.behind = 5}, READ("90", "110"), READ("100", "101"), FDB_UNJUDGED, 2,
+     "audit early " COUNTS("2", "0", "1") " judged 1\n", CAME("2", "5", "1")},
+    /* the last is told that came early, and not the last of all */
+    {{.behind = 5}, READ("90", "110"), READ("99", "110") READ("100", "101") READ("105", "106"),
+     FDB_UNJUDGED, 3, "audit early " COUNTS("4", "0", "2") " judged 1\n",
+     CAME("2", "6", "1") CAME("3", "5", "2")},
+    {{.behind = 5, .json = true}, READ("90", "110"), READ("100", "101"), FDB_UNJUDGED, 2, "",
+     CAME("2", "5", "1")},
+    {{.behind = 5, .totals = true, .json = true}, READ("90", "110"), READ("99", "100"),
+     FDB_UNJUDGED, 2,
+     "{\"total\":{\"lines\":2,\"reads\":2,\"commits\":0,\"asks\":0,\"reports\":0,\"refused\":0,"
+     "\"early\":1,\"judged\":0},\"arguments\":{\"follow\":5,\"margin\":0,\"by_key\":false,"
+     "\"members\":[]}}\n"
+     "{\"faults\":0,\"Order\":0,\"Wrong\":0,\"NotAbove\":0,\"Twice\":0,\"Stray\":0}\n",
+     CAME("2", "6", "1")},
+    /* a line that is refused goes first */
+    {{.behind = 5}, READ("90", "110") "{}\n", READ("100", "101"), FDB_NO_CALL, 2,
+     "audit early " COUNTS("2", "1", "1") " judged 1\n", CAME("3", "5", "1")},
+    /* and a fault before that */
+    {{0}, STALE, READ("15", "16") "{}\n", FDB_FAULT, 77, "", CAME("3", "1", "1")},
+    /* a line that begins there did not come early */
+    {{.behind = 5}, READ("90", "110"), READ("105", "106"), FDB_OK, 77,
+     "audit ok " COUNTS("2", "0", "0") "\n", ""},
+};
+
+/* Lines that began before what had been settled: not all was judged, and so it is not ok. */
+static void came_early(void) {
+    for (size_t at = 0; at < sizeof EARLY / sizeof *EARLY; at++) {
+        fdb_refused refused = {77, 77};
+        fdb_watch watch = opened(EARLY[at].options, "", "");
+        push(&watch, EARLY[at].before);
+        assert(fdb_watch_tell(&watch, true) == FDB_OK);
+        push(&watch, EARLY[at].after);
+        assert(fdb_watch_end(&watch, &refused) == EARLY[at].status);
+        assert(refused.line == EARLY[at].line && refused.member == (refused.line == 77 ? 77 : 0));
+        says(&watch, EARLY[at].text, EARLY[at].warnings);
+        fdb_watch_free(&watch);
+    }
+}
+
 int main(void) {
     a_stale_read();
     what_waits();
     what_is_asked();
     left_out();
+    came_early();
     puts("ok");
     return 0;
 }

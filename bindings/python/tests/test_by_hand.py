@@ -554,6 +554,10 @@ STALE = (COMMIT + READ).replace("%s", "")
 SAID = ('audit fault: Order %d: client "é" read 100, but 200 was known: line 1 '
         '(client "a", commit 200) had ended 1 before line %d began\n')
 ALL_FINE = "audit ok lines %d reads %d commits 1 asks 0 reports 0 refused %d early 0\n"
+TIMED = '{"client":"c","read":0,"began":%d,"ended":%d}\n'
+CAME = ("fdb_audit: early line %d: it began %d before what had been settled; %d so far: "
+        "--follow is too small, or a clock is ahead\n")
+ALL_EARLY = "audit early lines %d reads %d commits 0 asks 0 reports 0 refused %d early %d judged 1\n"
 
 
 class OfWatches(unittest.TestCase):
@@ -631,6 +635,41 @@ class OfWatches(unittest.TestCase):
         self.refused(LogRefused(Status.BAD_MEMBER, 1, Member.KEY), watch.end)
         self.refused(LogRefused(Status.EMPTY, 0), Watch(5).end)
         self.refused(Refused(Status.BAD_MEMBER), lambda: Watch(5, key=b"\xff"))
+
+    def early(self, before, *after, **asked):
+        """A watch of lines, of which some come once all is settled."""
+        watch = Watch(5, **asked)
+        watch.push(before)
+        watch.tell()
+        watch.push("".join(after))
+        return watch
+
+    def test_what_came_early(self):
+        # It is settled up to 105; a line that began at most 5 before that is judged all the same.
+        first, judged, left = TIMED % (90, 110), TIMED % (100, 101), TIMED % (99, 110)
+        watch = self.early(first, judged)
+        self.refused(LogRefused(Status.UNJUDGED, 2), watch.end)
+        self.assertEqual(watch.text(), ALL_EARLY % (2, 2, 0, 1))
+        self.assertEqual(watch.warnings(), CAME % (2, 5, 1))
+        # The last is told that came early, and not the last of all.
+        watch = self.early(first, left, judged, TIMED % (105, 106))
+        self.refused(LogRefused(Status.UNJUDGED, 3), watch.end)
+        self.assertEqual(watch.text(), ALL_EARLY % (4, 4, 0, 2))
+        self.assertEqual(watch.warnings(), CAME % (2, 6, 1) + CAME % (3, 5, 2))
+        # A line that is refused goes first, and a fault before that.
+        watch = self.early(first + "{}\n", judged)
+        self.refused(LogRefused(Status.NO_CALL, 2), watch.end)
+        self.assertEqual(watch.text(), ALL_EARLY % (2, 2, 1, 1))
+        self.assertEqual(watch.warnings(), CAME % (3, 5, 1))
+        watch = self.early(STALE + first, left, "{}\n")
+        self.assertEqual(watch.end(), Status.FAULT)
+        self.assertTrue(watch.warnings().startswith(CAME % (4, 6, 1)))
+        watch = self.early(first, left, json=True, totals=True)
+        self.refused(LogRefused(Status.UNJUDGED, 2), watch.end)
+        total = watch.objects()[0]["total"]
+        self.assertEqual((total["lines"], total["early"], total["judged"]), (2, 1, 0))
+        self.assertEqual(self.early(first, TIMED % (105, 106)).end(), Status.OK)
+        self.assertEqual(str(LogRefused(Status.UNJUDGED, 7)), "UNJUDGED 7")
 
 
 if __name__ == "__main__":

@@ -200,7 +200,7 @@ class OfInputs(unittest.TestCase):
     def test_the_version_of_the_library(self):
         with mock.patch.object(_library, "VERSION", _library.VERSION + 1):
             _library._loaded()
-        self.assertEqual(package.__version__, "0.3.0")
+        self.assertEqual(package.__version__, "0.4.0")
         for other in (_library.VERSION + 100, _library.VERSION - 100):
             with mock.patch.object(_library, "VERSION", other):
                 with self.assertRaisesRegex(ImportError, f"its version is 300, and the .* {other}"):

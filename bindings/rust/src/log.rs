@@ -346,10 +346,17 @@ pub enum Wrong {
 pub enum LogError {
     /// A line is wrong, or there is none.
     Refused {
-        /// The first such line, counted from 1; 0 for `Wrong::Empty`.
+        /// The first such line, of a [`Watch`](crate::Watch) the last, counted from 1; 0 for
+        /// `Wrong::Empty`.
         line: u64,
         /// What is wrong.
         wrong: Wrong,
+    },
+    /// No fault was told of a log that was watched, but lines came early, and so not all of it was
+    /// judged.
+    Unjudged {
+        /// The last line that came early, counted from 1.
+        line: u64,
     },
     /// It has ended or was refused before, or memory was.
     Over,
@@ -395,6 +402,7 @@ impl fmt::Display for LogError {
         match self {
             LogError::Refused { line: 0, wrong } => write!(f, "{wrong}"),
             LogError::Refused { line, wrong } => write!(f, "line {line}: {wrong}"),
+            LogError::Unjudged { line } => write!(f, "not all was judged: line {line} came early"),
             LogError::Over => f.write_str("it is over"),
             LogError::Memory => f.write_str("out of memory"),
             LogError::Unknown(number) => write!(f, "the library answers {number}"),
@@ -429,6 +437,7 @@ fn wrong_of(status: u8, refused: &sys::fdb_refused) -> Result<Wrong, LogError> {
         sys::FDB_SOME_TIMES => Wrong::SomeTimes,
         sys::FDB_BAD_MEMBER => Wrong::BadMember(member_of(refused.member)?),
         sys::FDB_EMPTY => Wrong::Empty,
+        sys::FDB_UNJUDGED => return Err(LogError::Unjudged { line: refused.line }),
         sys::FDB_OVER => return Err(LogError::Over),
         sys::FDB_MEMORY => return Err(LogError::Memory),
         other => return Err(LogError::Unknown(other)),

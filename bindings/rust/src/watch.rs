@@ -106,8 +106,8 @@ impl Watch {
     /// Where `is_idle` holds, which is always allowed, it looks for it at once, and else, where
     /// more is there to be read, once 8,192 lines came since it last did, and were not refused: at
     /// each call that began more than `behind` before the newest end. A line that comes later and
-    /// began as early is not refused; its version counts, but it is judged only if it began at most
-    /// `behind` before that.
+    /// began as early came early: it is not refused and its version counts, but it is judged only if
+    /// it began at most `behind` before that or, with a `key`, before where its own key settled last.
     ///
     /// # Errors
     /// As [`push`](Watch::push); what was said last then stays.
@@ -118,12 +118,15 @@ impl Watch {
     }
 
     /// Says, as the text, what is left where the log ends here, and says whether a fault was told,
-    /// at any time. Without one the text is `audit ok` and how many lines were not refused, or with
-    /// `json` empty but for `totals`. The watch is then over.
+    /// at any time. Without one the text is `audit ok`, or `audit early` where lines came early, and
+    /// how many lines were not refused, or with `json` empty but for `totals`. The watch is then
+    /// over.
     ///
     /// # Errors
     /// `Refused`, where no fault was told and lines were left out, with the last of them, or where
-    /// no line came: text and warnings are there all the same. Else as [`push`](Watch::push).
+    /// no line came; else `Unjudged`, where none was told and lines came early, with the last of
+    /// them: `behind` is too small, or a clock is ahead. Text and warnings are there all the same.
+    /// Else as [`push`](Watch::push).
     pub fn end(&mut self) -> Result<bool, LogError> {
         // SAFETY: the handle is a watch.
         ended(|refused| unsafe { sys::fdb_watch_end(&mut self.handle, refused) })
@@ -136,7 +139,8 @@ impl Watch {
         text(|at, length, size| unsafe { sys::fdb_watch_text(&mut self.handle, at, length, size) })
     }
 
-    /// What came with that: a line for each line that was left out, with its number and why.
+    /// What came with that: a line for each line that was left out, with its number and why, and for
+    /// the first, second, fourth, eighth and so on that came early.
     #[must_use]
     pub fn warnings(&mut self) -> String {
         // SAFETY: the handle is a watch, and the length that of the array.

@@ -103,3 +103,54 @@ fn what_is_left_out() {
     assert_eq!(watch.end(), refused(1, Wrong::BadMember(Member::Key)));
     assert_eq!(opened(5, "").end(), refused(0, Wrong::Empty));
 }
+
+/// A line of client `c`, by when it began and ended.
+fn timed(began: u64, ended: u64) -> String {
+    format!("{{\"client\":\"c\",\"read\":0,\"began\":{began},\"ended\":{ended}}}\n")
+}
+
+/// What is warned of a line that came early.
+fn came(line: u64, by: u64, count: u64) -> String {
+    format!(
+        "fdb_audit: early line {line}: it began {by} before what had been settled; {count} so \
+         far: --follow is too small, or a clock is ahead\n"
+    )
+}
+
+/// A watch of lines, of which some come once all is settled up to 5 before the newest end.
+fn early(before: &str, after: &str) -> Watch {
+    let mut watch = opened(5, "");
+    watch.push(before.as_bytes()).unwrap();
+    watch.tell(true).unwrap();
+    watch.push(after.as_bytes()).unwrap();
+    watch
+}
+
+#[test]
+fn what_came_early() {
+    // It is settled up to 105; a line that began at most 5 before that is judged all the same.
+    let (first, judged, left) = (timed(90, 110), timed(100, 101), timed(99, 110));
+    let counts = |lines, refused, early| {
+        format!(
+            "audit early lines {lines} reads {lines} commits 0 asks 0 reports 0 \
+             refused {refused} early {early} judged 1\n"
+        )
+    };
+    let unjudged = |line| Err(LogError::Unjudged { line });
+    let mut watch = early(&first, &judged);
+    assert_eq!((watch.end(), watch.text()), (unjudged(2), counts(2, 0, 1)));
+    assert_eq!(watch.warnings(), came(2, 5, 1));
+    // The last is told that came early, and not the last of all.
+    let mut watch = early(&first, &format!("{left}{judged}{}", timed(105, 106)));
+    assert_eq!((watch.end(), watch.text()), (unjudged(3), counts(4, 0, 2)));
+    assert_eq!(watch.warnings(), came(2, 6, 1) + &came(3, 5, 2));
+    // A line that is refused goes first, and a fault before that.
+    let mut watch = early(&format!("{first}{{}}\n"), &judged);
+    let refused = Err(LogError::Refused { line: 2, wrong: Wrong::NoCall });
+    assert_eq!((watch.end(), watch.text()), (refused, counts(2, 1, 1)));
+    assert_eq!(watch.warnings(), came(3, 5, 1));
+    let mut watch = early(&format!("{COMMIT}{READ}{first}"), &format!("{left}{{}}\n"));
+    assert_eq!(watch.end(), Ok(true));
+    assert!(watch.warnings().starts_with(&came(4, 6, 1)));
+    assert_eq!(early(&first, &timed(105, 106)).end(), Ok(false));
+}

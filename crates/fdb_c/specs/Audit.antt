@@ -35,7 +35,7 @@ use Rattle.fdb_c.specs.declared.audit.TheConstants.{FDB_CLIENT, FDB_READ, FDB_CO
 use Rattle.fdb_c.specs.declared.audit_calls.FdbCall.{FdbCall}
 use Rattle.fdb_c.specs.declared.audit_faults.FdbFault.{FdbFault}
 use Rattle.fdb_c.specs.declared.audit_faults.TheConstants.{FDB_FAULT_ORDER, FDB_FAULT_WRONG, FDB_FAULT_NOT_ABOVE, FDB_FAULT_TWICE, FDB_FAULT_STRAY, FDB_REASON_KNOWN, FDB_REASON_UNREPORTED, FDB_REASON_REPORTED, FDB_REASON_DRAWN, FDB_REASON_UNDRAWN, FDB_MEANS_START, FDB_MEANS_ENDED, FDB_MEANS_OWN, FDB_MEANS_LEARNT}
-use Rattle.fdb_c.specs.declared.status.TheConstants.{FDB_OK, FDB_MEMORY, FDB_ROOM, FDB_FAULT, FDB_TOO_LONG, FDB_TOO_MANY, FDB_NOT_JSON, FDB_NO_CALL, FDB_TWO_CALLS, FDB_SOME_TIMES, FDB_BAD_MEMBER, FDB_EMPTY}
+use Rattle.fdb_c.specs.declared.status.TheConstants.{FDB_OK, FDB_MEMORY, FDB_ROOM, FDB_FAULT, FDB_TOO_LONG, FDB_TOO_MANY, FDB_NOT_JSON, FDB_NO_CALL, FDB_TWO_CALLS, FDB_SOME_TIMES, FDB_BAD_MEMBER, FDB_EMPTY, FDB_UNJUDGED}
 
 -- ---- what is asked
 
@@ -175,7 +175,8 @@ refused_of error = record { line = error.line; member = member_of error.why }
 
 -- A status that says that the log is refused.
 abbrev pub IsRefusal : ℕ → Type 0
-IsRefusal status = (status ≢ FDB_OK) × (status ≢ FDB_FAULT) × (status ≢ FDB_ROOM) × (status ≢ FDB_MEMORY)
+IsRefusal status =
+    (status ≢ FDB_OK) × (status ≢ FDB_FAULT) × (status ≢ FDB_ROOM) × (status ≢ FDB_MEMORY) × (status ≢ FDB_UNJUDGED)
 
 -- ---- faults
 

@@ -9,6 +9,7 @@ use Rattle.fdb_audit.specs.declared.fault.LogFault.{LogFault}
 use Rattle.fdb_audit.specs.declared.follower.Follower.{Follower}
 use Rattle.fdb_audit.specs.declared.judged.Wanted.{Wanted}
 use Rattle.fdb_c.specs.Audit.{Asked, asked_in}
+use Rattle.fdb_c.specs.declared.audit.FdbRefused.{FdbRefused}
 use Rattle.fdb_c.specs.declared.watch_options.FdbWatchOptions.{FdbWatchOptions}
 
 -- ---- what is asked
@@ -70,16 +71,18 @@ pub record HasTold (watch : Watch) : Type 0 where
   pub follower : Follower
   pub followed : HasFollowed arguments (fresh watch.behind) follower watch.bytes watch.told
 
--- It was told of all of them, where the log ends there, with this first fault.
-pub record HasToldAll (watch : Watch) (first : Option LogFault) : Type 0 where
+-- It was told of all of them, where the log ends there, with this first fault, and the last line that came early has this number,
+-- if one did.
+pub record HasToldAll (watch : Watch) (first : Option LogFault) (last_early : Option ℕ) : Type 0 where
   pub arguments : AuditArguments
   pub are : asked_in arguments ≡ watch.asked
-  pub followed : IsFollowed arguments (fresh watch.behind) true watch.bytes watch.told first
+  pub followed : IsFollowed arguments (fresh watch.behind) true watch.bytes watch.told first last_early
 
 -- A fault was told among that.
 pub record HasToldFault (watch : Watch) : Type 0 where
   pub first : LogFault
-  pub all : HasToldAll watch (Some first)
+  pub last_early : Option ℕ
+  pub all : HasToldAll watch (Some first) last_early
 
 -- Each line was taken, and there was one.
 pub record HasTakenAll (watch : Watch) : Type 0 where
@@ -92,3 +95,7 @@ pub record HasLeftOut (watch : Watch) (error : ReadError) : Type 0 where
   pub arguments : AuditArguments
   pub are : asked_in arguments ≡ watch.asked
   pub refused : refused_in arguments watch.bytes ≡ Some error
+
+-- The last line that came early, as C is told of it where not all was judged.
+abbrev pub unjudged_at : ℕ → FdbRefused
+unjudged_at number = record { line = number; member = 0 }

@@ -3,7 +3,7 @@
 ghost use Rattle.std.specs.Prelude.{◌≡◌, ◌≢◌, ◌⊎◌};
 ghost use Rattle.fdb_c.specs.Audit.{IsRefusal, complete_of, member_of, number_of, opts_of};
 ghost use Rattle.fdb_c.specs.Audit.{refused_of, status_of, wanted_of};
-ghost use Rattle.fdb_c.specs.declared.status.TheConstants.{FDB_OVER};
+ghost use Rattle.fdb_c.specs.declared.status.TheConstants.{FDB_OVER, FDB_UNJUDGED};
 
 use crate::status::{
     FDB_BAD_MEMBER, FDB_EMPTY, FDB_MEMORY, FDB_NO_CALL, FDB_NOT_JSON, FDB_SOME_TIMES, FDB_TOO_LONG,
@@ -124,6 +124,7 @@ fn number_of(member: Member) -> u8
 fn status_of(why: Why) -> u8
     ensures number { result ≡ status_of why }
     ensures known { result ≢ FDB_OVER }
+    ensures judged { result ≢ FDB_UNJUDGED }
 {
     match why {
         Why::Empty => FDB_EMPTY,

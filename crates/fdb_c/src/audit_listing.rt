@@ -108,6 +108,8 @@ pub extern "C" fn fdb_audit_log_faults(
     ensures untold { IsRefusal result → (faults.new ≡ faults.old) × (size.new ≡ size.old) }
     ensures memory { (result ≡ FDB_MEMORY) → (faults.new ≡ faults.old) × (size.new ≡ size.old) }
     ensures taken { ¬ IsRefusal result → refused.new ≡ refused.old }
+    ensures statuses { (result ≡ FDB_OK) ⊎ (result ≡ FDB_FAULT) ⊎ (result ≡ FDB_ROOM)
+        ⊎ (result ≡ FDB_MEMORY) ⊎ IsRefusal result }
 {
     match read_log(alloc, log) {
         Ok(named) => match list(alloc, &named.log, *options, faults, size) {
@@ -144,6 +146,8 @@ pub extern "C" fn fdb_audit_calls_faults(
     ensures untold { IsRefusal result → (faults.new ≡ faults.old) × (size.new ≡ size.old) }
     ensures memory { (result ≡ FDB_MEMORY) → (faults.new ≡ faults.old) × (size.new ≡ size.old) }
     ensures taken { ¬ IsRefusal result → refused.new ≡ refused.old }
+    ensures statuses { (result ≡ FDB_OK) ⊎ (result ≡ FDB_FAULT) ⊎ (result ≡ FDB_ROOM)
+        ⊎ (result ≡ FDB_MEMORY) ⊎ IsRefusal result }
 {
     match log_of(alloc, calls) {
         Ok(log) => match list(alloc, &log, *options, faults, size) {

@@ -75,6 +75,8 @@ pub extern "C" fn fdb_audit_log_text(
     ensures untold { IsRefusal result → (text.new ≡ text.old) × (size.new ≡ size.old) }
     ensures memory { (result ≡ FDB_MEMORY) → (text.new ≡ text.old) × (size.new ≡ size.old) }
     ensures taken { ¬ IsRefusal result → refused.new ≡ refused.old }
+    ensures statuses { (result ≡ FDB_OK) ⊎ (result ≡ FDB_FAULT) ⊎ (result ≡ FDB_ROOM)
+        ⊎ (result ≡ FDB_MEMORY) ⊎ IsRefusal result }
 {
     match judge_text(alloc, log, &opts_of(*options), wanted_of(*options)) {
         Ok(found) => tell(&found, text, size),
@@ -110,6 +112,8 @@ pub extern "C" fn fdb_audit_calls_text(
     ensures untold { IsRefusal result → (text.new ≡ text.old) × (size.new ≡ size.old) }
     ensures memory { (result ≡ FDB_MEMORY) → (text.new ≡ text.old) × (size.new ≡ size.old) }
     ensures taken { ¬ IsRefusal result → refused.new ≡ refused.old }
+    ensures statuses { (result ≡ FDB_OK) ⊎ (result ≡ FDB_FAULT) ⊎ (result ≡ FDB_ROOM)
+        ⊎ (result ≡ FDB_MEMORY) ⊎ IsRefusal result }
 {
     match log_of(alloc, calls) {
         Ok(log) => match judge(alloc, &log, &[], &opts_of(*options), wanted_of(*options)) {

@@ -80,6 +80,9 @@ pub const FDB_EMPTY: u8 = 40;
 /// The audit or the watch is over: its log has ended or was refused, or memory was.
 pub const FDB_OVER: u8 = 41;
 
+/// No fault was told of a log that was watched, but lines came early: not all of it was judged.
+pub const FDB_UNJUDGED: u8 = 42;
+
 /// The status of what was written, if there was room for it.
 pub(crate) fn status_of_writing(is_written: bool) -> u8
     ensures { result ≡ (if is_written then FDB_OK else FDB_ROOM) }

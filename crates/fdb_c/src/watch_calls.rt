@@ -1,13 +1,14 @@
 //! The watch of a log that grows, by its handle.
 
-ghost use Rattle.std.specs.Prelude.{◌≡◌, ◌≢◌, ◌↔◌, ◌⊎◌, IfOk, IfSome, IsNone, IsSome, None, Some};
-ghost use Rattle.std.specs.Prelude.{false, true};
+ghost use Rattle.std.specs.Prelude.{◌≡◌, ◌≢◌, ◌↔◌, ◌⊎◌, ℕ, IfOk, IfSome, IsNone, IsSome, None};
+ghost use Rattle.std.specs.Prelude.{Option, Some, false, true};
 ghost use Rattle.core.specs.Str.{IsUtf8};
 ghost use Rattle.fdb_log_reader.specs.declared.error.ReadError.{ReadError};
 ghost use Rattle.fdb_c.specs.Audit.{HasNoRoom, IsRefusal, IsWritten, asked_with, refused_of};
 ghost use Rattle.fdb_c.specs.Audit.{status_of};
 ghost use Rattle.fdb_c.specs.Watch.{HasLeftOut, HasTakenAll, HasTold, HasToldAll, IsTold};
-ghost use Rattle.fdb_c.specs.Watch.{HasToldFault, new_watch, opts_in, over, wanted_in, with_bytes};
+ghost use Rattle.fdb_c.specs.Watch.{HasToldFault, new_watch, opts_in, over, unjudged_at};
+ghost use Rattle.fdb_c.specs.Watch.{wanted_in, with_bytes};
 
 use crate::asked::texts_of;
 use crate::audit::FdbRefused;
@@ -15,7 +16,8 @@ use crate::audit_text::write_text;
 use crate::held::Held;
 use crate::parts::boxed;
 use crate::status::{
-    FDB_BAD_MEMBER, FDB_FAULT, FDB_MEMORY, FDB_OK, FDB_OVER, FDB_ROOM, status_of_writing,
+    FDB_BAD_MEMBER, FDB_FAULT, FDB_MEMORY, FDB_OK, FDB_OVER, FDB_ROOM, FDB_UNJUDGED,
+    status_of_writing,
 };
 use crate::watch_handle::FdbWatch;
 use crate::watch_options::FdbWatchOptions;
@@ -107,22 +109,27 @@ pub extern "C" fn fdb_watch_tell(alloc: Global, watch: &mut FdbWatch, is_idle: b
     status
 }
 
-/// Says what is left, where the log ends here: the watch is then over.
+/// Says what is left, where the log ends here: the watch is then over. A refused line, or the last
+/// that came early, is told in `refused`.
 #[unsafe(no_mangle)]
 pub extern "C" fn fdb_watch_end(alloc: Global, watch: &mut FdbWatch, refused: &mut FdbRefused) -> u8
     requires { IsSome watch.old.watch }
     ensures said { (result ≢ FDB_OVER) → (result ≢ FDB_MEMORY) → IfSome watch.old.watch
         (λ before. IfSome watch.new.watch (IsTold before)) }
     ensures ok { (result ≡ FDB_OK)
-        → IfSome watch.new.watch (λ it. HasToldAll it None × HasTakenAll it) }
+        → IfSome watch.new.watch (λ it. HasToldAll it None None × HasTakenAll it) }
+    ensures unjudged { (result ≡ FDB_UNJUDGED) → IfSome watch.new.watch (λ it. HasTakenAll it
+        × (number : ℕ) × HasToldAll it None (Some number)
+        × (refused.new ≡ unjudged_at number)) }
     ensures fault { (result ≡ FDB_FAULT) → IfSome watch.new.watch HasToldFault }
     ensures left_out { IsRefusal result → (result ≢ FDB_OVER)
-        → IfSome watch.new.watch (λ it. HasToldAll it None × (error : ReadError)
-        × HasLeftOut it error × (result ≡ status_of error.why)
+        → IfSome watch.new.watch (λ it. (last_early : Option ℕ) × HasToldAll it None last_early
+        × (error : ReadError) × HasLeftOut it error × (result ≡ status_of error.why)
         × (refused.new ≡ refused_of error)) }
     ensures statuses { (result ≡ FDB_OK) ⊎ (result ≡ FDB_FAULT) ⊎ (result ≡ FDB_MEMORY)
-        ⊎ IsRefusal result }
-    ensures untold { ¬ IsRefusal result → refused.new ≡ refused.old }
+        ⊎ (result ≡ FDB_UNJUDGED) ⊎ IsRefusal result }
+    ensures untold { ¬ IsRefusal result → (result ≢ FDB_UNJUDGED)
+        → refused.new ≡ refused.old }
     ensures over { (result ≡ FDB_OVER)
         ↔ IfSome watch.old.watch (λ before. before.is_over ≡ true) }
     ensures not_told { (result ≡ FDB_OVER) → refused.new ≡ refused.old }

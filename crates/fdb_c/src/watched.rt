@@ -1,14 +1,16 @@
 //! A log that is watched as it grows, and what was said of it last.
 
-ghost use Rattle.std.specs.Prelude.{◌≡◌, ◌≢◌, ◌++◌, ◌↔◌, ◌⊎◌, IfOk, None, Some, false, true};
+ghost use Rattle.std.specs.Prelude.{◌≡◌, ◌≢◌, ◌++◌, ◌↔◌, ◌⊎◌, ℕ, IfOk, None, Option, Some};
+ghost use Rattle.std.specs.Prelude.{false, true};
 ghost use Rattle.fdb_log_reader.specs.declared.error.ReadError.{ReadError};
 ghost use Rattle.fdb_audit.specs.declared.fault.LogFault.{LogFault};
 ghost use Rattle.fdb_c.specs.Audit.{IsRefusal, asked_with, refused_of, status_of};
 ghost use Rattle.fdb_c.specs.Watch.{HasLeftOut, HasTakenAll, HasTold, HasToldAll, IsTold};
-ghost use Rattle.fdb_c.specs.Watch.{HasToldFault, new_watch, opts_in, over, wanted_in, with_bytes};
+ghost use Rattle.fdb_c.specs.Watch.{HasToldFault, new_watch, opts_in, over, unjudged_at};
+ghost use Rattle.fdb_c.specs.Watch.{wanted_in, with_bytes};
 
 use crate::audit::{FdbRefused, refuse};
-use crate::status::{FDB_FAULT, FDB_MEMORY, FDB_OK, FDB_OVER};
+use crate::status::{FDB_FAULT, FDB_MEMORY, FDB_OK, FDB_OVER, FDB_UNJUDGED};
 use crate::story::Story;
 use crate::watch_options::{FdbWatchOptions, asked_of};
 use fdb_audit::{AuditArguments, Follower, LogFault, Said};
@@ -27,7 +29,7 @@ pub struct Watched {
     follower: Option<Follower>,
     /// What was said last.
     text: String,
-    /// A line for each line that was refused by then.
+    /// What was warned of by then: lines that were refused, or came early.
     warnings: String,
     story: Story,
 }
@@ -90,7 +92,7 @@ impl Watched {
         self.text.as_str()
     }
 
-    /// A line for each line that was refused by then.
+    /// What was warned of by then: lines that were refused, or came early.
     pub(crate) fn warnings(&self) -> &str
         ensures { result.now ≡ self.now.warnings }
     {
@@ -142,17 +144,21 @@ impl Watched {
     }
 
     /// Says what is left, where the log ends here: the watch is then over. The status is the verdict,
-    /// or why the last line was refused that was.
+    /// or why the last line was refused that was, or that lines came early.
     pub(crate) fn end(&mut self, refused: &mut FdbRefused) -> u8
         ensures said { (result ≢ FDB_OVER) → (result ≢ FDB_MEMORY) → IsTold self.old self.new }
-        ensures ok { (result ≡ FDB_OK) → HasToldAll self.new None × HasTakenAll self.new }
+        ensures ok { (result ≡ FDB_OK) → HasToldAll self.new None None × HasTakenAll self.new }
+        ensures unjudged { (result ≡ FDB_UNJUDGED) → HasTakenAll self.new × (number : ℕ)
+            × HasToldAll self.new None (Some number) × (refused.new ≡ unjudged_at number) }
         ensures fault { (result ≡ FDB_FAULT) → HasToldFault self.new }
-        ensures left_out { IsRefusal result → (result ≢ FDB_OVER) → HasToldAll self.new None
-            × (error : ReadError) × HasLeftOut self.new error
+        ensures left_out { IsRefusal result → (result ≢ FDB_OVER) → (last_early : Option ℕ)
+            × HasToldAll self.new None last_early × (error : ReadError)
+            × HasLeftOut self.new error
             × (result ≡ status_of error.why) × (refused.new ≡ refused_of error) }
         ensures statuses { (result ≡ FDB_OK) ⊎ (result ≡ FDB_FAULT) ⊎ (result ≡ FDB_MEMORY)
-            ⊎ IsRefusal result }
-        ensures untold { ¬ IsRefusal result → refused.new ≡ refused.old }
+            ⊎ (result ≡ FDB_UNJUDGED) ⊎ IsRefusal result }
+        ensures untold { ¬ IsRefusal result → (result ≢ FDB_UNJUDGED)
+            → refused.new ≡ refused.old }
         ensures over { (result ≡ FDB_OVER) ↔ (self.old.is_over ≡ true) }
         ensures not_told { (result ≡ FDB_OVER) → refused.new ≡ refused.old }
         ensures unchanged { (result ≡ FDB_OVER) → self.new ≡ self.old }
@@ -166,28 +172,31 @@ impl Watched {
                 self.story = Story::with_text(&self.story, &end.said.text);
                 self.text = end.said.text;
                 self.warnings = end.said.warnings;
-                status_at_end(end.found, end.refused, refused)
+                status_at_end(end.found, end.refused, end.last_early, refused)
             }
             Err(_) => FDB_MEMORY,
         }
     }
 }
 
-/// The verdict of a log that was watched, or why the last line was refused that was: a fault goes
-/// first.
+/// The verdict of a log that was watched, or why the last line was refused that was, or that lines
+/// came early, the last of them with this number: a fault goes first, and a refusal second.
 fn status_at_end(
     found: Option<LogFault>,
     left_out: Option<ReadError>,
+    last_early: Option<u64>,
     refused: &mut FdbRefused,
 ) -> u8
-    ensures ok { (result ≡ FDB_OK) → (found ≡ None) × (left_out ≡ None) }
+    ensures ok { (result ≡ FDB_OK) → (found ≡ None) × (left_out ≡ None) × (last_early ≡ None) }
     ensures fault { (result ≡ FDB_FAULT) → (first : LogFault) × (found ≡ Some first) }
+    ensures unjudged { (result ≡ FDB_UNJUDGED) → (found ≡ None) × (left_out ≡ None)
+        × (number : ℕ) × (last_early ≡ Some number) × (refused.new ≡ unjudged_at number) }
     ensures refused { IsRefusal result → (found ≡ None) × (error : ReadError)
         × (left_out ≡ Some error) × (result ≡ status_of error.why)
         × (refused.new ≡ refused_of error) }
-    ensures untold { ¬ IsRefusal result → refused.new ≡ refused.old }
+    ensures untold { ¬ IsRefusal result → (result ≢ FDB_UNJUDGED) → refused.new ≡ refused.old }
     ensures statuses { (result ≡ FDB_OK) ⊎ (result ≡ FDB_FAULT) ⊎ (result ≡ FDB_MEMORY)
-        ⊎ IsRefusal result }
+        ⊎ (result ≡ FDB_UNJUDGED) ⊎ IsRefusal result }
     ensures not_over { result ≢ FDB_OVER }
 {
     if found.is_some() {
@@ -195,6 +204,23 @@ fn status_at_end(
     }
     match left_out {
         Some(error) => refuse(error, refused),
+        None => status_of_early(last_early, refused),
+    }
+}
+
+/// Whether lines came early: then the number of the last of them is told.
+fn status_of_early(last_early: Option<u64>, refused: &mut FdbRefused) -> u8
+    ensures ok { (result ≡ FDB_OK) → last_early ≡ None }
+    ensures unjudged { (result ≡ FDB_UNJUDGED) → (number : ℕ) × (last_early ≡ Some number)
+        × (refused.new ≡ unjudged_at number) }
+    ensures untold { (result ≢ FDB_UNJUDGED) → refused.new ≡ refused.old }
+    ensures statuses { (result ≡ FDB_OK) ⊎ (result ≡ FDB_UNJUDGED) }
+{
+    match last_early {
+        Some(line) => {
+            *refused = FdbRefused { line, member: 0 };
+            FDB_UNJUDGED
+        }
         None => FDB_OK,
     }
 }

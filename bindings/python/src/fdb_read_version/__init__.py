@@ -42,7 +42,7 @@ from .log import (
 from .register import Record
 from .watch import Watch
 
-__version__ = "0.3.0"
+__version__ = "0.4.0"
 
 __all__ = [
     "Ask",

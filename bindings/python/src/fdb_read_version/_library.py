@@ -19,7 +19,7 @@ from typing import Any, Dict, List, Tuple
 
 FILE = "libfdb_read_version.so"
 # That of include/fdb_read_version.h: 10,000 for a major one, 100 for a minor one, 1 for a patch.
-VERSION = 300
+VERSION = 400
 HOW = "make it with tools/bindings, or set FDB_READ_VERSION_LIB to its path"
 
 

@@ -32,6 +32,7 @@ class Status(Named):
     BAD_MEMBER = 39
     EMPTY = 40
     OVER = 41
+    UNJUDGED = 42
 
 
 class Refused(Exception):

@@ -150,8 +150,8 @@ class Fault:
 class LogRefused(Refused):
     """A log that is refused: its first wrong `line`, counted from 1, and maybe which `member`.
 
-    Where it is a text without a line, `line` is 0. It is printed as `BAD_MEMBER 2 read`, `NOT_JSON 3`
-    or `EMPTY`.
+    Where it is a text without a line, `line` is 0. Of a `Watch` it is the last wrong line, or with
+    UNJUDGED the last that came early. It is printed as `BAD_MEMBER 2 read`, `NOT_JSON 3` or `EMPTY`.
     """
 
     line: int

@@ -63,8 +63,9 @@ class Watch(Handle):
         With `idle`, which is always allowed, it looks for that at once, and else, where more is
         there to be read, once 8,192 lines came since it last did, and were not refused: at each
         call that began more than `behind` before the newest end. A line that comes later and began
-        as early is not refused; its version counts, but it is judged only if it began at most
-        `behind` before that. It is refused as `push` is; what was said last then stays.
+        as early came early: it is not refused and its version counts, but it is judged only if it
+        began at most `behind` before that or, with a `key`, before where its own key settled last.
+        It is refused as `push` is; what was said last then stays.
         """
         is_idle = flag("idle", idle)
 
@@ -81,8 +82,10 @@ class Watch(Handle):
         """Says, as `text`, what is left where the log ends here: the watch is then over.
 
         FAULT where a fault was told, at any time, else OK. Where none was, and lines were left out,
-        it raises `LogRefused` of the last of them, or of EMPTY where no line came; text and warnings
-        are there all the same. Without a fault the text is `audit ok` and how many lines were not
+        it raises `LogRefused` of the last of them, or of EMPTY where no line came; else, where lines
+        came early, of UNJUDGED with the last of them, since not all was judged: `behind` is too
+        small, or a clock is ahead. Text and warnings are there all the same. Without a fault the
+        text is `audit ok`, or `audit early` where lines came early, and how many lines were not
         refused, or with `json` empty but for `totals`. `Refused` is raised as by `push`.
         """
         refused = RawRefused()
@@ -97,5 +100,8 @@ class Watch(Handle):
         return objects_in(self.text())
 
     def warnings(self) -> str:
-        """What came with that: a line for each line that was left out, with its number and why."""
+        """What came with that: a line for each line that was left out, with its number and why.
+
+        So does one for the first, second, fourth, eighth and so on that came early.
+        """
         return str(self._call(written, library.fdb_watch_warnings, c_uint8), "utf-8")

@@ -6,7 +6,7 @@ use std::ffi::c_void;
 use std::ptr;
 
 /// The version of the header; `fdb_read_version_version` says that of the library.
-pub const FDB_READ_VERSION_VERSION: u32 = 300;
+pub const FDB_READ_VERSION_VERSION: u32 = 400;
 
 pub const FDB_OK: u8 = 0;
 pub const FDB_BAD_EPOCH: u8 = 1;
@@ -33,6 +33,7 @@ pub const FDB_SOME_TIMES: u8 = 38;
 pub const FDB_BAD_MEMBER: u8 = 39;
 pub const FDB_EMPTY: u8 = 40;
 pub const FDB_OVER: u8 = 41;
+pub const FDB_UNJUDGED: u8 = 42;
 
 pub const FDB_SYSTEM: u8 = 0;
 pub const FDB_DEFAULT: u8 = 1;

@@ -14,5 +14,5 @@ returns-in-Ok-clause-told c = λ _.
       arguments = it.asked;
       are = refl;
       follower = c.feed.new.self;
-      followed = at_both (HasFollowed it.asked (fresh it.behind) c.feed.new.self) now.0 now.1 (c.in-Ok.ensures it.asked (fresh it.behind) it.story.bytes it.story.told followed);
+      followed = at_both (HasFollowed it.asked (fresh it.behind) c.feed.new.self) now.0 now.1 (c.in-Ok.ensures.followed it.asked (fresh it.behind) it.story.bytes it.story.told followed);
     }
