@@ -1,5 +1,5 @@
 -- A log that is watched in pieces is told as by one watch.
-use Rattle.std.proofs.Common.{◌≡◌, ◌∙◌, ℕ, ◌+◌, ◌-◌, ◌<◌, ◌≤◌, false, List, [], ◌∷◌, ◌++◌, IsPermutation, Option, Result, ap, append_assoc, arith, drop, length, length-append, map, option_map, refl, slice_index, string_bytes, subst, sym, take}
+use Rattle.std.proofs.Common.{◌≡◌, ◌∙◌, ℕ, ◌-◌, ◌<◌, ◌≤◌, false, List, [], ◌∷◌, ◌++◌, IsPermutation, Option, Result, ap, append_assoc, arith, drop, length, length-append, map, option_map, refl, slice_index, string_bytes, subst, sym, take}
 use Rattle.std.specs.List.{All, flat_map, range_with_len}
 use Rattle.std.specs.Prelude.{count_by, nat_lt, IfOk}
 use Rattle.std.proofs.lemmas.List.{length-map, map-append, take-append-drop}

@@ -23,7 +23,8 @@ use Rattle.fdb_audit.specs.Following.{Start}
 use Rattle.fdb_audit.specs.Taken.{AreTaken, HasWarned}
 use Rattle.fdb_audit.specs.Warned.{IsNumberOfTaken, IsSaid, IsWarned, all_refused, said_early, said_refused, warning_line}
 use Rattle.fdb_audit.specs.private.Followed.{AreEarlyIn, CameMore, NotesLine, early_text, one_more}
-use Rattle.fdb_audit.proofs.Following.{drop_on, few_read, line_number}
+use Rattle.fdb_audit.proofs.Following.{few_read, line_number}
+use Rattle.fdb_audit.proofs.Settled.{drop_on}
 use Rattle.fdb_audit.proofs.Totalled.{range_more}
 
 -- ---- the numbers of lines that were taken

@@ -3,8 +3,7 @@ use Rattle.fdb_lines.specs.KeyWatch.{AreTold}
 use Rattle.fdb_lines.specs.ToldByKey.{told_by_all}
 use Rattle.fdb_lines.specs.declared.key_watch.KeyWatch.{KeyWatch}
 use Rattle.fdb_log_reader.specs.LineReader.{line_names}
-use Rattle.fdb_log_reader.specs.ReadLine.{SaidLine}
-use Rattle.fdb_audit.specs.Following.{keys_taken, lines_taken, taken, told_in_all}
+use Rattle.fdb_audit.specs.Following.{keys_taken, lines_taken, told_in_all}
 use Rattle.fdb_audit.specs.private.Followed.{TellsOn}
 use Rattle.fdb_audit.proofs.SettledOn.{settled_taken}
 use Rattle.fdb_audit.proofs.TellingOn.{settled}
