@@ -3,6 +3,7 @@ pub mod Followed
 pub mod Numbering
 pub mod Kept
 pub mod KeptTexts
+pub mod Pace
 use Rattle.std.specs.Prelude.{◌≡◌, ℕ, ◌==◌, Bool, List, [], Option, count_by, map, option_copied, string_bytes}
 use Rattle.fdb_lines.specs.declared.key_order.Order.{Order}
 use Rattle.fdb_lines.specs.declared.key_order.Order.TheVariants.{One, ByKey}

@@ -115,7 +115,7 @@ impl Program for Audit {
                 Err(error) => Err(refusal(error)),
             },
             AuditIntake::Followed(mut log) => {
-                log.follower.feed(bytes)?;
+                log.feed(bytes)?;
                 Ok(AuditIntake::Followed(log))
             }
         }
@@ -123,14 +123,14 @@ impl Program for Audit {
 
     fn tell<R: Files + Clock>(
         &self,
-        _rt: &R,
+        rt: &R,
         alloc: Global,
         asked: &AuditArguments,
         intake: AuditIntake,
         is_idle: bool,
     ) -> Result<Told<AuditIntake>, Failure<LogsRefused, LogFault>> {
         match intake {
-            AuditIntake::Followed(log) if asked.follow.is_some() => tell_of(log, is_idle),
+            AuditIntake::Followed(log) if asked.follow.is_some() => tell_of(rt, log, is_idle),
             intake => Ok(Told {
                 intake,
                 text: Vec::new(alloc),
@@ -193,7 +193,8 @@ fn is_unfit(follow: Option<u64>, complete: Option<u64>, wanted: Wanted, keeps: b
 }
 
 /// Tells what has become certain of a log that is followed.
-fn tell_of(
+fn tell_of<R: Clock>(
+    rt: &R,
     mut log: FollowedLog,
     is_idle: bool,
 ) -> Result<Told<AuditIntake>, Failure<LogsRefused, LogFault>>
@@ -202,7 +203,7 @@ fn tell_of(
         → HasTaken asked it.intake bytes (told ++ it.text.items)) }
     ensures stops { IfErr result (λ fault. fault ≡ Failure.Memory) }
 {
-    let Said { text, warnings } = log.follower.tell(is_idle)?;
+    let Said { text, warnings } = log.tell(rt, is_idle)?;
     Ok(Told {
         intake: AuditIntake::Followed(log),
         text: text.into_bytes(),

@@ -1,7 +1,7 @@
 //! A log that the program follows, and the file in which it keeps the lines that yet matter.
 
 ghost use Rattle.std.specs.Prelude.{◌≡◌, ◌⊎◌, ◌++◌, ℕ, [], IfErr, IfOk, List, false};
-ghost use Rattle.std.specs.Prelude.{None, is_some, string_bytes, true};
+ghost use Rattle.std.specs.Prelude.{None, OnOk, is_some, string_bytes, true};
 ghost use Rattle.fdb_audit.specs.Following.{Start, left_out};
 ghost use Rattle.fdb_audit.specs.Kept.{start_of};
 ghost use Rattle.fdb_audit.specs.private.Kept.{MayStop};
@@ -10,14 +10,15 @@ ghost use Rattle.fdb_audit.specs.declared.arguments.AuditArguments.{AuditArgumen
 
 use crate::arguments::AuditArguments;
 use crate::fault::LogFault;
-use crate::follower::{Followed, Follower, Stopped};
+use crate::follower::{Followed, Follower, Said, Stopped};
+use crate::pace::{Pace, SECOND, moment};
 use crate::refused::LogsRefused;
 use fdb_command::Failure;
 use std::alloc::{AllocError, Global};
 use std::fs::{File, Files, OpenFile, rename};
 use std::io;
 use std::io::{ErrorKind, Read, Write};
-use std::time::{Clock, Duration};
+use std::time::Clock;
 
 /// What stops the program.
 type Stop = Failure<LogsRefused, LogFault>;
@@ -25,14 +26,31 @@ type Stop = Failure<LogsRefused, LogFault>;
 /// What is behind the name of the file in that of the new one, until that is renamed.
 const NEW: &str = ".new";
 
-/// For so many seconds a file stays as it is, at the least.
-const PERIOD: u64 = 1;
+/// It settles in a twentieth of the time, where that takes long for each line that came; what takes
+/// less than a twentieth of a second is done at once.
+const SETTLING: Pace = Pace {
+    times: 20,
+    least: 0,
+    ahead: SECOND,
+    due: 0,
+};
+
+/// The file is written in a fiftieth of the time, and at most once a second.
+const KEEPING: Pace = Pace {
+    times: 50,
+    least: SECOND,
+    ahead: 0,
+    due: 0,
+};
 
 /// A log that is followed, and where its lines are kept, if they are to be.
 #[derive(Drop)]
 pub struct FollowedLog {
     pub(crate) follower: Follower,
     keeper: Option<Keeper>,
+    settling: Pace,
+    /// Whether bytes have come since something was told: where none have, the log has ended.
+    has_grown: bool,
 }
 
 /// The file in which lines are kept.
@@ -41,10 +59,11 @@ struct Keeper {
     file: String,
     /// The name of the new file.
     new_file: String,
-    /// How many lines had been taken of what it has when that had settled last.
+    /// How many lines had been taken of what it has.
+    taken: u64,
+    /// How many of them had come when that had settled last.
     settled: u64,
-    /// When it is to be written next, at the earliest.
-    due: Duration,
+    pace: Pace,
 }
 
 impl FollowedLog {
@@ -68,10 +87,7 @@ impl FollowedLog {
             }
             None => {
                 let follower = Follower::new(alloc, asked, behind)?;
-                Ok(FollowedLog {
-                    follower,
-                    keeper: None,
-                })
+                Ok(FollowedLog::new(follower, None))
             }
         }
     }
@@ -91,10 +107,50 @@ impl FollowedLog {
         let text = read_kept(rt, alloc, file)?;
         let follower = restored(alloc, asked, behind, &text)?;
         let keeper = Keeper::new(alloc, file)?;
-        Ok(FollowedLog {
+        Ok(FollowedLog::new(follower, Some(keeper)))
+    }
+
+    /// A log of which nothing has been told.
+    fn new(follower: Follower, keeper: Option<Keeper>) -> Self
+        ensures { result.follower ≡ follower }
+    {
+        FollowedLog {
             follower,
-            keeper: Some(keeper),
-        })
+            keeper,
+            settling: SETTLING,
+            has_grown: false,
+        }
+    }
+
+    /// Reads on. An error says that memory was refused.
+    pub(crate) fn feed(&mut self, bytes: &[u8]) -> Result<(), AllocError>
+        ensures { OnOk result ((asked : AuditArguments) → (start : Start)
+            → (before told : List ℕ) → HasFollowed asked start self.old.follower before told
+            → HasFollowed asked start self.new.follower (before ++ bytes.now) told) }
+    {
+        self.has_grown = true;
+        self.follower.feed(bytes)
+    }
+
+    /// What is to be said before more is read, as [`Follower::tell`] has it. Where it takes long to
+    /// find that for the lines that came, it has time, but at the end of the log.
+    pub(crate) fn tell<R: Clock>(&mut self, rt: &R, is_idle: bool) -> Result<Said, AllocError>
+        ensures { IfOk result (λ said. (asked : AuditArguments) → (start : Start)
+            → (bytes told : List ℕ) → HasFollowed asked start self.old.follower bytes told
+            → HasFollowed asked start self.new.follower bytes (told ++ string_bytes said.text)) }
+    {
+        let unsettled = self.follower.unsettled();
+        let has_time = self.has_grown && !unsettled.are_enough(is_idle);
+        let is_time = unsettled.are_awaited(is_idle);
+        self.has_grown = false;
+        if !has_time {
+            return self.follower.tell_if(is_time);
+        }
+        let begun = moment(rt);
+        let is_due = self.settling.is_due(begun);
+        let said = self.follower.tell_if(is_time && is_due)?;
+        self.settling.note(begun, moment(rt));
+        Ok(said)
     }
 
     /// How many lines have been taken, those that were kept not counted.
@@ -114,8 +170,8 @@ impl FollowedLog {
         Ok(self)
     }
 
-    /// Keeps the lines that yet matter, if it has settled since they were kept and a second has
-    /// passed.
+    /// Keeps the lines that yet matter, if more were taken or it has settled since they were kept,
+    /// and it is time to.
     fn keep_now<R: Files + Clock>(&mut self, rt: &R) -> Result<(), Stop>
         ensures follower { self.new.follower ≡ self.old.follower }
         ensures stops { IfErr result (λ fault. (fault ≡ Failure.Memory) ⊎ (fault ≡ Failure.Writing)) }
@@ -123,13 +179,14 @@ impl FollowedLog {
         let Some(keeper) = &mut self.keeper else {
             return Ok(());
         };
-        let settled = self.follower.settled_count();
-        if keeper.is_due(rt, settled) {
+        let begun = moment(rt);
+        if keeper.is_due(&self.follower, begun) {
             let Ok(text) = self.follower.kept()? else {
                 return Err(Failure::Writing);
             };
             keeper.write(rt, &text)?;
-            keeper.settled = settled;
+            keeper.note(&self.follower);
+            keeper.pace.note(begun, moment(rt));
         }
         Ok(())
     }
@@ -177,25 +234,22 @@ impl Keeper {
         Ok(Keeper {
             file: String::from_str(alloc, file)?,
             new_file,
+            taken: 0,
             settled: 0,
-            due: Duration::ZERO,
+            pace: KEEPING,
         })
     }
 
-    /// Whether it is time to write the file of a log that had taken so many lines when it settled
-    /// last. Where the clock cannot be read it is.
-    fn is_due<R: Clock>(&mut self, rt: &R, settled: u64) -> bool {
-        if self.settled == settled {
-            return false;
-        }
-        let Ok(now) = rt.monotonic() else {
-            return true;
-        };
-        if now < self.due {
-            return false;
-        }
-        self.due = now.saturating_add(Duration::from_secs(PERIOD));
-        true
+    /// Whether the file has not all of a log that is followed, and it is time to write it.
+    fn is_due(&self, log: &Follower, now: Option<u64>) -> bool {
+        let has_all = self.taken == log.line_count() && self.settled == log.settled_count();
+        !has_all && self.pace.is_due(now)
+    }
+
+    /// Notes that the file has all of a log that is followed.
+    fn note(&mut self, log: &Follower) {
+        self.taken = log.line_count();
+        self.settled = log.settled_count();
     }
 
     /// Writes the file, whole or not at all.

@@ -1,7 +1,7 @@
 //! An audit that follows a log as it grows.
 
 ghost use Rattle.std.specs.Prelude.{◌≡◌, ◌++◌, ℕ, [], Bool, IfOk, List, OnOk, false, true};
-ghost use Rattle.std.specs.Prelude.{◌<◌, Option, Result, option_map, string_bytes};
+ghost use Rattle.std.specs.Prelude.{◌-◌, ◌<◌, Option, Result, option_map, string_bytes};
 ghost use Rattle.fdb_log_reader.specs.ReadLine.{SaidLine};
 ghost use Rattle.fdb_log_reader.specs.declared.error.Why.{Why};
 ghost use Rattle.fdb_audit.specs.Following.{Start, fresh, left_out, start_with};
@@ -20,14 +20,12 @@ use crate::read_back::{kept_in_order, refusal_of};
 use crate::refused::KeptRefused;
 use crate::taking::Taking;
 use crate::teller::Teller;
+use crate::unsettled::Unsettled;
 use fdb_lines::{KeyWatch, laws};
 use fdb_log_reader::laws::{a_space_more_is_of_one_line, keys_stay_in_one_member};
 use fdb_log_reader::{LineReader, ReadError, Why};
 use std::alloc::{AllocError, Global};
 use std::mem::replace;
-
-/// After so many lines a watch settles, if more is there to be read.
-const STRIDE: u64 = 8_192;
 
 /// An audit that follows a log as it grows: it tells each stale read, and each version that is drawn
 /// and not above what was known, once, as soon as that is certain. It keeps the lines that may yet
@@ -191,8 +189,22 @@ impl Follower {
             → (bytes warned : List ℕ) → HasSaid asked start self.old bytes warned
             → HasSaid asked start self.new bytes (warned ++ string_bytes said.warnings)) }
     {
-        let unsettled = self.taking.unsettled;
-        self.settle_if(unsettled >= STRIDE || (is_idle && unsettled > 0))?;
+        let is_time = self.taking.unsettled.are_awaited(is_idle);
+        self.tell_if(is_time)
+    }
+
+    /// What is to be said before more is read: what has become certain, if it is time to find that.
+    /// Where no line that is not judged began before, nothing has.
+    pub(crate) fn tell_if(&mut self, is_time: bool) -> Result<Said, AllocError>
+        ensures told { IfOk result (λ said. (asked : AuditArguments) → (start : Start)
+            → (bytes told : List ℕ) → HasFollowed asked start self.old bytes told
+            → HasFollowed asked start self.new bytes (told ++ string_bytes said.text)) }
+        ensures said { IfOk result (λ said. (asked : AuditArguments) → (start : Start)
+            → (bytes warned : List ℕ) → HasSaid asked start self.old bytes warned
+            → HasSaid asked start self.new bytes (warned ++ string_bytes said.warnings)) }
+    {
+        let is_due = self.taking.unsettled.is_due(self.certain_to());
+        self.settle_if(is_time && is_due)?;
         Ok(self.say())
     }
 
@@ -239,6 +251,18 @@ impl Follower {
         self.taking.settled
     }
 
+    /// The lines that have come since it settled.
+    pub(crate) fn unsettled(&self) -> Unsettled {
+        self.taking.unsettled
+    }
+
+    /// The moment before which no line that comes may begin.
+    fn certain_to(&self) -> u64
+        ensures { result ≡ self.now.taking.newest - self.now.behind }
+    {
+        self.taking.newest.saturating_sub(self.behind)
+    }
+
     /// Settles, if it is time to.
     fn settle_if(&mut self, is_time: bool) -> Result<(), AllocError>
         ensures reader { self.new.reader ≡ self.old.reader }
@@ -265,12 +289,12 @@ impl Follower {
             (SettlesOn self.old.behind self.old.taking self.new.taking) }
         ensures behind { self.new.behind ≡ self.old.behind }
     {
-        let at = self.taking.newest.saturating_sub(self.behind);
+        let at = self.certain_to();
         let told = self.taking.watch.settle(self.alloc, at)?;
         self.teller
             .tell_all(self.alloc, &self.reader, &self.taking, &told)?;
         self.taking.rows.let_go_all(&told);
-        self.taking.note_settled();
+        self.taking.note_settled(&told);
         Ok(())
     }
 

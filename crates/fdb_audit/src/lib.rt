@@ -23,6 +23,7 @@ pub mod laws;
 mod listing;
 mod numbering;
 mod object;
+mod pace;
 mod passing;
 mod printer;
 mod read_back;
@@ -34,6 +35,7 @@ mod taking;
 mod teller;
 mod told_faults;
 mod totals;
+mod unsettled;
 mod warning;
 
 pub use arguments::{AuditArguments, member_names};

@@ -15,8 +15,9 @@ ghost use Rattle.fdb_lines.specs.ToldByKey.{audited_to};
 use crate::counts::{Came, Counts};
 use crate::numbering::Numbering;
 use crate::rows::Rows;
+use crate::unsettled::Unsettled;
 use crate::warning::{EarlyLine, Warning, push_warning};
-use fdb_lines::{KeyWatch, Line, WatchError, laws};
+use fdb_lines::{KeyWatch, Line, SettledKey, WatchError, laws};
 use fdb_log_reader::{ReadError, ReadLine, Why};
 use std::alloc::{AllocError, Global};
 
@@ -34,8 +35,8 @@ pub(crate) struct Taking {
     pub(crate) settled: u64,
     /// The newest moment at which a call has ended.
     pub(crate) newest: u64,
-    /// How many lines came since it settled.
-    pub(crate) unsettled: u64,
+    /// The lines that came since it settled.
+    pub(crate) unsettled: Unsettled,
     /// The last line that was refused, if one was.
     pub(crate) refused: Option<ReadError>,
     /// What is to be said on standard error next.
@@ -79,7 +80,7 @@ impl Taking {
             taken: 0,
             settled: 0,
             newest: 0,
-            unsettled: 0,
+            unsettled: Unsettled::new(),
             refused: None,
             warnings: String::new(alloc),
         })
@@ -173,12 +174,12 @@ impl Taking {
         let told = self.watch.settle(self.alloc, at)?;
         self.rows.let_go_all(&told);
         laws::all_is_told_up_to_where_it_settled();
-        self.note_settled();
+        self.note_settled(&told);
         Ok(())
     }
 
-    /// Notes that it has settled.
-    pub(crate) fn note_settled(&mut self)
+    /// Notes that it has settled, and told this.
+    pub(crate) fn note_settled(&mut self, told: &[SettledKey])
         ensures taken { (start : Start) → (lines : List (Result SaidLine Why))
             → (told : List Found) → AreTaken start (noted self.old) lines told
             → AreTaken start self.new lines told }
@@ -186,7 +187,7 @@ impl Taking {
         ensures counts { self.new.counts ≡ self.old.counts }
         ensures warnings { self.new.warnings ≡ self.old.warnings }
     {
-        self.unsettled = 0;
+        self.unsettled = Unsettled::since(self.watch.settled_to(), told);
         self.settled = self.taken;
     }
 
@@ -261,7 +262,7 @@ impl Taking {
     {
         let from = self.watch.settled_to();
         self.newest = self.newest.max(line.ended().unwrap_or(0));
-        self.unsettled = self.unsettled.saturating_add(1);
+        self.unsettled.add(line.began());
         self.taken += 1;
         let number = self.line_count();
         self.counts.add(line, from, Came { number, is_judged });

@@ -4,12 +4,12 @@ use Rattle.fdb_audit.specs.Watched.{HasFollowed}
 use Rattle.fdb_audit.proofs.audit_program.tell_of.Goals as goal
 
 pub returns-clause-told : goal.returns-clause-told
-returns-clause-told c = λ asked bytes told (behind, follows, kept, for, has).
+returns-clause-told g c = λ asked bytes told (behind, follows, kept, for, has).
     let same : c.into_bytes.result.items ≡ string_bytes c.in_ok-text.field-0.text = ap (λ (v : Vec ℕ Global). v.items) c.into_bytes.ensures.value in (
       behind,
       follows,
       kept,
       for,
-      subst (λ text. HasFollowed asked (started asked behind kept) c.tell.new.self (kept ++ bytes) (told ++ text)) (sym same)
-          (c.in_ok-text.ensures.told asked (started asked behind kept) (kept ++ bytes) told has),
+      subst (λ text. HasFollowed asked (started asked behind kept) c.tell.new.self.follower (kept ++ bytes) (told ++ text)) (sym same)
+          (c.in_ok-text.ensures asked (started asked behind kept) (kept ++ bytes) told has),
     )

@@ -28,6 +28,6 @@ returns-in_ok-feed-in-Followed-clause-taken c = λ options before told has.
       follows,
       kept,
       for,
-      subst (λ text. HasFollowed options (started options behind kept) c.feed-in-Followed.new.self text told) (append_assoc kept before bytes)
-          (c.in_ok-feed-in-Followed.ensures.followed options (started options behind kept) (kept ++ before) told is),
+      subst (λ text. HasFollowed options (started options behind kept) c.feed-in-Followed.new.self.follower text told) (append_assoc kept before bytes)
+          (c.in_ok-feed-in-Followed.ensures options (started options behind kept) (kept ++ before) told is),
     )

@@ -14,14 +14,14 @@ pub returns-clause-told : goal.returns-clause-told
 returns-clause-told c = λ asked start read told is.
     let old = c.args.self.now in
     let watch = old.taking.watch in
-    let to = Some (max watch.from c.saturating_sub-at.result) in
+    let to = Some (max watch.from c.certain_to-at.result) in
     let lines = lines_taken read in
     let keys = keys_taken read in
     let entries = c.in_ok-told.told.items in
     let faults = start.told ++ told_in_all read is.windows in
     settled start asked old _ read told (told_by_all entries) is refl
     (c.note_settled.ensures.taken start read (faults ++ told_by_all entries)
-    (settled_taken start old.taking _ read faults (told_by_all entries) old.behind c.saturating_sub-at.result is.taken is.behind c.saturating_sub-at.ensures
+    (settled_taken start old.taking _ read faults (told_by_all entries) old.behind c.certain_to-at.result is.taken is.behind c.certain_to-at.ensures
     (c.settle.ensures.seen lines keys is.taken.seen) c.in_ok-told.ensures.settled
     (c.in_ok-told.ensures.once lines keys faults is.taken.seen) refl refl refl refl refl refl))
     (ap (λ (watch : KeyWatch). watch.margin) c.note_settled.ensures.watch ∙ c.settle.ensures.margin.0)
@@ -41,7 +41,7 @@ returns-clause-taken c =
           let keys = keys_taken read in (
             told_by_all entries,
             c.note_settled.ensures.taken start read (told ++ told_by_all entries)
-                (settled_taken start old.taking _ read told (told_by_all entries) old.behind c.saturating_sub-at.result are behind c.saturating_sub-at.ensures
+                (settled_taken start old.taking _ read told (told_by_all entries) old.behind c.certain_to-at.result are behind c.certain_to-at.ensures
                 (c.settle.ensures.seen lines keys are.seen) c.in_ok-told.ensures.settled
                 (c.in_ok-told.ensures.once lines keys told are.seen) refl refl refl refl refl refl),
           );

@@ -1,7 +1,7 @@
 use Rattle.std.proofs.Common.{◌++◌, ◌∙◌, ap, string_bytes, sym}
 use Rattle.fdb_log_reader.specs.LineReader.{lines_on, names_on}
 use Rattle.fdb_audit.proofs.SaidOn.{said_next}
-use Rattle.fdb_audit.proofs.follower.Follower.tell.Goals as goal
+use Rattle.fdb_audit.proofs.follower.Follower.tell_if.Goals as goal
 
 pub returns-clause-told : goal.returns-clause-told
 returns-clause-told c = λ asked start bytes told has.
