@@ -8,7 +8,7 @@ from audit_lines import lines_of, refusal
 from audit_model import Log, Reason, Witness, options_of, printed
 from audit_right import why_wrong
 from audit_search import text_of
-from follow_model import asked_of, judged_as, name_in
+from follow_model import SAID_LAST, asked_of, judged_as, name_in
 from follow_model import why_wrong as why_wrong_of_watch
 from harness import Ran, fault_of
 from reader import Refused
@@ -168,8 +168,7 @@ def refused_audits(_program):
 def said_of(refused):
     """What the program says of a log that is refused, or of which lines came early."""
     if refused.status == bindings.package().Status.UNJUDGED:
-        at = f"Early {refused.line}: it began before what had been settled"
-        return f"fdb_audit: logs refused: {at}\n"
+        return f"fdb_audit: {SAID_LAST.format(refused.line)}\n"
     member = f" {refused.member.name.lower()}" if refused.member else ""
     why = refusal(refused.line, f"{named(refused.status)}{member}")
     return f"fdb_audit: logs refused: {why}\n"

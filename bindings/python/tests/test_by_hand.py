@@ -671,6 +671,23 @@ class OfWatches(unittest.TestCase):
         self.assertEqual(self.early(first, TIMED % (105, 106)).end(), Status.OK)
         self.assertEqual(str(LogRefused(Status.UNJUDGED, 7)), "UNJUDGED 7")
 
+    def followed(self, *pieces, behind):
+        """The status, the output and the errors of the program that follows a log of these pieces."""
+        with mock.patch.object(program.os, "read", side_effect=[*map(str.encode, pieces), b""]):
+            with mock.patch.object(program, "_write") as written:
+                with contextlib.redirect_stderr(io.StringIO()) as said:
+                    status = program.main(["--follow", behind])
+        return status, "".join(it.args[0] for it in written.call_args_list), said.getvalue()
+
+    def test_the_program(self):
+        ended = self.followed(TIMED % (90, 110), TIMED % (100, 101), behind="5")
+        said = CAME % (2, 5, 1) + "fdb_read_version: UNJUDGED 2\n"
+        self.assertEqual(ended, (1, ALL_EARLY % (2, 2, 0, 1), said))
+        # What was told before memory is refused is not told again.
+        with mock.patch.object(Watch, "end", side_effect=Refused(Status.MEMORY)):
+            ended = self.followed(STALE, behind="0")
+        self.assertEqual(ended, (3, SAID % (2, 2), "fdb_read_version: MEMORY\n"))
+
 
 if __name__ == "__main__":
     unittest.main()

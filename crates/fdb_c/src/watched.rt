@@ -204,23 +204,12 @@ fn status_at_end(
     }
     match left_out {
         Some(error) => refuse(error, refused),
-        None => status_of_early(last_early, refused),
-    }
-}
-
-/// Whether lines came early: then the number of the last of them is told.
-fn status_of_early(last_early: Option<u64>, refused: &mut FdbRefused) -> u8
-    ensures ok { (result ≡ FDB_OK) → last_early ≡ None }
-    ensures unjudged { (result ≡ FDB_UNJUDGED) → (number : ℕ) × (last_early ≡ Some number)
-        × (refused.new ≡ unjudged_at number) }
-    ensures untold { (result ≢ FDB_UNJUDGED) → refused.new ≡ refused.old }
-    ensures statuses { (result ≡ FDB_OK) ⊎ (result ≡ FDB_UNJUDGED) }
-{
-    match last_early {
-        Some(line) => {
-            *refused = FdbRefused { line, member: 0 };
-            FDB_UNJUDGED
-        }
-        None => FDB_OK,
+        None => match last_early {
+            Some(line) => {
+                *refused = FdbRefused { line, member: 0 };
+                FDB_UNJUDGED
+            }
+            None => FDB_OK,
+        },
     }
 }

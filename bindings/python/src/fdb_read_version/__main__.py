@@ -11,7 +11,6 @@ from . import Audit, LogRefused, Refused, Status, Watch
 # (2 is argparse's, of words that are refused)
 _FINE, _LOG_REFUSED, _NO_MEMORY, _FAULT, _NO_STREAM = 0, 1, 3, 4, 5
 
-
 # The most bytes that are read at once of a log that is followed.
 _PIECE = 65_536
 
@@ -59,9 +58,12 @@ def _followed(given: argparse.Namespace, asked: Dict[str, Any]) -> Status:
             _said(watch)
             piece = os.read(log.fileno(), _PIECE)
         try:
-            return watch.end()
-        finally:
+            status = watch.end()
+        except LogRefused:
             _said(watch)
+            raise
+        _said(watch)
+    return status
 
 
 def _count(text: str) -> int:
@@ -76,8 +78,8 @@ def main(words: Optional[List[str]] = None) -> int:
         prog="python -m fdb_read_version",
         allow_abbrev=False,
         description="Audits a log of read versions and commit versions.",
-        epilog="Exit status: 0 no fault, 1 the log is refused, 2 the words are, 3 want of memory, "
-        "4 a fault, 5 reading or writing failed.",
+        epilog="Exit status: 0 no fault, 1 the log is refused or lines came early, 2 the words are "
+        "refused, 3 want of memory, 4 a fault, 5 reading or writing failed.",
     )
     reader.add_argument(
         "log", metavar="LOG", nargs="?", default="-", help="its file, JSON Lines; - is standard input"
