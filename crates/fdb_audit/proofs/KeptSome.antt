@@ -1,18 +1,18 @@
 -- Of lines that had come when a watch settled, and of which one has ended, one that has ended is kept.
-use Rattle.std.proofs.Common.{◌≡◌, ◌∙◌, ℕ, zero, suc, ◌+◌, ◌<◌, ◌≤◌, nat_lt, ◌⊎◌, inl, inr, Bool, true, false, cond, List, [], ◌∷◌, ◌++◌, Option, None, Some, IfSome, IsTrue, ap, arith, length, map, max, refl, slice_index, subst, sym, take, unwrap_or}
+use Rattle.std.proofs.Common.{◌≡◌, ◌∙◌, ℕ, zero, suc, ◌+◌, ◌<◌, ◌≤◌, inl, inr, Bool, true, false, cond, List, [], ◌∷◌, Option, None, Some, IfSome, IsTrue, ap, arith, length, max, refl, slice_index, subst, sym, unwrap_or}
 use Rattle.std.specs.List.{All, filter}
 use Rattle.std.proofs.lemmas.Bool.{cases_lt, false≢true}
 use Rattle.std.proofs.lemmas.Bool.Decides.{nat_tests}
 use Rattle.std.proofs.lemmas.List.{get_or-map, length-map}
 use Rattle.std.proofs.lemmas.List.Elements.{All-filter, All-from_get_or, filter_passes}
-use Rattle.std.proofs.lemmas.Option.{none-some, same_Some}
+use Rattle.std.proofs.lemmas.Option.{none-some}
 use Rattle.fdb_lines.specs.declared.line.Line.{Line}
 use Rattle.fdb_lines.specs.declared.line.Times.{Times}
 use Rattle.fdb_lines.specs.Before.{began, began_of, ended, ended_of}
-use Rattle.fdb_lines.specs.Carried.{IsAmong, IsCovered, MayGo, is_past, past_by}
+use Rattle.fdb_lines.specs.Carried.{is_past, past_by}
 use Rattle.fdb_lines.specs.KeyParts.{lines_of_one}
 use Rattle.fdb_lines.specs.Keys.{key_at, place_among, places_below, places_of, same_key}
-use Rattle.fdb_lines.specs.Lines.{kind_of, line_at, lines_in}
+use Rattle.fdb_lines.specs.Lines.{kind_of, line_at}
 use Rattle.fdb_lines.specs.Reasons.{shows_or_draws}
 use Rattle.fdb_lines.specs.StandByKey.{StandForByKey, kept_of}
 use Rattle.fdb_lines.proofs.Carried.{at_part}

@@ -11,7 +11,7 @@ use Rattle.fdb_lines.specs.Before.{began, began_of}
 use Rattle.fdb_lines.specs.Lines.{line_at}
 use Rattle.fdb_log_reader.specs.declared.error.Why.{Why}
 use Rattle.fdb_log_reader.specs.LineReader.{AreMore, AreMoreKeys}
-use Rattle.fdb_log_reader.specs.Named.{Named, client_named, key_named, named_if, named_said}
+use Rattle.fdb_log_reader.specs.Named.{Named, named_if, named_said}
 use Rattle.fdb_log_reader.specs.Numbers.{IsMore}
 use Rattle.fdb_log_reader.specs.ReadLine.{IsNumbered, LineNames, MemberNames, SaidLine, line_in, line_read, lines_read, names_after, names_behind}
 use Rattle.fdb_audit.specs.Following.{early_at, keys_taken, lines_taken, taken}

@@ -1,8 +1,8 @@
 -- What the text of a watch that stopped says of when: up to when all had been told, and that no line of it came early.
-use Rattle.std.proofs.Common.{◌≡◌, ◌∙◌, ℕ, zero, suc, ◌+◌, ◌-◌, ◌<◌, ◌≤◌, nat_lt, ◌||◌, Bool, true, false, cond, not, List, [], ◌∷◌, ◌++◌, IsPermutation, IsTrue, Option, None, Some, IfOk, Result, Ok, Err, ap, arith, drop, get_or, inl, inr, length, map, option_map, refl, slice_index, string_bytes, subst, sym, take, if◌then◌else◌}
+use Rattle.std.proofs.Common.{◌≡◌, ◌∙◌, ℕ, zero, suc, ◌+◌, ◌-◌, ◌<◌, ◌≤◌, nat_lt, Bool, true, false, cond, List, [], ◌∷◌, IsPermutation, IsTrue, Option, Result, Ok, Err, ap, arith, drop, inl, inr, length, map, option_map, refl, slice_index, string_bytes, subst, sym, take, if◌then◌else◌}
 use Rattle.std.specs.List.{All, flat_map}
 use Rattle.std.specs.Prelude.{count_by, slice_index_or}
-use Rattle.std.proofs.lemmas.Bool.{cases_lt, false≢true}
+use Rattle.std.proofs.lemmas.Bool.{cases_lt}
 use Rattle.std.proofs.lemmas.Bool.Decides.{nat_tests}
 use Rattle.std.proofs.lemmas.List.{get_or_default, get_or-drop, get_or-take, length-drop, length-map, length-take}
 use Rattle.std.proofs.lemmas.List.Elements.{All-drop, All-from_get_or}
@@ -11,7 +11,6 @@ use Rattle.fdb_lines.specs.declared.fault.Found.{Found}
 use Rattle.fdb_lines.specs.declared.key_part.KeyPart.{KeyPart}
 use Rattle.fdb_lines.specs.declared.key_watch.KeyWatch.{KeyWatch}
 use Rattle.fdb_lines.specs.declared.line.Line.{Line}
-use Rattle.fdb_lines.specs.declared.line.Operation.{Operation}
 use Rattle.fdb_lines.specs.Before.{began, began_of, ended}
 use Rattle.fdb_lines.specs.KeyWatch.{HasSeenByKey}
 use Rattle.fdb_lines.specs.Lines.{kind_of, line_at, nobody}
@@ -23,8 +22,8 @@ use Rattle.fdb_log_reader.specs.ReadLine.{SaidLine, no_names}
 use Rattle.fdb_log_reader.specs.Reading.{lines_in}
 use Rattle.fdb_audit.specs.declared.arguments.AuditArguments.{AuditArguments}
 use Rattle.fdb_audit.specs.declared.taking.Taking.{Taking}
-use Rattle.fdb_audit.specs.Following.{Start, early_at, keys_taken, lines_taken, newest_end, taken}
-use Rattle.fdb_audit.specs.Kept.{KeptSaid, Keeps, Rise, kept_said, lines_kept, named_at, start_of}
+use Rattle.fdb_audit.specs.Following.{Start, early_at, keys_taken, lines_taken, taken}
+use Rattle.fdb_audit.specs.Kept.{KeptSaid, Keeps, Rise, named_at, start_of}
 use Rattle.fdb_audit.specs.Taken.{AreTaken}
 use Rattle.fdb_audit.specs.Watched.{lines_asked, names_asked}
 use Rattle.fdb_audit.proofs.Calls.{IsCall, calls_asked}
@@ -32,7 +31,7 @@ use Rattle.fdb_audit.proofs.Following.{counted}
 use Rattle.fdb_audit.proofs.KeptSome.{one_ended, one_kept}
 use Rattle.fdb_audit.proofs.KeptTexts.{as_many, drop_mapped, none_at}
 use Rattle.fdb_audit.proofs.ReadOn.{early_named, in_time, taken_all}
-use Rattle.fdb_audit.proofs.SameBut.{line_is, line_of, none_said, said_at}
+use Rattle.fdb_audit.proofs.SameBut.{line_is, line_of, none_said}
 
 -- ---- of places that rise, those from one on
 
@@ -65,6 +64,12 @@ count_none_of test named (place ∷ places) none =
 
 not_before : (come place : ℕ) → come ≤ place → nat_lt place come ≡ false
 not_before come place le = grind (arith, nat_tests)
+
+-- where each line began at a moment or later, none began before
+pub none_before : (at : ℕ) (lines : List Line) → ((j : ℕ) → j < length lines → at ≤ began (line_at lines j)) → early_at at lines ≡ 0
+none_before at lines late =
+    count_none (λ (line : Line). nat_lt (began line) at) lines
+    (All-from_get_or (λ (line : Line). nat_lt (began line) at ≡ false) lines nobody (λ j lt. not_before at (began (line_at lines j)) (late j lt)))
 
 fewer : (come : ℕ) (xs : List ℕ) → Rise xs → All (λ x. come ≤ x) (drop (count_by (λ x. nat_lt x come) xs) xs)
 fewer come [] rise = λ k d lt. absurd (omega (arith, lt))

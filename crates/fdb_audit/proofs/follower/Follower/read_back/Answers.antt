@@ -23,8 +23,8 @@ returns c = λ start read told are.
     let were : All (IsKept (lines_taken read) (keys_taken read)) c.deref-2.result.now = subst (λ (list : List KeptLine). All (IsKept (lines_taken read) (keys_taken read)) list) (sym same) each in
     let said : kept_said (lines_kept key (string_bytes c.in_ok-text.text)) ≡ kept_at start.numbers read (map number_of kept) taking.settled taking.watch.from =
     ap (λ (text : List ℕ). kept_said (lines_kept key text)) (sym c.as_bytes.ensures.value)
-          ∙ (c.in_ok-refused.ensures.said c.in-None.is start read told are were
-          ∙ ap (λ (list : List KeptLine). kept_at start.numbers read (map number_of list) taking.settled taking.watch.from) same) in
+    ∙ (c.in_ok-refused.ensures.said c.in-None.is start read told are were
+    ∙ ap (λ (list : List KeptLine). kept_at start.numbers read (map number_of list) taking.settled taking.watch.from) same) in
     let rises : Rise (kept_said (lines_kept key (string_bytes c.in_ok-text.text))).numbers.numbers =
     subst (λ (text : List ℕ). Rise (kept_said (lines_kept key text)).numbers.numbers) c.as_bytes.ensures.value (c.in_ok-refused.ensures.rise c.in-None.is) in
     record {

@@ -1,4 +1,4 @@
-use Rattle.std.proofs.Common.{◌≡◌, ◌∙◌, ◌++◌, ◌≤◌, ◌+◌, [], ℕ, List, Result, ap, arith, drop, false, length, map, max, min, refl, subst, sym, take}
+use Rattle.std.proofs.Common.{◌≡◌, ◌∙◌, ◌++◌, ◌≤◌, [], ℕ, List, Result, ap, arith, drop, false, length, map, max, min, refl, subst, sym, take}
 use Rattle.std.proofs.lemmas.Bool.{false≢true}
 use Rattle.std.proofs.lemmas.List.{drop_all, length-map, map-append, take-append-drop}
 use Rattle.fdb_lines.specs.ToldByKey.{audited_to}
