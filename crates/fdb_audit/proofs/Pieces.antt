@@ -1,5 +1,5 @@
 -- A log that is watched in pieces is told as by one watch.
-use Rattle.std.proofs.Common.{◌≡◌, ◌∙◌, ℕ, ◌-◌, ◌<◌, ◌≤◌, false, List, [], ◌∷◌, ◌++◌, IsPermutation, Option, Result, ap, append_assoc, arith, drop, length, length-append, map, option_map, refl, slice_index, string_bytes, subst, sym, take}
+use Rattle.std.proofs.Common.{◌≡◌, ◌∙◌, ℕ, ◌-◌, ◌<◌, ◌≤◌, false, List, [], ◌∷◌, ◌++◌, IsPermutation, Option, Result, ap, append-nil, append_assoc, arith, drop, length, length-append, map, option_map, refl, slice_index, string_bytes, subst, sym, take}
 use Rattle.std.specs.List.{All, flat_map, range_with_len}
 use Rattle.std.specs.Prelude.{count_by, nat_lt, IfOk}
 use Rattle.std.proofs.lemmas.List.{length-map, map-append, take-append-drop}
@@ -24,14 +24,15 @@ use Rattle.fdb_log_reader.specs.ReadLine.{IsNumbered, LineNames, SaidLine, are_f
 use Rattle.fdb_log_reader.specs.Reading.{EndsALine, lines_in}
 use Rattle.fdb_audit.specs.declared.arguments.AuditArguments.{AuditArguments}
 use Rattle.fdb_audit.specs.declared.taking.Taking.{Taking}
-use Rattle.fdb_audit.specs.Following.{Start, early_at, keys_taken, lines_since, lines_taken, taken}
+use Rattle.fdb_audit.specs.Following.{Start, early_at, keys_taken, lines_since, lines_taken, taken, told_in_all}
 use Rattle.fdb_audit.specs.Kept.{Keeps, kept_said, lines_kept, named, named_at, start_of}
-use Rattle.fdb_audit.specs.Pieces.{MayGoOn, audited_in, places_beyond}
+use Rattle.fdb_audit.specs.Pieces.{AreWatched, MayGoOn, Piece, all_bytes, audited_in, places_beyond}
 use Rattle.fdb_audit.specs.Taken.{AreTaken}
 use Rattle.fdb_audit.specs.Watched.{lines_asked, names_asked}
 use Rattle.fdb_audit.proofs.KeptTexts.{StaysInOne, early_on, member_asked, taken_on}
 use Rattle.fdb_audit.proofs.ReadOn.{all_front, all_grown, behind_on, drop_front, early_named, in_time, keys_taken_on, lines_taken_on, named_somes, numbered_at, read_on, somes, taken_all}
-use Rattle.fdb_audit.proofs.SaysWhen.{StandsForAll, none_early}
+use Rattle.fdb_audit.proofs.SaysWhen.{StandsForAll, none_before, none_early}
+use Rattle.fdb_audit.proofs.Settled.{drop_on}
 use Rattle.fdb_audit.proofs.SameBut.{DifferInNumbers, key_is, key_of, line_is, line_of, said_at, same_but}
 
 -- ---- what is known of lines and of watches
@@ -285,3 +286,52 @@ module _ (known : Known) (asked : AuditArguments) (start : Start) (behind : ℕ)
         (subst (IsPermutation (told ++ map (placed_found (keeps.places ++ range_with_len (length (lines_taken read)) (length (lines_taken more)))) now))
         ((λ i. audited (margin i) (lines i) (keys i))
         ∙ ap (λ (list : List (Result SaidLine Why)). audited asked.opts.margin (lines_taken list) (keys_taken list)) (sym (read_both known asked piece next goes.ends))) told_there)
+
+    -- nor has any line of both pieces come early
+    pub still_in_time : early_at start.from (lines_since start (lines_asked asked (piece ++ next))) ≡ 0
+    still_in_time =
+        let low = are.from in
+        let le : start.from ≤ on.from = omega (arith, low, from) in
+        let all : lines_since start (lines_asked asked (piece ++ next)) ≡ lines_taken (drop start.lines read ++ more) =
+        ap (λ (list : List (Result SaidLine Why)). lines_taken (drop start.lines list)) (read_both known asked piece next goes.ends) ∙ ap lines_taken (drop_on start.lines read more are.few) in
+        let both = ap (early_at start.from) all ∙ early_on start.from (drop start.lines read) more in
+        let none : early_at start.from (lines_taken more) ≡ 0 =
+        none_before start.from (lines_taken more) (λ j lt. let late = in_time on.from (lines_taken more) more_in_time j lt in omega (arith, le, late)) in
+        let was = are.late in
+        omega (arith, both, none, was, early)
+
+-- ---- any number of pieces
+
+abbrev AllTold : AuditArguments → Start → List ℕ → List Piece → List Found → Type 0
+AllTold asked start bytes pieces told =
+    IsPermutation (start.told ++ told) (audited_in asked (bytes ++ all_bytes pieces)) × (early_at start.from (lines_since start (lines_asked asked (bytes ++ all_bytes pieces))) ≡ 0)
+
+all_told : (known : Known) (asked : AuditArguments) (pieces : List Piece) (start : Start) (bytes : List ℕ) (told : List Found) → start.early ≡ 0
+    → AreWatched asked start bytes pieces told → AllTold asked start bytes pieces told
+all_told known asked [] start bytes told start_early (text, found, last_early, last, early, is) =
+    let whole = sym (append-nil bytes) in
+    let late = last.late in
+    let none : early_at start.from (lines_since start (lines_asked asked bytes)) ≡ 0 = omega (arith, late, early) in (
+      subst (λ bytes. IsPermutation (start.told ++ told) (audited_in asked bytes)) whole
+          (subst (λ told. IsPermutation (start.told ++ told) (audited_in asked bytes)) (sym is) (last.whole start_early early)),
+      subst (λ bytes. early_at start.from (lines_since start (lines_asked asked bytes)) ≡ 0) whole none,
+    )
+all_told known asked (piece ∷ pieces) start bytes told start_early (text, kept, found, last_early, one, early, goes, from, rest, others, is) =
+    let on = start_of asked piece.behind kept in
+    let next = piece.bytes ++ all_bytes pieces in
+    let none = sym one.early ∙ early in
+    let kept_early = none_early known.stand asked start piece.behind bytes kept one.taking one.taken one.keeps start_early none in
+    let (permuted, in_time) = all_told known asked pieces on (kept ++ piece.bytes) rest kept_early others in
+    let whole = append_assoc kept piece.bytes (all_bytes pieces) in
+    let late : early_at on.from (lines_since on (lines_asked asked (kept ++ next))) ≡ 0 = subst (λ bytes. early_at on.from (lines_since on (lines_asked asked bytes)) ≡ 0) whole in_time in
+    let all : IsPermutation (on.told ++ rest) (audited_in asked (kept ++ next)) = subst (λ bytes. IsPermutation (on.told ++ rest) (audited_in asked bytes)) whole permuted in
+    let first = told_in_all (lines_asked asked bytes) one.followed.windows in
+    let others_told = map (placed_found (places_beyond asked bytes next one.keeps.places)) rest in (
+      subst (λ told. IsPermutation told (audited_in asked (bytes ++ next))) (append_assoc start.told first others_told ∙ ap (λ (told : List Found). start.told ++ told) (sym is))
+          (told_as_by_one known asked start piece.behind bytes kept next one.taking (start.told ++ first) rest one.taken one.keeps goes one.margin from start_early none late all),
+      still_in_time known asked start piece.behind bytes kept next one.taking (start.told ++ first) rest one.taken one.keeps goes one.margin from start_early none late all,
+    )
+
+pub pieces_told : (known : Known) (asked : AuditArguments) (start : Start) (bytes : List ℕ) (pieces : List Piece) (told : List Found) → start.early ≡ 0
+    → AreWatched asked start bytes pieces told → IsPermutation (start.told ++ told) (audited_in asked (bytes ++ all_bytes pieces))
+pieces_told known asked start bytes pieces told start_early are = (all_told known asked pieces start bytes told start_early are).0

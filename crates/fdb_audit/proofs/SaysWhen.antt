@@ -65,6 +65,12 @@ count_none_of test named (place ∷ places) none =
 not_before : (come place : ℕ) → come ≤ place → nat_lt place come ≡ false
 not_before come place le = grind (arith, nat_tests)
 
+-- where each line began at a moment or later, none began before
+pub none_before : (at : ℕ) (lines : List Line) → ((j : ℕ) → j < length lines → at ≤ began (line_at lines j)) → early_at at lines ≡ 0
+none_before at lines late =
+    count_none (λ (line : Line). nat_lt (began line) at) lines
+    (All-from_get_or (λ (line : Line). nat_lt (began line) at ≡ false) lines nobody (λ j lt. not_before at (began (line_at lines j)) (late j lt)))
+
 fewer : (come : ℕ) (xs : List ℕ) → Rise xs → All (λ x. come ≤ x) (drop (count_by (λ x. nat_lt x come) xs) xs)
 fewer come [] rise = λ k d lt. absurd (omega (arith, lt))
 fewer come (x ∷ xs) rise = by (nat_lt x come) refl (fewer come xs (λ i j lt within. rise (suc i) (suc j) (omega (arith, lt)) (omega (arith, within))))

@@ -9,7 +9,8 @@ ghost use Rattle.fdb_audit.specs.declared.fault.LogFault.{LogFault};
 ghost use Rattle.fdb_audit.specs.declared.taking.Taking.{Taking};
 ghost use Rattle.fdb_audit.specs.Following.{early_at, lines_since, told_in_all, Start};
 ghost use Rattle.fdb_audit.specs.Kept.{start_of, IsStopped, Keeps};
-ghost use Rattle.fdb_audit.specs.Pieces.{audited_in, places_beyond, MayGoOn};
+ghost use Rattle.fdb_audit.specs.Pieces.{all_bytes, audited_in, places_beyond, AreWatched};
+ghost use Rattle.fdb_audit.specs.Pieces.{MayGoOn, Piece};
 ghost use Rattle.fdb_audit.specs.Taken.{AreTaken};
 ghost use Rattle.fdb_audit.specs.Watched.{lines_asked, names_asked, IsFollowed};
 
@@ -41,16 +42,18 @@ pub fn what_is_kept_says_when_all_was_told()
     what_a_watch_keeps_stands_for_all();
 }
 
-/// A log that is watched in pieces is told as by one watch. A watch stops where a line ends, and what
-/// it kept says up to when it had told all; another, with the same arguments, goes on from what it
-/// kept, over the lines that come then. Where no line came early, what the first has told and what the
-/// other tells, each fault at the place of its line among all lines, are together what an audit of all
-/// lines finds: nothing twice, and nothing lost.
+/// A log that is watched in pieces is told as by one watch, where no line came early: what all watches
+/// tell, each fault at the place of its line among all lines, is what an audit of all lines finds,
+/// nothing twice and nothing lost. A watch stops where a line ends, and what it kept says up to when it
+/// had told all; the next, with the same arguments, goes on from that, over what comes then.
 ///
-/// The first clause says so of two watches, of which the other ends. The second says so of whatever
-/// tells all there is to tell of the lines that were kept and those that come then, so that it goes
-/// for any number of pieces: each goes on from the one before, and the last ends.
+/// The first clause says so of any number of watches, and the second of two. The last says so of a
+/// watch and whatever tells all there is to tell of what that kept and of what comes then.
 pub fn a_log_watched_in_pieces_is_told_as_by_one_watch()
+    ensures pieces { (asked : AuditArguments) (start : Start) (bytes : List ℕ)
+        (pieces : List Piece) (told : List Found) → start.early ≡ 0
+        → AreWatched asked start bytes pieces told → IsPermutation (start.told ++ told)
+        (audited_in asked (bytes ++ all_bytes pieces)) }
     ensures two_watches { (asked : AuditArguments) (start : Start) (behind : ℕ)
         (piece kept next text text_too : List ℕ) (found found_too : Option LogFault)
         (last last_too : Option ℕ) → (one : IsStopped asked start piece text found last kept)
