@@ -119,8 +119,8 @@ def of_growing(_program):
             time.sleep(1)
             before = processor_of(growing.started)
             for at in range(COMING):
-                more = line("d", "commit", 10**12 + at, last + 10 * at)
-                growing.started.stdin.write(more.encode())
+                text = line("d", "commit", 10**12 + at, last + 10 * at)
+                growing.started.stdin.write(text.encode())
                 time.sleep(PAUSE)
             used = processor_of(growing.started) - before
             growing.started.stdin.close()
