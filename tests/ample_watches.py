@@ -154,16 +154,23 @@ def of_refused_lines(_program):
 def early(count):
     """Lines that begin before what was settled, which was settled as nothing more came for a while.
 
-    They come in the pieces of a pipe that keeps them apart, each of whole lines. It is said of the
-    first, and of each at which their number has doubled.
+    They come in the pieces of a pipe that keeps them apart, each of whole lines.
     """
     first = line(FAR, "commit", 5)
     rest = "".join(line(at, "read", at, "b") for at in range(count))
-    said = f"audit early {watched(count + 1, early=count, reads=count, commits=1)} judged 0"
+    return ["--follow", "0"], [first, rest], [
+        f"audit early {watched(count + 1, early=count, reads=count, commits=1)} judged 0"]
+
+
+def unjudged(count, said):
+    """How a watch ends that says this, of which so many lines came early.
+
+    It is said of the first, and of each at which their number has doubled.
+    """
     warned = [Warned(at + 2, 4 * FAR + 1 - 4 * at, at + 1)
               for at in range(count) if at + 1 & at == 0]
-    return ["--follow", "0"], [first, rest], Ran(
-        REFUSED, f"{said}\n".encode(), warned_of(*warned, SAID_LAST.format(count + 1)))
+    out = "".join(f"{it}\n" for it in said).encode()
+    return Ran(REFUSED, out, warned_of(*warned, SAID_LAST.format(count + 1)))
 
 
 def kept(count):
@@ -214,9 +221,10 @@ TABLES = (WATCHES, WARNED, EARLY, AGAIN)
 
 def of_early_lines(_program):
     """Lines that come early are counted, however many there are, and then not all was judged."""
-    for name, _, words, (first, rest), wanted in rows(EARLY):
+    for name, number, words, (first, rest), said in rows(EARLY):
         pieces = [first.encode(), *grouped(rest.encode().splitlines(True))]
-        yield name, fault_of(apart([PROGRAM, *words], pieces), wanted)
+        ran = apart([PROGRAM, *words], pieces)
+        yield name, fault_of(ran, unjudged(number, said))
 
 
 def of_kept_lines(_program):
