@@ -58,16 +58,24 @@ def written(folder, lines):
     return file
 
 
-def took(words, most=0):
-    """How a run ends, and the processor time that it takes, as `processor_time` has it."""
-    it, seconds = processor_time(lambda: spent([PROGRAM, *words], 100, 2**32), most)
+def took(words, most=0, kept=None):
+    """How a run ends, and the processor time that it takes, as `processor_time` has it.
+
+    Nothing is kept in a file of that name as a run begins.
+    """
+    def begun():
+        if kept and os.path.exists(kept):
+            os.remove(kept)
+        return spent([PROGRAM, *words], 100, 2**32)
+
+    it, seconds = processor_time(begun, most)
     return it.status, seconds
 
 
-def beside(wanted, usual, words, status):
+def beside(wanted, usual, words, status, kept=None):
     """What is wrong with a run beside one that takes so long, or None."""
     most = max(MOST * usual, FEW_SECONDS)
-    ended, seconds = took(words, most)
+    ended, seconds = took(words, most, kept)
     is_so = ended == status and seconds <= most
     return None if is_so else f"{wanted}: status {ended}, {seconds:.2f} s beside {usual:.2f} s"
 
@@ -96,8 +104,9 @@ def of_keeping(_program):
     with tempfile.TemporaryDirectory() as folder:
         words = ["--follow", "1000", "--key", "key", written(folder, of_own_keys())]
         _, usual = took(words)
-        words += ["--keep", f"{folder}/kept"]
-        yield "a key for each line", beside("kept", usual, words, OK)
+        kept = f"{folder}/kept"
+        words += ["--keep", kept]
+        yield "a key for each line", beside("kept", usual, words, OK, kept)
 
 
 def processor_of(process):
