@@ -685,6 +685,7 @@ mod tests {
                     let wanted = match other {
                         7 => LogError::Memory,
                         41 => LogError::Over,
+                        42 => LogError::Unjudged { line: 77 },
                         _ => LogError::Unknown(other),
                     };
                     assert_eq!(error_of(status, &refused(1)), wanted);
