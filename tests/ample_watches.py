@@ -8,7 +8,7 @@ from ample_audits import CHEAP, DEAR, FEW, LINES, MARGINS, NUMBERS, PROGRAM, REF
 from ample_audits import all_stale, at_moment, by_model, calls, clients, ends, keyed, line
 from ample_audits import long_names, rising, rows, stale, stale_and_shown, worked
 from follow import lines_kept, warned_of
-from follow_model import SAID_LAST, Warned
+from follow_model import SAID_AHEAD, SAID_LAST, Warned
 from harness import Ran, apart, fault_of, grouped, run
 
 # How far behind the newest end lines may begin where none is settled before the end.
@@ -151,15 +151,19 @@ def of_refused_lines(_program):
 # ---- lines that come early, and lines that are kept
 
 
+def settling(at, version, more=""):
+    """Two lines at a place, of clients that vouch for one another."""
+    return "".join(line(at, "read", version, it, more) for it in ("c", "d"))
+
+
 def early(count):
     """Lines that begin before what was settled, which was settled as nothing more came for a while.
 
     They come in the pieces of a pipe that keeps them apart, each of whole lines.
     """
-    first = line(FAR, "commit", 5)
     rest = "".join(line(at, "read", at, "b") for at in range(count))
-    return ["--follow", "0"], [first, rest], [
-        f"audit early {watched(count + 1, early=count, reads=count, commits=1)} judged 0"]
+    return ["--follow", "0"], [settling(FAR, 5), rest], [
+        f"audit early {watched(count + 2, early=count, reads=count + 2)} judged 0 ahead 1"]
 
 
 def unjudged(count, said):
@@ -167,19 +171,21 @@ def unjudged(count, said):
 
     It is said of the first, and of each at which their number has doubled.
     """
-    warned = [Warned(at + 2, 4 * FAR + 1 - 4 * at, at + 1)
-              for at in range(count) if at + 1 & at == 0]
+    first, *warned = [Warned(at + 3, 4 * FAR + 1 - 4 * at, at + 1)
+                      for at in range(count) if at + 1 & at == 0]
+    # The first also ended that long before those that vouch for one another.
+    warned = [first, Warned(3, 4 * FAR, 1, SAID_AHEAD), *warned]
     out = "".join(f"{it}\n" for it in said).encode()
-    return Ran(REFUSED, out, warned_of(*warned, SAID_LAST.format(count + 1)))
+    return Ran(REFUSED, out, warned_of(*warned, SAID_LAST.format(count + 2)))
 
 
 def kept(count):
     """Commits that are kept, since each may yet matter, and a stale read that comes later.
 
-    It is told as a line comes that ends so far behind it that none that comes begins before it.
+    It is told as lines come that end so far behind it that none that comes begins before it.
     """
     _, log, said = rising(count)
-    late = line(count, "read", count - 1, "b") + line(FAR, "read", count, "c")
+    late = line(count, "read", count - 1, "b") + settling(FAR, count)
     told = [f'audit fault: Order {count + 1}: client "b" read {count - 1}, but {count} was known: '
             f'line {count} (client "a", commit {count}) had ended 3 before line {count + 1} began']
     words = ["--follow", str(FAR)]
@@ -191,7 +197,7 @@ def kept_by_key(count):
     more = lambda at: keyed(at) + keyed(f"note {at}", "x")
     log = "".join(line(at, "commit", 5, f"c{at}", more(at)) for at in range(count))
     last = count - 1
-    late = line(count, "read", 0, "b", more(last)) + line(FAR, "read", 5, "b", more(last))
+    late = line(count, "read", 0, "b", more(last)) + settling(FAR, 5, more(last))
     beside = f' "k":"{last}" "x":"note {last}"'
     told = [f'audit fault: Order {count + 1}: client "b" read 0{beside}, but 5 was known: line '
             f'{count} (client "c{last}", commit 5{beside}) had ended 3 before line {count + 1} '
@@ -206,7 +212,7 @@ def kept_behind_refused(count):
     told = [stale(1).replace("Order 2", f"Order {count + 2}").replace(
         "before line 2 began", f"before line {count + 2} began")]
     ok = f"audit ok {watched(1, refused=count, commits=1)}"
-    return ["--follow", str(FAR)], [log, late + line(FAR, "read", 5, "c")], [[ok], told]
+    return ["--follow", str(FAR)], [log, late + settling(FAR, 5)], [[ok], told]
 
 
 KEPT = f"{FOLLOWED}, Follower::kept, Follower::stop, Follower::restore, KeyWatch::kept"

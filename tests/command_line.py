@@ -36,8 +36,9 @@ class Program(NamedTuple):
     other: bytes
     wrong: tuple
     much: bytes
-    # How it ends on an input with some arguments.
+    # How it ends on an input with some arguments, and what of a run is looked at.
     ends: Callable
+    seen: Callable = lambda ran: ran
 
     def ended(self, status, line):
         return Ran(status, b"", f"{self.name}: {line}\n".encode())
@@ -97,8 +98,8 @@ def arguments(it):
             to.write(it.given)
         for words in taken(it, file):
             ends = it.ends(it.given, words)
-            fault = fault_of(run([it.path, *words], it.other if file in words else it.given), ends)
-            yield f"the arguments {words}", fault
+            ran = run([it.path, *words], it.other if file in words else it.given)
+            yield f"the arguments {words}", fault_of(it.seen(ran), ends)
         for words in unwanted(it, file):
             fault = fault_of(run([it.path, *words], it.given), it.words_refused())
             yield f"refused: {words[:9]}", fault

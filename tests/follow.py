@@ -15,7 +15,8 @@ from audit_model import TOLD, printed
 from audit_search import random_lines, text_of
 from audit_streams import MUCH, told_of
 from command_line import LINE, TEXTS, WHOLE, audit
-from follow_model import SAID_LAST, WATCHED, Followed, Warned, judged_as, why_wrong
+from follow_model import (PROGRESS, SAID_AHEAD, SAID_LAST, WATCHED, Followed, Warned, judged_as,
+                          why_wrong, without_progress)
 from harness import NO_STREAM, ROOT, SECONDS, Ran, apart, fault_of, run, spent
 from reader import HIGHEST
 from shapes import repeated, text_of_lines, timed
@@ -41,13 +42,15 @@ NO_LINES = (
     b'{"client":null,"read":9,"began":1,"ended":2}', b'{"commit":9,"ended":2}', b"\xff\r",
 )
 STALE = (timed("commit", 5, 0, 10, "a"), timed("read", 1, 20, 30, "b"))
+# A line of another client, by which the end of the stale read is believed.
+VOUCHED = timed("read", 5, 29, 30, "a")
 
 
 def worked(_program):
     """The program tells of a whole log what a hand calculation gives."""
     for name, given, words, out in worked_cases(WORKED):
         wanted = judged_as(given, words)._replace(out=out)
-        yield name, fault_of(run([PROGRAM, *words], given), wanted)
+        yield name, fault_of(without_progress(run([PROGRAM, *words], given)), wanted)
 
 
 def worked_by_model(_program):
@@ -176,8 +179,8 @@ def beside_audit(given, words, ran):
 
 
 def objects_of(out):
-    """The objects of faults, and the others."""
-    objects = list(map(json.loads, out.splitlines()))
+    """The objects of faults, and the others, but for how far a log was followed."""
+    objects = [it for it in map(json.loads, out.splitlines()) if "watched" not in it]
     is_fault = lambda it: type(it.get("fault")) is str
     return list(filter(is_fault, objects)), [it for it in objects if not is_fault(it)]
 
@@ -214,6 +217,13 @@ class Growing:
         self.out += line
         return line
 
+    def told_fault(self):
+        """The next that is not how far the log was followed."""
+        line = self.told()
+        while line.startswith(PROGRESS):
+            line = self.told()
+        return line
+
     def end(self):
         """How it ends once the log ends, or where it ends by itself, and all that it told."""
         try:
@@ -238,11 +248,13 @@ def told_soon(_program):
     with Growing(*words) as growing:
         growing.write(timed("commit", 9, 0, 1, "a"))
         for at in range(TIMED):
-            # It ends more than 5 after it began, so nothing that comes began before.
-            growing.write(timed("read", at, 10 * at + 10, 10 * at + 16, "b"))
+            # It ends more than 5 after it began, so nothing that comes began before, once another
+            # client's line has ended then too.
+            growing.write(timed("read", at, 10 * at + 10, 10 * at + 16, "b"),
+                          timed("read", 9, 10 * at + 15, 10 * at + 16, "a"))
             begun = time.monotonic()
-            wanted = b'{"fault":"Order","at":{"line":%d,' % (at + 2)
-            yield f"fault {at}", began_with(growing.told(), wanted)
+            wanted = b'{"fault":"Order","at":{"line":%d,' % (2 * at + 2)
+            yield f"fault {at}", began_with(growing.told_fault(), wanted)
             waits.append(time.monotonic() - begun)
         growing.started.stdin.close()
         yield "what is told", why_wrong(growing.given, words, growing.end())
@@ -255,27 +267,28 @@ def too_early(_program):
     """A line that begins before what was settled is counted; it is judged, if not too late."""
     words = ["--follow", "5"]
     with Growing(*words) as growing:
-        growing.write(*STALE, timed("commit", 6, 90, 110, "c"))
+        growing.write(*STALE, timed("commit", 6, 90, 110, "c"), timed("read", 6, 100, 110, "a"))
         yield "settled up to 105", began_with(growing.told(), b"audit fault: Order 2: ")
         growing.write(timed("read", 2, 101, 102, "d"))
-        yield "4 before, and judged", began_with(growing.told(), b"audit fault: Order 4: ")
+        yield "4 before, and judged", began_with(growing.told(), b"audit fault: Order 5: ")
         # One is not judged, and nothing of it is told; one is known to others.
         growing.write(timed("read", 3, 50, 60, "e"), timed("commit", 9, 40, 41, "f"),
-                      timed("read", 8, 120, 130, "g"))
+                      timed("read", 8, 120, 130, "g"), timed("read", 9, 125, 130, "a"))
         last = growing.told()
-        yield "55 and 65 before", began_with(last, b"audit fault: Order 7: ")
-        case, *it = Followed(growing.given, words).told["Order", 7]
+        yield "55 and 65 before", began_with(last, b"audit fault: Order 8: ")
+        case, *it = Followed(growing.given, words).told["Order", 8]
         yield "for a true reason", None if last.decode()[:-1] in case.texts(*it) else f"{last}"
         growing.started.stdin.close()
-        warned = warned_of(Warned(4, 4, 1), Warned(5, 55, 2))
+        # The lines of a and c end behind those that came early, by more than 5.
+        warned = warned_of(Warned(5, 4, 1), Warned(5, 8, 1, SAID_AHEAD), Warned(6, 55, 2))
         wanted = Ran(FAULTY, growing.out, warned + b"fdb_audit: audit fault: Order 2\n")
         yield "nothing more is told", fault_of(growing.end(), wanted)
     with Growing("--all", *words) as growing:
-        growing.write(*STALE)
+        growing.write(*STALE, VOUCHED)
         growing.told()
         growing.write(timed("read", 5, 25, 40, "a"), timed("read", 5, 24, 25, "a"))
         growing.started.stdin.close()
-        total = (b"audit total lines 4 reads 3 commits 1 asks 0 reports 0 refused 0 early 1 "
+        total = (b"audit total lines 5 reads 4 commits 1 asks 0 reports 0 refused 0 early 1 "
                  b"judged 1\n")
         yield "one is counted", began_with(growing.end().out.partition(b"\n")[2], total)
     yield from unjudged_is_not_ok()
@@ -285,19 +298,82 @@ def unjudged_is_not_ok():
     """Where a line came early, it is not said that the audit is ok."""
     words = ["--follow", "5"]
     for lines, warned, counts in (
-            # A clock that is once in another unit: all that comes later is early.
-            ([timed("read", 0, 1, 7_000_000, "a"), *(
+            # Two clocks that are in another unit: all that comes later is early.
+            ([timed("read", 0, 1, 7_000_000, "a"), timed("read", 0, 2, 7_000_000, "c"), *(
                 timed("read", 0, at, at, "b") for at in range(10, 17))],
-             [Warned(2, 6_999_985, 1), Warned(3, 6_999_984, 2), Warned(5, 6_999_982, 4)],
-             "lines 8 reads 8 commits 0 asks 0 reports 0 refused 0 early 7 judged 0"),
+             [Warned(3, 6_999_985, 1), Warned(3, 6_999_990, 1, SAID_AHEAD),
+              Warned(4, 6_999_984, 2), Warned(6, 6_999_982, 4)],
+             "lines 9 reads 9 commits 0 asks 0 reports 0 refused 0 early 7 judged 0 ahead 1"),
             # It is judged, since it began at most 5 before what was settled.
-            ([timed("read", 0, 90, 110, "a"), timed("read", 0, 100, 101, "b")],
-             [Warned(2, 5, 1)],
-             "lines 2 reads 2 commits 0 asks 0 reports 0 refused 0 early 1 judged 1")):
-        pieces = [text_of_lines(it).encode() for it in (lines[:1], lines[1:])]
+            ([timed("read", 0, 90, 110, "a"), timed("read", 0, 90, 110, "c"),
+              timed("read", 0, 100, 105, "b")],
+             [Warned(3, 5, 1)],
+             "lines 3 reads 3 commits 0 asks 0 reports 0 refused 0 early 1 judged 1")):
+        pieces = [text_of_lines(it).encode() for it in (lines[:2], lines[2:])]
         err = warned_of(*warned, SAID_LAST.format(len(lines)))
         wanted = Ran(REFUSED, f"audit early {counts}\n".encode(), err)
-        yield f"{len(lines) - 1} early lines", fault_of(apart([PROGRAM, *words], pieces), wanted)
+        yield f"{len(lines) - 2} early lines", fault_of(apart([PROGRAM, *words], pieces), wanted)
+
+
+# ---- clocks that are ahead
+
+
+def one_clock_ahead(_program):
+    """However far the clock of one client is ahead, what others do is told as they go on."""
+    far = 10**9
+    stale = [it for at in range(9) for it in (timed("commit", at + 1, 20 * at, 20 * at + 2, "b"),
+                                              timed("read", at, 20 * at + 5, 20 * at + 6, "c"))]
+    ahead = [timed("read", 9, far + at, far + at + 1, "a") for at in range(9)]
+    for name, lines, found in (
+            ("one line, as the first", [ahead[0], *stale], 1),
+            ("one line, amid others", [*stale[:4], ahead[0], *stale[4:]], 1),
+            ("many in a row", [*stale[:2], *ahead, *stale[2:]], 1),
+            ("in turn with others", [it for its in zip(stale, [*ahead, *ahead]) for it in its], 9)):
+        with Growing("--follow", "5") as growing:
+            for line in lines:
+                growing.write(line)
+            first = growing.told()
+            yield f"{name}, told as it runs", began_with(first, b"audit fault: Order ")
+            growing.started.stdin.close()
+            ran = growing.end()
+        count = ran.err.decode().count("a clock is ahead")
+        wanted = sum(it & it - 1 == 0 for it in range(1, found + 1))
+        is_so = ran.out.count(b"audit fault: Order") == 9 and b"early" not in ran.err
+        fault = None if is_so and count == wanted else f"{ran}"
+        yield name, fault or why_wrong(growing.given, ["--follow", "5"], ran)
+
+
+def goes_on(_program):
+    """Behind a quiet time two clients go on at once, and one goes on with its second line."""
+    for name, lines in (
+            ("two clients", [*STALE, timed("read", 5, 990, 999, "b"), timed("read", 5, 997, 999, "a")]),
+            ("one client", [
+                timed("commit", 5, 0, 10, "a"), timed("read", 1, 20, 30, "a"),
+                timed("read", 5, 998, 999, "a"), timed("read", 5, 999, 1000, "a")]),
+            ("nobody is known", [
+                timed("commit", 5, 0, 10), timed("read", 1, 20, 30),
+                timed("read", 5, 998, 999), timed("read", 5, 999, 1000)])):
+        with Growing("--follow", "5") as growing:
+            growing.write(*lines)
+            yield name, began_with(growing.told(), b"audit fault: Order 2: ")
+            growing.started.stdin.close()
+            ran = growing.end()
+        yield f"{name}, to the end", why_wrong(growing.given, ["--follow", "5"], ran)
+
+
+def ahead_again(_program):
+    """Stopped and started again, one client whose clock is ahead moves nothing either."""
+    ahead = [timed("read", 5, 10**9 + at, 10**9 + at + 1, "a") for at in range(4)]
+    with tempfile.TemporaryDirectory() as folder:
+        words = [PROGRAM, "--follow", "5", "--keep", f"{folder}/kept"]
+        first = run(words, text_of_lines([*STALE, VOUCHED, *ahead]).encode())
+        yield "a fault, and then a clock", began_with(first.out, b"audit fault: Order 2: ")
+        run(words, text_of_lines(ahead).encode())
+        later = [timed("commit", 9, 50, 60, "b"), timed("read", 5, 70, 80, "c"),
+                 timed("read", 9, 90, 99, "b"), timed("read", 9, 90, 99, "c")]
+        ran = run(words, text_of_lines(later).encode())
+        is_so = b"audit fault: Order 13: " in ran.out and b"early line" not in ran.err
+        yield "what comes later", None if is_so else f"{ran}"
 
 
 def warned_of(*warned):
@@ -336,7 +412,7 @@ def watched_of(words, given):
 
 
 def closed(dice):
-    """The lines of a random log behind which one comes that settles all, and words for them."""
+    """The lines of a random log behind which two come that settle all, and words for them."""
     lines = disordered(grown(dice), dice.choice((0, 0, 2, 10)), dice)
     most = max(behind_ends(lines))
     behind = dice.choice((most, most + 1, 2 * most + 3))
@@ -345,8 +421,9 @@ def closed(dice):
         return closed(dice)
     versions = [line[kind] for line in lines for kind in CALLS if kind in line]
     last = {"read": max(versions), "began": newest + 1, "ended": newest + behind + 2}
+    last = [{**last, "client": it} for it in ("y", "z")]
     # (a last line without its end is kept, and not told yet)
-    texts = [it.rstrip(b"\n") + b"\n" for it in text_of([*lines, last], dice).split(b"\n") if it]
+    texts = [it.rstrip(b"\n") + b"\n" for it in text_of([*lines, *last], dice).split(b"\n") if it]
     words = [*random_words(dice), "--json"]
     return texts, words, [*words, "--follow", str(behind)]
 
@@ -397,13 +474,13 @@ def kept(_program):
     """What is kept is a log; what is none that was kept, or cannot be read or written, is told."""
     stale = text_of_lines(STALE).encode()
     with tempfile.TemporaryDirectory() as folder:
-        file, words = f"{folder}/kept", ["--follow", "15", "--show", "note,kept_line"]
+        file, words = f"{folder}/kept", ["--follow", "25", "--show", "note,kept_line"]
         ran = run([PROGRAM, *words, "--keep", file], stale)
         yield "a fault that is open is not told", fault_of(ran, Ran(OK, ran.out, b""))
         with open(file, "rb") as log:
             lines = log.read()
         yield "it is a log", fault_of(run([PROGRAM], lines), run([PROGRAM], stale))
-        late = text_of_lines([timed("read", 5, 90, 99, "c")]).encode()
+        late = text_of_lines([timed("read", 5, 90, 99, "c"), timed("read", 5, 90, 99, "a")]).encode()
         ran = run([PROGRAM, *words, "--keep", file], late)
         yield "it is told later", began_with(ran.out, b"audit fault: Order 2: ")
         for name, given, why in (
@@ -437,7 +514,7 @@ def no_output(_program):
     with open("/dev/full", "wb") as full:
         for name, out in (("nobody reads it", writer), ("it is full", full)):
             with Growing("--follow", "0", out=out) as growing:
-                growing.write(*STALE)
+                growing.write(*STALE, VOUCHED)
                 yield f"a fault, and {name}", fault_of(growing.end(), failed)
             ran = run([PROGRAM, "--follow", "0"], LINE, stdout=out)
             yield f"no fault, and {name}", fault_of(ran, failed)
@@ -467,6 +544,7 @@ def watch(path):
     return audit(path)._replace(
         flags=("--all", "--summary", "--json", "--progress"),
         numbers={"--follow": WHOLE, "--margin": WHOLE, "--key": TEXTS}, ends=judged_as,
+        seen=without_progress,
     )
 
 
@@ -481,5 +559,5 @@ def large(_program):
         yield f"{LARGE} lines", None if is_so else f"{it}, where {MOST_MEMORY} KiB are the most"
     told = "".join(told_of(TOLD, 64, end) for end in ("", "; judging"))
     said = b"audit ok lines 64 reads 64 commits 0 asks 0 reports 0 refused 0 early 0\n"
-    ran = run([PROGRAM, "--follow", "1", "--progress"], MUCH)
+    ran = without_progress(run([PROGRAM, "--follow", "1", "--progress"], MUCH))
     yield "how far it is read", fault_of(ran, Ran(OK, said, told.encode()))

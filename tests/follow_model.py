@@ -1,4 +1,5 @@
 """What fdb_audit has to tell with --follow of a log that grows, by the audit's model."""
+import json
 import re
 from collections import defaultdict
 from typing import NamedTuple
@@ -12,24 +13,59 @@ from reader import Refused
 
 # The kinds of faults that are told.
 WATCHED = ("Order", "NotAbove")
+# How the object begins that tells how far a log was followed, and the words.
+PROGRESS, PROGRESS_WORDS = b'{"watched":{', b"fdb_audit: watched "
 # How many lines began before what was settled, and how many of these were judged, as it is printed.
 EARLY = re.compile(rb'\bearly"?[: ](\d+)(?:,?"? ?judged"?[: ](\d+))?')
-# One that did, as it is said on standard error, and the last, as that ends.
+# One that did, as it is said on standard error, one of which another is ahead, and the last that
+# came early, as that ends.
 SAID_EARLY = "early line {}: it began {} before what had been settled; {} so far: " \
     "--follow is too small, or a clock is ahead"
+SAID_AHEAD = "a clock is ahead: above line {} a line of another client ended {} after it; " \
+    "{} so far: it is not believed"
 SAID_LAST = "logs refused: Early {}: it began before what had been settled"
 EARLY_LINE, LAST_EARLY = (re.compile("fdb_audit: " + it.replace("{}", r"(\d+)"))
                           for it in (SAID_EARLY, SAID_LAST))
 
 
 class Warned(NamedTuple):
-    """An early line of which it is said how long before what was settled it began."""
+    """A line of which it is said how long before what was settled it began, or by how much another
+    is ahead of it."""
     number: int
     by: int
     count: int
+    said: str = SAID_EARLY
 
     def __str__(self):
-        return SAID_EARLY.format(*self)
+        return self.said.format(*self[:3])
+
+
+def others_end(line, above):
+    """The newest end of lines of other clients that are known, if one is known."""
+    return max((it.ended for it in above if it.ended is not None
+                and it.client not in (None, line.client)), default=None)
+
+
+def believed(lines, behind):
+    """For each line the newest end that is believed when it comes, as docs/FORMATS.md has it."""
+    newest = 0
+    for place, line in enumerate(lines):
+        yield newest
+        end, vouched = line.ended or 0, others_end(line, lines[:place])
+        if vouched is None:
+            vouched = max((it.ended or 0 for it in lines[:place]), default=0)
+        known = max(newest, vouched)
+        newest = known if end > known + behind else max(newest, end)
+
+
+def ahead(lines, behind):
+    """For each line by how much another above is found to be ahead of it, or 0."""
+    found = 0
+    for place, line in enumerate(lines):
+        others = others_end(line, lines[:place]) or 0
+        is_so = line.ended is not None and others > max(found, line.ended + behind)
+        found = others if is_so else found
+        yield others - line.ended if is_so else 0
 
 
 class Grown(Case):
@@ -71,6 +107,9 @@ class Followed(Log):
         self.lines, self.refused = [row for row in rows if type(row) is not str], refused
         self.cases = [Grown(rows, self.options, at, self.behind) for at in places.values()]
         self.early, self.judged, self.last_early, self.warned = 0, 0, None, []
+        numbers = (place + 1 for place, row in enumerate(rows) if type(row) is not str)
+        found = [it for it in zip(numbers, ahead(self.lines, self.behind)) if it[1]]
+        self.ahead = [Warned(*it, count, SAID_AHEAD) for count, it in enumerate(found, 1)]
         self.is_empty = not rows
         found = [it for it in super().faults() if it[1] in WATCHED]
         # By kind and number of the line.
@@ -84,7 +123,8 @@ class Followed(Log):
         kinds = [line.kind for line in self.lines]
         counts = {"lines": len(kinds), **{f"{it}s": kinds.count(it) for it in CALLS}}
         counts = {**counts, "refused": len(self.refused), "early": self.early}
-        return {**counts, "judged": self.judged} if self.early else counts
+        counts = {**counts, "judged": self.judged} if self.early else counts
+        return {**counts, "ahead": len(self.ahead)} if self.ahead else counts
 
     def head(self):
         if self.options.json or not self.early:
@@ -107,14 +147,15 @@ class Followed(Log):
     def ended(self, said, first):
         """How the program ends that told these lines, and this fault first, if any."""
         said = [*said, *(self.totals() if self.told else self.head())]
-        warnings = {**self.refused, **{it.number: str(it) for it in self.warned}}
+        doubled = [it for it in self.ahead if it.count & it.count - 1 == 0]
+        warnings = sorted([*self.refused.items(), *((it.number, it) for it in self.warned),
+                           *((it.number, it) for it in doubled)], key=lambda it: it[0])
         last = [f"logs refused: {refusal(0, 'Empty')}"] if self.is_empty else [
             *self.refused.values()][-1:]
         if not last and self.last_early is not None:
             last = [SAID_LAST.format(self.last_early)]
         last = [f"audit fault: {first[0]} {first[1]}"] if self.told else last
-        err = "".join(f"fdb_audit: {it}\n" for it in [
-            *(warnings[number] for number in sorted(warnings)), *last])
+        err = "".join(f"fdb_audit: {it}\n" for it in [*(it for _, it in warnings), *last])
         status = FAULTY if self.told else REFUSED if last else OK
         return Ran(status, "".join(f"{it}\n" for it in said).encode(), err.encode())
 
@@ -148,13 +189,44 @@ def judged_as(given, words):
     return log.ended(said, next(iter(log.told), None))
 
 
+def progress_of(out):
+    """How far it is told that a log was followed: by objects."""
+    return [json.loads(it)["watched"] for it in out.splitlines() if it.startswith(PROGRESS)]
+
+
+def without_progress(ran):
+    """A run without that, and without the words on standard error."""
+    out, err = (b"".join(it for it in text.splitlines(True) if not it.startswith(begins))
+                for text, begins in ((ran.out, PROGRESS), (ran.err, PROGRESS_WORDS)))
+    return ran._replace(out=out, err=err)
+
+
+def progress_wrong(log, told):
+    """What is wrong with how far it is told that a log was followed, or None."""
+    if not log.options.json:
+        return f"{told}" if told else None
+    if not told:
+        return "how far it was followed is not told"
+    for one, other in zip(told, told[1:]):
+        if any(one[it] > other.get(it, 0) for it in one if it not in ("open", "kept")):
+            return f"{one} is told before {other}"
+    ends = [it.ended or 0 for it in log.lines]
+    for it in told:
+        wrong = [name for name, most in log.counts().items() if it.get(name, 0) > most]
+        is_so = it["open"] <= it["kept"] and it["settled_to"] <= it["newest_end"]
+        if wrong or not is_so or it["newest_end"] not in (0, *ends):
+            return f"{it} is told of {log.counts()}"
+    return None
+
+
 def why_wrong(given, words, ran, most_early=0):
     """What is wrong with how a run ended, or None.
 
     Where lines may have begun before what was settled, at most so many did, and of the faults any
     may be missing.
     """
-    log, said = Followed(given, words), ran.out.decode().split("\n")[:-1]
+    progress, ran, log = progress_of(ran.out), without_progress(ran), Followed(given, words)
+    said = ran.out.decode().split("\n")[:-1]
     for case in log.cases if most_early else ():
         # What was settled may be later than where a line begins.
         case.behind = 0
@@ -169,7 +241,7 @@ def why_wrong(given, words, ran, most_early=0):
         return f"it tells {sorted(names)} of {sorted(log.told)}"
     if log.is_listed:
         log.told = {name: log.told[name] for name in names}
-    wrong = early_wrong(log, ran, most_early)
+    wrong = early_wrong(log, ran, most_early) or progress_wrong(log, progress)
     if wrong:
         return wrong
     # With totals alone standard error tells which fault was the first.

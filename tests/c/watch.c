@@ -9,6 +9,8 @@
 
 #define STALE "{\"client\":\"a\",\"commit\":200,\"began\":10,\"ended\":14}\n" \
               "{\"client\":\"b\",\"read\":100,\"began\":15,\"ended\":16}\n"
+/* and a line of another client, by which the end of the read is believed */
+#define VOUCHED "{\"client\":\"a\",\"read\":200,\"began\":16,\"ended\":16}\n"
 #define SAID(number) "audit fault: Order " number ": client \"b\" read 100, but 200 was known: " \
                      "line 1 (client \"a\", commit 200) had ended 1 before line " number " began\n"
 
@@ -45,11 +47,12 @@ static void says(fdb_watch *watch, const char *text, const char *warnings) {
 
 /* It is told once, as soon as it is certain, however the text is cut. */
 static void a_stale_read(void) {
-    for (size_t cut = 1; cut <= strlen(STALE); cut++) {
+    const char *log = STALE VOUCHED;
+    for (size_t cut = 1; cut <= strlen(log); cut++) {
         fdb_watch watch = opened((fdb_watch_options){.behind = 0}, "", "");
-        for (size_t at = 0; at < strlen(STALE); at += cut) {
-            size_t length = at + cut <= strlen(STALE) ? cut : strlen(STALE) - at;
-            assert(fdb_watch_push(&watch, (const uint8_t *)STALE + at, length) == FDB_OK);
+        for (size_t at = 0; at < strlen(log); at += cut) {
+            size_t length = at + cut <= strlen(log) ? cut : strlen(log) - at;
+            assert(fdb_watch_push(&watch, (const uint8_t *)log + at, length) == FDB_OK);
         }
         assert(fdb_watch_tell(&watch, false) == FDB_OK);
         says(&watch, "", "");
@@ -154,6 +157,8 @@ static void left_out(void) {
 }
 
 #define READ(began, ended) "{\"client\":\"c\",\"read\":0,\"began\":" began ",\"ended\":" ended "}\n"
+/* two clients that vouch for one another */
+#define FIRST READ("90", "110") "{\"client\":\"d\",\"read\":0,\"began\":90,\"ended\":110}\n"
 #define CAME(number, by, count) \
     "fdb_audit: early line " number ": it began " by " before what had been settled; " count \
     " so far: --follow is too small, or a clock is ahead\n"
@@ -169,29 +174,34 @@ static const struct {
     const char *text, *warnings;
 } EARLY[] = {
     /* it began 5 before 105, and so it is judged all the same */
-    {{.behind = 5}, READ("90", "110"), READ("100", "101"), FDB_UNJUDGED, 2,
-     "audit early " COUNTS("2", "0", "1") " judged 1\n", CAME("2", "5", "1")},
+    {{.behind = 5}, FIRST, READ("100", "105"), FDB_UNJUDGED, 3,
+     "audit early " COUNTS("3", "0", "1") " judged 1\n", CAME("3", "5", "1")},
     /* the last is told that came early, and not the last of all */
-    {{.behind = 5}, READ("90", "110"), READ("99", "110") READ("100", "101") READ("105", "106"),
-     FDB_UNJUDGED, 3, "audit early " COUNTS("4", "0", "2") " judged 1\n",
-     CAME("2", "6", "1") CAME("3", "5", "2")},
-    {{.behind = 5, .json = true}, READ("90", "110"), READ("100", "101"), FDB_UNJUDGED, 2, "",
-     CAME("2", "5", "1")},
-    {{.behind = 5, .totals = true, .json = true}, READ("90", "110"), READ("99", "100"),
-     FDB_UNJUDGED, 2,
-     "{\"total\":{\"lines\":2,\"reads\":2,\"commits\":0,\"asks\":0,\"reports\":0,\"refused\":0,"
+    {{.behind = 5}, FIRST, READ("99", "110") READ("100", "105") READ("105", "106"),
+     FDB_UNJUDGED, 4, "audit early " COUNTS("5", "0", "2") " judged 1\n",
+     CAME("3", "6", "1") CAME("4", "5", "2")},
+    {{.behind = 5, .json = true}, FIRST, READ("100", "105"), FDB_UNJUDGED, 3, "",
+     CAME("3", "5", "1")},
+    {{.behind = 5, .totals = true, .json = true}, FIRST, READ("99", "105"),
+     FDB_UNJUDGED, 3,
+     "{\"total\":{\"lines\":3,\"reads\":3,\"commits\":0,\"asks\":0,\"reports\":0,\"refused\":0,"
      "\"early\":1,\"judged\":0},\"arguments\":{\"follow\":5,\"margin\":0,\"by_key\":false,"
      "\"members\":[]}}\n"
      "{\"faults\":0,\"Order\":0,\"Wrong\":0,\"NotAbove\":0,\"Twice\":0,\"Stray\":0}\n",
-     CAME("2", "6", "1")},
+     CAME("3", "6", "1")},
     /* a line that is refused goes first */
-    {{.behind = 5}, READ("90", "110") "{}\n", READ("100", "101"), FDB_NO_CALL, 2,
-     "audit early " COUNTS("2", "1", "1") " judged 1\n", CAME("3", "5", "1")},
+    {{.behind = 5}, FIRST "{}\n", READ("100", "105"), FDB_NO_CALL, 3,
+     "audit early " COUNTS("3", "1", "1") " judged 1\n", CAME("4", "5", "1")},
     /* and a fault before that */
-    {{0}, STALE, READ("15", "16") "{}\n", FDB_FAULT, 77, "", CAME("3", "1", "1")},
+    {{0}, STALE VOUCHED, READ("15", "16") "{}\n", FDB_FAULT, 77, "", CAME("4", "1", "1")},
     /* a line that begins there did not come early */
-    {{.behind = 5}, READ("90", "110"), READ("105", "106"), FDB_OK, 77,
-     "audit ok " COUNTS("2", "0", "0") "\n", ""},
+    {{.behind = 5}, FIRST, READ("105", "106"), FDB_OK, 77,
+     "audit ok " COUNTS("3", "0", "0") "\n", ""},
+    /* one clock that is ahead moves nothing, and is told of */
+    {{.behind = 5}, FIRST, "{\"client\":\"e\",\"read\":0,\"began\":900,\"ended\":999}\n"
+     READ("111", "112"), FDB_OK, 77, "audit ok " COUNTS("4", "0", "0") " ahead 1\n",
+     "fdb_audit: a clock is ahead: above line 4 a line of another client ended 887 after it; 1 so "
+     "far: it is not believed\n"},
 };
 
 /* Lines that began before what had been settled: not all was judged, and so it is not ok. */

@@ -551,10 +551,14 @@ class OfLogs(unittest.TestCase):
 COMMIT = '{"client":"a","commit":200,"began":10,"ended":14%s}\n'
 READ = '{"client":"é","read":100,"began":15,"ended":16%s}\n'
 STALE = (COMMIT + READ).replace("%s", "")
+# A line of another client, by which the end of the read is believed.
+VOUCHED = '{"client":"a","read":200,"began":16,"ended":16}\n'
 SAID = ('audit fault: Order %d: client "é" read 100, but 200 was known: line 1 '
         '(client "a", commit 200) had ended 1 before line %d began\n')
 ALL_FINE = "audit ok lines %d reads %d commits 1 asks 0 reports 0 refused %d early 0\n"
 TIMED = '{"client":"c","read":0,"began":%d,"ended":%d}\n'
+# Two lines of clients that vouch for one another.
+FIRST = TIMED % (90, 110) + (TIMED % (90, 110)).replace('"c"', '"d"')
 CAME = ("fdb_audit: early line %d: it began %d before what had been settled; %d so far: "
         "--follow is too small, or a clock is ahead\n")
 ALL_EARLY = "audit early lines %d reads %d commits 0 asks 0 reports 0 refused %d early %d judged 1\n"
@@ -567,7 +571,7 @@ class OfWatches(unittest.TestCase):
         self.assertEqual(caught.exception, wanted)
 
     def test_a_fault_is_told_once(self):
-        log = STALE.encode()
+        log = (STALE + VOUCHED).encode()
         for size in (1, 9, len(log)):
             with Watch(0) as watch:
                 for at in range(0, len(log), size):
@@ -646,30 +650,39 @@ class OfWatches(unittest.TestCase):
 
     def test_what_came_early(self):
         # It is settled up to 105; a line that began at most 5 before that is judged all the same.
-        first, judged, left = TIMED % (90, 110), TIMED % (100, 101), TIMED % (99, 110)
-        watch = self.early(first, judged)
-        self.refused(LogRefused(Status.UNJUDGED, 2), watch.end)
-        self.assertEqual(watch.text(), ALL_EARLY % (2, 2, 0, 1))
-        self.assertEqual(watch.warnings(), CAME % (2, 5, 1))
-        # The last is told that came early, and not the last of all.
-        watch = self.early(first, left, judged, TIMED % (105, 106))
+        judged, left = TIMED % (100, 105), TIMED % (99, 110)
+        watch = self.early(FIRST, judged)
         self.refused(LogRefused(Status.UNJUDGED, 3), watch.end)
-        self.assertEqual(watch.text(), ALL_EARLY % (4, 4, 0, 2))
-        self.assertEqual(watch.warnings(), CAME % (2, 6, 1) + CAME % (3, 5, 2))
-        # A line that is refused goes first, and a fault before that.
-        watch = self.early(first + "{}\n", judged)
-        self.refused(LogRefused(Status.NO_CALL, 2), watch.end)
-        self.assertEqual(watch.text(), ALL_EARLY % (2, 2, 1, 1))
+        self.assertEqual(watch.text(), ALL_EARLY % (3, 3, 0, 1))
         self.assertEqual(watch.warnings(), CAME % (3, 5, 1))
-        watch = self.early(STALE + first, left, "{}\n")
+        # The last is told that came early, and not the last of all.
+        watch = self.early(FIRST, left, judged, TIMED % (105, 106))
+        self.refused(LogRefused(Status.UNJUDGED, 4), watch.end)
+        self.assertEqual(watch.text(), ALL_EARLY % (5, 5, 0, 2))
+        self.assertEqual(watch.warnings(), CAME % (3, 6, 1) + CAME % (4, 5, 2))
+        # A line that is refused goes first, and a fault before that.
+        watch = self.early(FIRST + "{}\n", judged)
+        self.refused(LogRefused(Status.NO_CALL, 3), watch.end)
+        self.assertEqual(watch.text(), ALL_EARLY % (3, 3, 1, 1))
+        self.assertEqual(watch.warnings(), CAME % (4, 5, 1))
+        watch = self.early(STALE + FIRST, left, "{}\n")
         self.assertEqual(watch.end(), Status.FAULT)
-        self.assertTrue(watch.warnings().startswith(CAME % (4, 6, 1)))
-        watch = self.early(first, left, json=True, totals=True)
-        self.refused(LogRefused(Status.UNJUDGED, 2), watch.end)
+        self.assertTrue(watch.warnings().startswith(CAME % (5, 6, 1)))
+        watch = self.early(FIRST, left, json=True, totals=True)
+        self.refused(LogRefused(Status.UNJUDGED, 3), watch.end)
         total = watch.objects()[0]["total"]
-        self.assertEqual((total["lines"], total["early"], total["judged"]), (2, 1, 0))
-        self.assertEqual(self.early(first, TIMED % (105, 106)).end(), Status.OK)
+        self.assertEqual((total["lines"], total["early"], total["judged"]), (3, 1, 0))
+        self.assertEqual(self.early(FIRST, TIMED % (105, 106)).end(), Status.OK)
         self.assertEqual(str(LogRefused(Status.UNJUDGED, 7)), "UNJUDGED 7")
+
+    def test_a_clock_that_is_ahead(self):
+        ahead = (TIMED % (900, 999)).replace('"c"', '"e"')
+        watch = self.early(FIRST, ahead, TIMED % (111, 112))
+        self.assertEqual(watch.end(), Status.OK)
+        self.assertEqual(watch.text(), "audit ok lines 4 reads 4 commits 0 asks 0 reports 0 "
+                                       "refused 0 early 0 ahead 1\n")
+        self.assertEqual(watch.warnings(), "fdb_audit: a clock is ahead: above line 4 another "
+                         "client's line ended 887 after it; 1 so far: it is not believed\n")
 
     def followed(self, *pieces, behind):
         """The status, the output and the errors of the program that follows a log of these pieces."""
@@ -680,12 +693,12 @@ class OfWatches(unittest.TestCase):
         return status, "".join(it.args[0] for it in written.call_args_list), said.getvalue()
 
     def test_the_program(self):
-        ended = self.followed(TIMED % (90, 110), TIMED % (100, 101), behind="5")
-        said = CAME % (2, 5, 1) + "fdb_read_version: UNJUDGED 2\n"
-        self.assertEqual(ended, (1, ALL_EARLY % (2, 2, 0, 1), said))
+        ended = self.followed(FIRST, TIMED % (100, 105), behind="5")
+        said = CAME % (3, 5, 1) + "fdb_read_version: UNJUDGED 3\n"
+        self.assertEqual(ended, (1, ALL_EARLY % (3, 3, 0, 1), said))
         # What was told before memory is refused is not told again.
         with mock.patch.object(Watch, "end", side_effect=Refused(Status.MEMORY)):
-            ended = self.followed(STALE, behind="0")
+            ended = self.followed(STALE + VOUCHED, behind="0")
         self.assertEqual(ended, (3, SAID % (2, 2), "fdb_read_version: MEMORY\n"))
 
 

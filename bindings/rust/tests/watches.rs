@@ -4,6 +4,8 @@ use fdb_read_version::{LogError, Member, Watch, WatchOptions, Wrong};
 
 const COMMIT: &str = "{\"client\":\"a\",\"commit\":200,\"began\":10,\"ended\":14}\n";
 const READ: &str = "{\"client\":\"b\",\"read\":100,\"began\":15,\"ended\":16}\n";
+/// A line of another client, by which the end of the read is believed.
+const VOUCHED: &str = "{\"client\":\"a\",\"read\":200,\"began\":16,\"ended\":16}\n";
 
 fn said(line: u32) -> String {
     format!(
@@ -18,7 +20,7 @@ fn opened(behind: u64, key: &str) -> Watch {
 
 #[test]
 fn a_fault_is_told_once() {
-    let log = format!("{COMMIT}{READ}");
+    let log = format!("{COMMIT}{READ}{VOUCHED}");
     for size in [1, 9, log.len()] {
         let mut watch = opened(0, "");
         for piece in log.as_bytes().chunks(size) {
@@ -117,6 +119,11 @@ fn came(line: u64, by: u64, count: u64) -> String {
     )
 }
 
+/// Two lines of clients that vouch for one another.
+fn first() -> String {
+    timed(90, 110) + &timed(90, 110).replace("\"c\"", "\"d\"")
+}
+
 /// A watch of lines, of which some come once all is settled up to 5 before the newest end.
 fn early(before: &str, after: &str) -> Watch {
     let mut watch = opened(5, "");
@@ -129,7 +136,7 @@ fn early(before: &str, after: &str) -> Watch {
 #[test]
 fn what_came_early() {
     // It is settled up to 105; a line that began at most 5 before that is judged all the same.
-    let (first, judged, left) = (timed(90, 110), timed(100, 101), timed(99, 110));
+    let (first, judged, left) = (first(), timed(100, 105), timed(99, 110));
     let counts = |lines, refused, early| {
         format!(
             "audit early lines {lines} reads {lines} commits 0 asks 0 reports 0 \
@@ -138,19 +145,31 @@ fn what_came_early() {
     };
     let unjudged = |line| Err(LogError::Unjudged { line });
     let mut watch = early(&first, &judged);
-    assert_eq!((watch.end(), watch.text()), (unjudged(2), counts(2, 0, 1)));
-    assert_eq!(watch.warnings(), came(2, 5, 1));
+    assert_eq!((watch.end(), watch.text()), (unjudged(3), counts(3, 0, 1)));
+    assert_eq!(watch.warnings(), came(3, 5, 1));
     // The last is told that came early, and not the last of all.
     let mut watch = early(&first, &format!("{left}{judged}{}", timed(105, 106)));
-    assert_eq!((watch.end(), watch.text()), (unjudged(3), counts(4, 0, 2)));
-    assert_eq!(watch.warnings(), came(2, 6, 1) + &came(3, 5, 2));
+    assert_eq!((watch.end(), watch.text()), (unjudged(4), counts(5, 0, 2)));
+    assert_eq!(watch.warnings(), came(3, 6, 1) + &came(4, 5, 2));
     // A line that is refused goes first, and a fault before that.
     let mut watch = early(&format!("{first}{{}}\n"), &judged);
-    let refused = Err(LogError::Refused { line: 2, wrong: Wrong::NoCall });
-    assert_eq!((watch.end(), watch.text()), (refused, counts(2, 1, 1)));
-    assert_eq!(watch.warnings(), came(3, 5, 1));
+    let refused = Err(LogError::Refused { line: 3, wrong: Wrong::NoCall });
+    assert_eq!((watch.end(), watch.text()), (refused, counts(3, 1, 1)));
+    assert_eq!(watch.warnings(), came(4, 5, 1));
     let mut watch = early(&format!("{COMMIT}{READ}{first}"), &format!("{left}{{}}\n"));
     assert_eq!(watch.end(), Ok(true));
-    assert!(watch.warnings().starts_with(&came(4, 6, 1)));
+    assert!(watch.warnings().starts_with(&came(5, 6, 1)));
     assert_eq!(early(&first, &timed(105, 106)).end(), Ok(false));
+}
+
+#[test]
+fn a_clock_that_is_ahead() {
+    let ahead = timed(900, 999).replace("\"c\"", "\"e\"");
+    let mut watch = early(&first(), &format!("{ahead}{}", timed(111, 112)));
+    assert_eq!(watch.end(), Ok(false));
+    let counts = "lines 4 reads 4 commits 0 asks 0 reports 0 refused 0 early 0 ahead 1";
+    assert_eq!(watch.text(), format!("audit ok {counts}\n"));
+    let said = "fdb_audit: a clock is ahead: above line 4 a line of another client ended 887 after it; \
+                1 so far: it is not believed\n";
+    assert_eq!(watch.warnings(), said);
 }

@@ -11,7 +11,7 @@ use Rattle.std.proofs.lemmas.List.Sums.{count_by-le-length, sum_by-append, sum_b
 use Rattle.fdb_lines.specs.declared.fault.Found.{Found}
 use Rattle.fdb_lines.specs.declared.key_watch.KeyWatch.{KeyWatch}
 use Rattle.fdb_lines.specs.declared.line.Line.{Line}
-use Rattle.fdb_lines.specs.Before.{began, ended}
+use Rattle.fdb_lines.specs.Before.{began}
 use Rattle.fdb_lines.specs.KeyWatch.{HasSeenByKey}
 use Rattle.fdb_lines.specs.Lines.{Kind, is_ask, is_commit, is_read, is_report, kind_of}
 use Rattle.fdb_lines.specs.Summary.{how_many}
@@ -23,12 +23,16 @@ use Rattle.fdb_log_reader.specs.ReadLine.{SaidLine}
 use Rattle.fdb_audit.specs.declared.counts.Counts.{Counts}
 use Rattle.fdb_audit.specs.declared.numbering.Numbering.{Numbering}
 use Rattle.fdb_audit.specs.declared.taking.Taking.{Taking}
-use Rattle.fdb_audit.specs.Following.{KeptNumbers, Start, early_at, keys_taken, last_refused, left_out, lines_since, lines_taken, newest_end, no_line, number_in, out_of_reach, taken, taken_above}
-use Rattle.fdb_audit.specs.Taken.{AreCounted, AreTaken, HasSettled, IsInReach, kept_by}
+use Rattle.fdb_audit.specs.Following.{KeptNumbers, Start, early_at, keys_taken, last_refused, left_out, lines_since, lines_taken, no_line, number_in, taken, taken_above}
+use Rattle.fdb_audit.specs.Clocks.{believed_end, believed_with, out_of_reach}
+use Rattle.fdb_audit.specs.declared.clocks.Clocks.{Clocks}
+use Rattle.fdb_audit.specs.Taken.{AreCounted, AreTaken, HasHeard, HasSettled, IsInReach, kept_by}
 use Rattle.fdb_audit.specs.Warned.{AreEarly}
+use Rattle.fdb_audit.specs.private.Clocks.{ahead_of}
 use Rattle.fdb_audit.specs.private.Followed.{NotesLine, one_more}
 use Rattle.fdb_audit.specs.private.Numbering.{AreNumbersOf}
-use Rattle.fdb_audit.proofs.Settled.{drop_on, early_push, far_in_all, far_more, far_still, late_more, newest_more, settled_more, settled_still}
+use Rattle.fdb_audit.proofs.Believed.{ahead_more, count_more, heard_more, hears_ahead, hears_believed}
+use Rattle.fdb_audit.proofs.Settled.{drop_on, early_push, far_in_all, far_more, far_still, late_more, settled_more, settled_still}
 
 -- ---- with one more line
 
@@ -186,20 +190,16 @@ counts_more old new lines line few are all reads commits asks reports = record {
 
 -- ---- what is held of them, with one more line
 
+pub one_at_most : (is_one : Bool) (count : ℕ) → one_more is_one count ≤ count + 1
+one_at_most true count = omega arith
+one_at_most false count = omega arith
+
 none_early : (b : Bool) (count : ℕ) → one_more b count ≡ 0 → (b ≡ false) × (count ≡ 0)
 none_early true count none = absurd (omega (arith, none))
 none_early false count none = (refl, none)
 
 in_time : (began from : ℕ) → nat_lt began from ≡ false → from ≤ began
 in_time began from late = grind (arith, nat_tests)
-
-reach_more : (behind newest : ℕ) (lines : List Line) (line : Line)
-    → out_of_reach behind newest (lines ++ line ∷ []) ≡ out_of_reach behind newest lines + cond (nat_lt (began line + behind) (newest_end newest lines)) 1 0
-reach_more behind newest [] line = let n = cond {A = ℕ} (nat_lt (began line + behind) newest) 1 0 in omega arith
-reach_more behind newest (one ∷ lines) line =
-    let rest = reach_more behind (max newest (unwrap_or (ended one) 0)) lines line in
-    let first = cond {A = ℕ} (nat_lt (began one + behind) newest) 1 0 in
-    omega (arith, rest)
 
 -- one more that came early began out of reach
 early_more : (behind newest from began count many : ℕ) → from ≤ newest - behind → count ≤ many
@@ -214,19 +214,22 @@ early_more behind newest from began count many low le = by (nat_lt began from) r
         let one : cond {A = ℕ} (nat_lt (began + behind) newest) 1 0 ≡ 1 = ap (λ b. cond {A = ℕ} b 1 0) out in
         omega (arith, one, le)
 
-in_reach_more : (behind : ℕ) (old new : Taking) (lines : List Line) (line : Line) → IsInReach behind old lines → old.settled ≤ length lines → new.settled ≡ old.settled
-    → new.newest ≡ max old.newest (unwrap_or (ended line) 0) → new.watch.from ≡ old.watch.from → new.counts.early ≡ one_more (nat_lt (began line) old.watch.from) old.counts.early
-    → IsInReach behind new (lines ++ line ∷ [])
-in_reach_more behind old new lines line is come settled newest from early =
-    let was = is.newest in
+in_reach_more : (behind : ℕ) (old new : Taking) (lines : List Line) (line : Line) → IsInReach behind old lines → old.settled ≤ length lines → length lines + 1 < 2 ^ 64
+    → NotesLine old.watch.from old new line → new.watch.from ≡ old.watch.from → IsInReach behind new (lines ++ line ∷ [])
+in_reach_more behind old new lines line is come few notes from =
     let low = far_in_all old behind lines is.from in
     let le = is.early in
-    let more = early_more behind (newest_end 0 lines) old.watch.from (began line) old.counts.early (out_of_reach behind 0 lines) low le in
-    let out = reach_more behind 0 lines line in
+    let early = notes.came.early in
+    let more = early_more behind (believed_end behind lines) old.watch.from (began line) old.counts.early (out_of_reach behind lines) low le in
+    let out = count_more (believed_with behind) (λ (believed : ℕ) (above : List Line) (line : Line). nat_lt (began line + behind) believed) 0 [] lines line in
     record {
-      newest = newest ∙ (ap (λ n. max n (unwrap_or (ended line) 0)) was ∙ sym (newest_more 0 lines line));
-      from = far_more old new behind lines line come is.from settled from;
+      behind_is = notes.hears.behind ∙ is.behind_is;
+      heard = heard_more old.clocks new.clocks lines line is.heard notes.hears;
+      believed = hears_believed behind old.clocks new.clocks lines line is.heard notes.hears is.behind_is is.believed;
+      from = far_more old new behind lines line come is.from notes.settled from;
       early = omega (arith, early, more, out);
+      ahead_to = hears_ahead behind old.clocks new.clocks lines line is.heard notes.hears is.behind_is is.ahead_to;
+      ahead = ahead_more behind old.counts.ahead new.counts.ahead old.clocks lines line is.heard is.behind_is is.ahead_to few is.ahead notes.ahead;
     }
 
 -- the number of a line more that is taken
@@ -282,6 +285,7 @@ takes start old new read said told are room seen notes from tells came =
     let size = length_push read (Ok said) in
     let few = are.numbered.few in
     let early = notes.came.early in
+    let room_for : length (lines_taken read) + 1 < 2 ^ 64 = (let size = length-map (taken read) (λ (said : SaidLine). said.line) in omega (arith, size, all, few)) in
     record {
       seen = subst (λ lines. HasSeenByKey new.watch lines (keys_taken more)) (sym (lines_more read said))
           (subst (HasSeenByKey new.watch (lines_taken read ++ said.line ∷ [])) (sym (keys_more read said)) seen);
@@ -299,9 +303,11 @@ takes start old new read said told are room seen notes from tells came =
       from = (let was = are.from in omega (arith, was, from));
       late = takes_late start old new read said are early;
       settled = subst (HasSettled start new) (sym (lines_more read said))
-          (settled_more start old new (lines_taken read) said.line are.settled (let size = length-map (taken read) (λ (said : SaidLine). said.line) in omega (arith, size, all, few)) notes.settled from early);
-      reach = λ anew. subst (IsInReach start.behind new) (sym (lines_more read said)) (in_reach_more start.behind old new (lines_taken read) said.line (are.reach anew) are.settled.come notes.settled notes.newest from early);
+          (settled_more start old new (lines_taken read) said.line are.settled room_for notes.settled from early);
+      reach = λ anew. subst (IsInReach start.behind new) (sym (lines_more read said))
+          (in_reach_more start.behind old new (lines_taken read) said.line (are.reach anew) are.settled.come room_for notes from);
       came = came;
+      few_ahead = (let was = are.few_ahead in let ahead = notes.ahead in let one = one_at_most (nat_lt 0 (ahead_of old.clocks said.line)) old.counts.ahead in omega (arith, was, ahead, one, size));
       once = λ none_before none.
           let is = none_early (nat_lt (began said.line) old.watch.from) old.counts.early (sym early ∙ none) in
           subst (λ lines. HasTold new.watch lines (keys_taken more) told) (sym (lines_more read said))
@@ -327,10 +333,10 @@ pub leaves_out : (start : Start) (old new : Taking) (read : List (Result SaidLin
     → old.taken + old.numbering.more + length old.numbering.above.items < 18446744073709551614
     → new.watch ≡ old.watch → new.numbering.above.items ≡ old.numbering.above.items ++ old.taken ∷ [] → kept_by new.numbering ≡ kept_by old.numbering
     → new.taken ≡ old.taken → new.counts ≡ old.counts → new.settled ≡ old.settled → new.refused ≡ Some (record { line = number; why = why })
-    → number ≡ min (new.taken + new.numbering.more + length new.numbering.above.items) (2 ^ 64 - 1) → new.newest ≡ old.newest
+    → number ≡ min (new.taken + new.numbering.more + length new.numbering.above.items) (2 ^ 64 - 1) → new.clocks ≡ old.clocks
     → AreEarly start.numbers.more (read ++ Err why ∷ []) new.counts.early new.counts.judged new.counts.last_early
     → AreTaken start new (read ++ Err why ∷ []) told
-leaves_out start old new read why told number are room watch above same count counts settled refused is newest came =
+leaves_out start old new read why told number are room watch above same count counts settled refused is clocks came =
     let more = read ++ Err why ∷ [] in
     let all = counted 0 read in
     let was_above = ap length are.numbered.above in
@@ -358,10 +364,15 @@ leaves_out start old new read why told number are room watch above same count co
       settled = subst (HasSettled start new) (sym (lines_same read why))
           (settled_still start old new (lines_taken read) are.settled settled (ap (λ (watch : KeyWatch). watch.from) watch) (ap (λ (counts : Counts). counts.early) counts));
       came = came;
+      few_ahead = (let was = are.few_ahead in let ahead = ap (λ (counts : Counts). counts.ahead) counts in omega (arith, was, ahead, size));
       reach = λ anew.
           let was = are.reach anew in
           subst (IsInReach start.behind new) (sym (lines_same read why)) (record {
-            newest = newest ∙ was.newest;
+            behind_is = ap (λ (clocks : Clocks). clocks.behind) clocks ∙ was.behind_is;
+            heard = subst (λ (clocks : Clocks). HasHeard clocks (lines_taken read)) (sym clocks) was.heard;
+            believed = ap (λ (clocks : Clocks). clocks.believed) clocks ∙ was.believed;
+            ahead_to = ap (λ (clocks : Clocks). clocks.ahead) clocks ∙ was.ahead_to;
+            ahead = ap (λ (counts : Counts). counts.ahead) counts ∙ was.ahead;
             from = far_still old new start.behind (lines_taken read) was.from settled (ap (λ (watch : KeyWatch). watch.from) watch);
             early = (let le = was.early in let early = ap (λ (counts : Counts). counts.early) counts in omega (arith, le, early));
           });

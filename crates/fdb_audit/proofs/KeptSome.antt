@@ -15,7 +15,7 @@ use Rattle.fdb_lines.specs.Keys.{key_at, place_among, places_below, places_of, s
 use Rattle.fdb_lines.specs.Lines.{kind_of, line_at}
 use Rattle.fdb_lines.specs.Reasons.{shows_or_draws}
 use Rattle.fdb_lines.specs.StandByKey.{StandForByKey, kept_of}
-use Rattle.fdb_audit.specs.Following.{newest_end}
+use Rattle.fdb_audit.specs.Clocks.{newest_end}
 use Rattle.fdb_audit.proofs.KeyPlaces.{at_part, has_place, same_is, same_self}
 
 -- ---- when lines have ended

@@ -37,18 +37,18 @@ said_on start asked old new before bytes warned further has goes takes warns far
 
 -- what is said next is what was to be said
 pub said_next : (start : Start) (asked : AuditArguments) (old new : Follower) (settled : Taking) (bytes warned warnings : List ℕ) → HasSaid asked start old bytes warned
-    → SettlesOn old.behind old.taking settled → SaysNext settled new.taking → warnings ≡ string_bytes settled.warnings → new.reader ≡ old.reader → new.behind ≡ old.behind
+    → SettlesOn old.taking settled → SaysNext settled new.taking → warnings ≡ string_bytes settled.warnings → new.reader ≡ old.reader → new.behind ≡ old.behind
     → HasSaid asked start new bytes (warned ++ warnings)
 said_next start asked old new settled bytes warned warnings has settles says is reader far =
-    let (more, taken) = settles.taken start has.read has.told has.behind has.taken in
+    let (more, taken) = settles.taken start has.read has.told has.taken in
     record {
       read = has.read;
       goes = λ text. has.goes text ∙ ap (λ reader. has.read ++ lines_on reader text) (sym reader);
       behind = far ∙ has.behind;
       told = has.told ++ more;
       taken = says.taken start has.read (has.told ++ more) taken;
-      said = subst (λ (counts : Counts). IsSaid start has.read counts.early ((warned ++ warnings) ++ string_bytes new.taking.warnings)) (sym (says.counts ∙ settles.counts))
-          (subst (IsSaid start has.read old.taking.counts.early)
+      said = subst (λ (counts : Counts). IsSaid start has.read counts.early counts.ahead ((warned ++ warnings) ++ string_bytes new.taking.warnings)) (sym (says.counts ∙ settles.counts))
+          (subst (IsSaid start has.read old.taking.counts.early old.taking.counts.ahead)
           (ap (λ (text : List ℕ). warned ++ text) (sym (is ∙ ap string_bytes settles.warnings)) ∙ (sym (append-nil (warned ++ warnings)) ∙ ap (λ text. (warned ++ warnings) ++ text) (sym says.warnings)))
           has.said);
     }
@@ -70,4 +70,4 @@ pub said_all : (start : Start) (asked : AuditArguments) (taking : Taking) (bytes
     → HasWarned start taking (lines_asked asked bytes) warned × AreEarlyIn start (lines_asked asked bytes) taking.counts
     → warnings ≡ string_bytes taking.warnings → last ≡ taking.counts.last_early → HasSaidAll asked start bytes last (warned ++ warnings)
 said_all start asked taking bytes warned warnings last (was, are) is last_is =
-    (taking.counts.early, subst (IsSaid start (lines_asked asked bytes) taking.counts.early) (ap (λ text. warned ++ text) (sym is)) was, ap is_some last_is ∙ are.some)
+    (taking.counts.early, taking.counts.ahead, subst (IsSaid start (lines_asked asked bytes) taking.counts.early taking.counts.ahead) (ap (λ text. warned ++ text) (sym is)) was, ap is_some last_is ∙ are.some)

@@ -28,6 +28,7 @@ use Rattle.fdb_audit.specs.Taken.{AreTaken}
 use Rattle.fdb_audit.specs.Watched.{lines_asked, names_asked}
 use Rattle.fdb_audit.proofs.Calls.{IsCall, calls_asked}
 use Rattle.fdb_audit.proofs.Following.{counted}
+use Rattle.fdb_audit.proofs.Believed.{believed_low}
 use Rattle.fdb_audit.proofs.KeptSome.{one_ended, one_kept}
 use Rattle.fdb_audit.proofs.KeptTexts.{as_many, drop_mapped, none_at}
 use Rattle.fdb_audit.proofs.ReadOn.{early_named, in_time, taken_all}
@@ -163,7 +164,8 @@ module _ (stands : StandsForAll) (asked : AuditArguments) (start : Start) (behin
     | inl some ↦
         let far = (are.reach anew).from in
         let front = take taking.settled lines in
-        let (j, lt, (end, has)) = one_ended 0 front (omega (arith, far, some)) in
+        let low = believed_low start.behind front in
+        let (j, lt, (end, has)) = one_ended 0 front (omega (arith, far, some, low)) in
         let size = length-take taking.settled lines in
         let same = get_or-take taking.settled lines j nobody (omega (arith, lt, size)) in
         let (i, less, before, ends) = one_kept taking.watch.margin (from - taking.watch.horizon) from taking.settled lines (keys_taken (lines_asked asked piece)) places (omega arith) stand calls timely

@@ -1,30 +1,16 @@
 -- Up to when a watch has settled, by the lines that had come then.
-use Rattle.std.proofs.Common.{◌≡◌, ◌∙◌, ℕ, zero, suc, ◌+◌, ◌-◌, ◌^◌, ◌<◌, ◌≤◌, Bool, true, false, cond, nat_lt, List, [], ◌∷◌, ◌++◌, ap, arith, drop, length, max, refl, take}
-use Rattle.std.specs.Prelude.{unwrap_or}
+use Rattle.std.proofs.Common.{◌≡◌, ◌∙◌, ℕ, zero, suc, ◌+◌, ◌-◌, ◌^◌, ◌<◌, ◌≤◌, Bool, true, false, cond, nat_lt, List, [], ◌∷◌, ◌++◌, ap, arith, drop, length, refl, take}
 use Rattle.std.proofs.lemmas.Bool.Decides.{nat_tests}
 use Rattle.std.proofs.lemmas.List.{drop_all, length-drop, length_push, take-append-le, take_all}
 use Rattle.std.proofs.lemmas.List.Sums.{count_by-le-length, sum_by-append, sum_by-cons}
 use Rattle.fdb_lines.specs.declared.line.Line.{Line}
-use Rattle.fdb_lines.specs.Before.{began, ended}
+use Rattle.fdb_lines.specs.Before.{began}
 use Rattle.fdb_audit.specs.declared.taking.Taking.{Taking}
-use Rattle.fdb_audit.specs.Following.{Start, early_at, newest_end}
+use Rattle.fdb_audit.specs.Following.{Start, early_at}
+use Rattle.fdb_audit.specs.Clocks.{believed_end}
 use Rattle.fdb_audit.specs.Taken.{HasSettled}
 use Rattle.fdb_audit.specs.private.Followed.{one_more}
-
--- ---- the newest end of lines
-
-pub newest_more : (newest : ℕ) (lines : List Line) (line : Line) → newest_end newest (lines ++ line ∷ []) ≡ max (newest_end newest lines) (unwrap_or (ended line) 0)
-newest_more newest [] line = refl
-newest_more newest (one ∷ lines) line = newest_more (max newest (unwrap_or (ended one) 0)) lines line
-
-no_older : (newest : ℕ) (lines : List Line) → newest ≤ newest_end newest lines
-no_older newest [] = omega arith
-no_older newest (line ∷ lines) = let rest = no_older (max newest (unwrap_or (ended line) 0)) lines in omega (arith, rest)
-
-pub newest_part : (newest n : ℕ) (lines : List Line) → newest_end newest (take n lines) ≤ newest_end newest lines
-newest_part newest zero lines = no_older newest lines
-newest_part newest (suc n) [] = omega arith
-newest_part newest (suc n) (line ∷ lines) = newest_part (max newest (unwrap_or (ended line) 0)) n lines
+use Rattle.fdb_audit.proofs.Believed.{believed_part}
 
 -- ---- how many began before a moment
 
@@ -99,24 +85,24 @@ settled_now start new lines all =
 
 -- ---- how far it has
 
-pub far_more : (old new : Taking) (behind : ℕ) (lines : List Line) (line : Line) → old.settled ≤ length lines → old.watch.from ≤ newest_end 0 (take old.settled lines) - behind
-    → new.settled ≡ old.settled → new.watch.from ≡ old.watch.from → new.watch.from ≤ newest_end 0 (take new.settled (lines ++ line ∷ [])) - behind
+pub far_more : (old new : Taking) (behind : ℕ) (lines : List Line) (line : Line) → old.settled ≤ length lines → old.watch.from ≤ believed_end behind (take old.settled lines) - behind
+    → new.settled ≡ old.settled → new.watch.from ≡ old.watch.from → new.watch.from ≤ believed_end behind (take new.settled (lines ++ line ∷ [])) - behind
 far_more old new behind lines line come is settled from =
-    let part : newest_end 0 (take new.settled (lines ++ line ∷ [])) ≡ newest_end 0 (take old.settled lines) =
-    ap (newest_end 0) ((λ i. take (settled i) (lines ++ line ∷ [])) ∙ take-append-le old.settled lines (line ∷ []) come) in
+    let part : believed_end behind (take new.settled (lines ++ line ∷ [])) ≡ believed_end behind (take old.settled lines) =
+    ap (believed_end behind) ((λ i. take (settled i) (lines ++ line ∷ [])) ∙ take-append-le old.settled lines (line ∷ []) come) in
     omega (arith, is, from, part)
 
-pub far_still : (old new : Taking) (behind : ℕ) (lines : List Line) → old.watch.from ≤ newest_end 0 (take old.settled lines) - behind
-    → new.settled ≡ old.settled → new.watch.from ≡ old.watch.from → new.watch.from ≤ newest_end 0 (take new.settled lines) - behind
+pub far_still : (old new : Taking) (behind : ℕ) (lines : List Line) → old.watch.from ≤ believed_end behind (take old.settled lines) - behind
+    → new.settled ≡ old.settled → new.watch.from ≡ old.watch.from → new.watch.from ≤ believed_end behind (take new.settled lines) - behind
 far_still old new behind lines is settled from =
-    let part : newest_end 0 (take new.settled lines) ≡ newest_end 0 (take old.settled lines) = (λ i. newest_end 0 (take (settled i) lines)) in
+    let part : believed_end behind (take new.settled lines) ≡ believed_end behind (take old.settled lines) = (λ i. believed_end behind (take (settled i) lines)) in
     omega (arith, is, from, part)
 
--- so it is where the newest end of all lines is
-pub far_in_all : (taking : Taking) (behind : ℕ) (lines : List Line) → taking.watch.from ≤ newest_end 0 (take taking.settled lines) - behind → taking.watch.from ≤ newest_end 0 lines - behind
-far_in_all taking behind lines is = let part = newest_part 0 taking.settled lines in omega (arith, is, part)
+-- so it is where the newest end is that is believed of all lines
+pub far_in_all : (taking : Taking) (behind : ℕ) (lines : List Line) → taking.watch.from ≤ believed_end behind (take taking.settled lines) - behind → taking.watch.from ≤ believed_end behind lines - behind
+far_in_all taking behind lines is = let part = believed_part behind 0 [] taking.settled lines in omega (arith, is, part)
 
-pub far_now : (from come behind : ℕ) (lines : List Line) → come ≡ length lines → from ≤ newest_end 0 lines - behind → from ≤ newest_end 0 (take come lines) - behind
+pub far_now : (from come behind : ℕ) (lines : List Line) → come ≡ length lines → from ≤ believed_end behind lines - behind → from ≤ believed_end behind (take come lines) - behind
 far_now from come behind lines all is =
-    let whole : newest_end 0 (take come lines) ≡ newest_end 0 lines = ap (newest_end 0) (take_all come lines (omega (arith, all))) in
+    let whole : believed_end behind (take come lines) ≡ believed_end behind lines = ap (believed_end behind) (take_all come lines (omega (arith, all))) in
     omega (arith, is, whole)

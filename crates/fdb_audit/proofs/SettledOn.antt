@@ -12,17 +12,18 @@ use Rattle.fdb_audit.specs.declared.counts.Counts.{Counts}
 use Rattle.fdb_audit.specs.declared.numbering.Numbering.{Numbering}
 use Rattle.fdb_audit.specs.declared.taking.Taking.{Taking}
 use Rattle.fdb_audit.specs.Following.{Start, keys_taken, lines_since, lines_taken, taken}
-use Rattle.fdb_audit.specs.Taken.{AreCounted, AreTaken, kept_by}
+use Rattle.fdb_audit.specs.declared.clocks.Clocks.{Clocks}
+use Rattle.fdb_audit.specs.Taken.{AreCounted, AreTaken, HasHeard, kept_by}
 use Rattle.fdb_audit.specs.Warned.{AreEarly}
 use Rattle.fdb_audit.proofs.Settled.{far_in_all, far_now, settled_now, settled_still}
 
-pub settled_taken : (start : Start) (old new : Taking) (read : List (Result SaidLine Why)) (told more : List Found) (behind at : ℕ)
-    → AreTaken start old read told → behind ≡ start.behind → at ≡ old.newest - behind
+pub settled_taken : (start : Start) (old new : Taking) (read : List (Result SaidLine Why)) (told more : List Found) (at : ℕ)
+    → AreTaken start old read told → at ≡ old.clocks.believed - old.clocks.behind
     → HasSeenByKey new.watch (lines_taken read) (keys_taken read) → new.watch.from ≡ max old.watch.from at
     → (HasTold old.watch (lines_taken read) (keys_taken read) told → HasTold new.watch (lines_taken read) (keys_taken read) (told ++ more))
-    → new.numbering ≡ old.numbering → new.taken ≡ old.taken → new.refused ≡ old.refused → new.counts ≡ old.counts → new.newest ≡ old.newest
+    → new.numbering ≡ old.numbering → new.taken ≡ old.taken → new.refused ≡ old.refused → new.counts ≡ old.counts → new.clocks ≡ old.clocks
     → new.settled ≡ old.taken → AreTaken start new read (told ++ more)
-settled_taken start old new read told more behind at are far at_is seen moved tells numbering count refused counts newest settled =
+settled_taken start old new read told more at are at_is seen moved tells numbering count refused counts clocks settled =
     let lines = lines_taken read in
     let all : new.settled ≡ length lines = settled ∙ (are.count ∙ sym (length-map (taken read) (λ (said : SaidLine). said.line))) in
     record {
@@ -38,24 +39,33 @@ settled_taken start old new read told more behind at are far at_is seen moved te
       few = are.few;
       before = are.before;
       came = subst (λ (counts : Counts). AreEarly start.numbers.more read counts.early counts.judged counts.last_early) (sym counts) are.came;
+      few_ahead = (let was = are.few_ahead in let same = ap (λ (counts : Counts). counts.ahead) counts in omega (arith, was, same));
       from = (let was = are.from in omega (arith, was, moved));
       late = (let was = are.late in let same = ap (λ (counts : Counts). counts.early) counts in omega (arith, was, same));
       settled = settled_now start new lines all;
       reach = λ anew.
           let was = are.reach anew in
-          let newest_was = was.newest in
           let low = far_in_all old start.behind lines was.from in
-          let le = was.early in
           let early = ap (λ (counts : Counts). counts.early) counts in
-          record { newest = newest ∙ newest_was; from = far_now _ _ start.behind lines all (omega (arith, low, far, at_is, moved, newest_was)); early = omega (arith, le, early) };
+          let far = was.behind_is in
+          let believed = was.believed in
+          record {
+            behind_is = ap (λ (clocks : Clocks). clocks.behind) clocks ∙ far;
+            heard = subst (λ (clocks : Clocks). HasHeard clocks lines) (sym clocks) was.heard;
+            believed = ap (λ (clocks : Clocks). clocks.believed) clocks ∙ believed;
+            ahead_to = ap (λ (clocks : Clocks). clocks.ahead) clocks ∙ was.ahead_to;
+            from = far_now _ _ start.behind lines all (omega (arith, low, far, at_is, moved, believed));
+            early = (let le = was.early in omega (arith, le, early));
+            ahead = ap (λ (counts : Counts). counts.ahead) counts ∙ was.ahead;
+          };
       once = λ none_before none. tells (are.once none_before (sym (ap (λ (counts : Counts). counts.early) counts) ∙ none));
     }
 
--- and where its newest end is said to be later
-pub newest_later : (start : Start) (old new : Taking) (read : List (Result SaidLine Why)) (told : List Found) → start.anew ≡ false → AreTaken start old read told
+-- and where ends are said to be believed otherwise
+pub believes_else : (start : Start) (old new : Taking) (read : List (Result SaidLine Why)) (told : List Found) → start.anew ≡ false → AreTaken start old read told
     → new.watch ≡ old.watch → new.numbering ≡ old.numbering → new.taken ≡ old.taken → new.refused ≡ old.refused → new.counts ≡ old.counts
     → new.settled ≡ old.settled → AreTaken start new read told
-newest_later start old new read told on are watch numbering count refused counts settled = record {
+believes_else start old new read told on are watch numbering count refused counts settled = record {
   seen = subst (λ (watch : KeyWatch). HasSeenByKey watch (lines_taken read) (keys_taken read)) (sym watch) are.seen;
   numbered = record {
     above = ap (λ (numbering : Numbering). numbering.above.items) numbering ∙ are.numbered.above;
@@ -68,6 +78,7 @@ newest_later start old new read told on are watch numbering count refused counts
   few = are.few;
   before = are.before;
   came = subst (λ (counts : Counts). AreEarly start.numbers.more read counts.early counts.judged counts.last_early) (sym counts) are.came;
+  few_ahead = (let was = are.few_ahead in let same = ap (λ (counts : Counts). counts.ahead) counts in omega (arith, was, same));
   from = (let was = are.from in let same = ap (λ (watch : KeyWatch). watch.from) watch in omega (arith, was, same));
   late = (let was = are.late in let same = ap (λ (counts : Counts). counts.early) counts in omega (arith, was, same));
   settled = settled_still start old new (lines_taken read) are.settled settled (ap (λ (watch : KeyWatch). watch.from) watch) (ap (λ (counts : Counts). counts.early) counts);

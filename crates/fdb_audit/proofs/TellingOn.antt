@@ -16,7 +16,8 @@ use Rattle.fdb_audit.specs.declared.arguments.AuditArguments.{AuditArguments}
 use Rattle.fdb_audit.specs.declared.fault.LogFault.{LogFault}
 use Rattle.fdb_audit.specs.declared.follower.Follower.{Follower}
 use Rattle.fdb_audit.specs.declared.teller.Teller.{Teller}
-use Rattle.fdb_audit.specs.Following.{AreWindows, FollowArguments, IsCounted, IsEnd, Start, Window, early_at, first_told, keys_taken, kinds_told, lines_since, lines_taken, lines_told, out_of_reach, told_in_all}
+use Rattle.fdb_audit.specs.Following.{AreWindows, FollowArguments, IsCounted, IsEnd, Start, Window, early_at, first_told, keys_taken, kinds_told, lines_since, lines_taken, lines_told, told_in_all}
+use Rattle.fdb_audit.specs.Clocks.{ahead_in, out_of_reach}
 use Rattle.fdb_audit.specs.Watched.{HasFollowed, HasToldAll, IsComplete, IsFollowed, IsTelling, IsTold, followed_by, lines_asked, members_asked, names_asked}
 use Rattle.fdb_audit.specs.private.Followed.{AreTaken, HasTotals, IsUnread, TellsOn, counted_of, told_with}
 use Rattle.fdb_audit.specs.Warned.{AreEarly}
@@ -174,11 +175,15 @@ counted_for start old read are new counts numbering = record {
 }
 
 early_for : (start : Start) (old : Follower) (read : List (Result SaidLine Why)) {told : List Found} → AreTaken start old.taking read told → (new : Follower)
-    → new.taking.counts ≡ old.taking.counts → start.anew ≡ true → new.taking.counts.early ≤ out_of_reach start.behind 0 (lines_taken read)
+    → new.taking.counts ≡ old.taking.counts → start.anew ≡ true → new.taking.counts.early ≤ out_of_reach start.behind (lines_taken read)
 early_for start old read are new counts anew =
     let le = (are.reach anew).early in
     let same = ap (λ (counts : Counts). counts.early) counts in
     omega (arith, le, same)
+
+ahead_for : (start : Start) (old : Follower) (read : List (Result SaidLine Why)) {told : List Found} → AreTaken start old.taking read told → (new : Follower)
+    → new.taking.counts ≡ old.taking.counts → start.anew ≡ true → new.taking.counts.ahead ≡ ahead_in start.behind (lines_taken read)
+ahead_for start old read are new counts anew = ap (λ (counts : Counts). counts.ahead) counts ∙ (are.reach anew).ahead
 
 late_for : (start : Start) (old : Follower) (read : List (Result SaidLine Why)) {told : List Found} → AreTaken start old.taking read told → (new : Follower)
     → new.taking.counts ≡ old.taking.counts → early_at start.from (lines_since start read) ≤ new.taking.counts.early
@@ -204,6 +209,7 @@ settled_all start asked ends old new read told faults is reader more behind coun
       counted = counted_for start old read is.taken new counts numbering;
       before = is.taken.before;
       early = λ anew. early_for start old read is.taken new counts anew;
+      ahead = λ anew. ahead_for start old read is.taken new counts anew;
       came = subst (λ (counts : Counts). AreEarly start.numbers.more read counts.early counts.judged counts.last_early) (sym counts) is.taken.came;
       late = late_for start old read is.taken new counts;
       whole = λ none_before none. subst (IsComplete ends asked.opts.margin read) (faults_on start old.teller new.teller asked.opts.margin read names is.windows faults more)
@@ -231,6 +237,7 @@ told_so_far start asked old read told is each_once = (
         );
     before = is.taken.before;
     early = λ anew. early_for start old read is.taken old refl anew;
+    ahead = λ anew. ahead_for start old read is.taken old refl anew;
     came = is.taken.came;
     late = late_for start old read is.taken old refl;
   },
@@ -276,6 +283,7 @@ all_told asked start ends last bytes told text end found last_early is names tex
         whole = is.whole;
         before = is.before;
         early = is.early;
+        ahead = is.ahead;
         came = subst (AreEarly start.numbers.more read last.taking.counts.early last.taking.counts.judged) (sym early) is.came;
         late = is.late;
       },

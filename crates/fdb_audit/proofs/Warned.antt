@@ -1,13 +1,13 @@
 -- What is said of lines on standard error, with one line more.
 use Rattle.std.proofs.Common.{◌≡◌, ◌∙◌, ℕ, zero, suc, ◌+◌, ◌-◌, ◌^◌, ◌<◌, ◌≤◌, Bool, true, false, List, [], ◌∷◌, ◌++◌, Option, None, Some, Result, Ok, Err, add-one, add-zero, ap, append-nil, append_assoc, arith, drop, get_or, is_some, length, length-drop, map, min, nat_lt, refl, slice_get, string_bytes, subst, sym}
 use Rattle.std.specs.Prelude.{◌&&◌, IfSome, if◌then◌else◌}
-use Rattle.std.specs.List.{All, filter, flat_map, range_with_len}
+use Rattle.std.specs.List.{All, cons_option, filter, filter_map, flat_map, range_with_len}
 use Rattle.std.specs.Int.{is_power_of_two}
 use Rattle.std.proofs.lemmas.Bool.{and_from, and_left, and_right, false≢true}
 use Rattle.std.proofs.lemmas.Bool.Decides.{nat_tests}
 use Rattle.std.proofs.lemmas.Grind.{flat_map-append}
 use Rattle.std.proofs.lemmas.List.{length_push, map_push}
-use Rattle.std.proofs.lemmas.List.Elements.{All-push}
+use Rattle.std.proofs.lemmas.List.Elements.{All-push, filter_map-append}
 use Rattle.fdb_lines.specs.Before.{began}
 use Rattle.fdb_lines.specs.declared.fault.Found.{Found}
 use Rattle.fdb_log_reader.specs.declared.error.ReadError.{ReadError}
@@ -16,14 +16,15 @@ use Rattle.fdb_log_reader.specs.ReadLine.{SaidLine}
 use Rattle.fdb_audit.specs.declared.counts.Came.{Came}
 use Rattle.fdb_audit.specs.declared.counts.Counts.{Counts}
 use Rattle.fdb_audit.specs.declared.taking.Taking.{Taking}
-use Rattle.fdb_audit.specs.declared.warning.EarlyLine.{EarlyLine}
+use Rattle.fdb_audit.specs.declared.warning.CountedLine.{CountedLine}
 use Rattle.fdb_audit.specs.declared.warning.Warning.{Warning}
-use Rattle.fdb_audit.specs.declared.warning.Warning.TheVariants.{Early, Refused}
+use Rattle.fdb_audit.specs.declared.warning.Warning.TheVariants.{Ahead, Early, Refused}
 use Rattle.fdb_audit.specs.Following.{Start}
 use Rattle.fdb_audit.specs.Taken.{AreTaken, HasWarned}
-use Rattle.fdb_audit.specs.Warned.{IsNumberOfTaken, IsSaid, IsWarned, all_refused, said_early, said_refused, warning_line}
-use Rattle.fdb_audit.specs.private.Followed.{AreEarlyIn, CameMore, NotesLine, early_text, one_more}
-use Rattle.fdb_audit.proofs.Following.{few_read, line_number}
+use Rattle.fdb_audit.specs.Warned.{AreDoubled, IsNumberOfTaken, IsSaid, IsWarned, all_refused, as_ahead, as_early, as_refused, warning_line}
+use Rattle.fdb_audit.specs.private.Clocks.{ahead_of}
+use Rattle.fdb_audit.specs.private.Followed.{AreEarlyIn, CameMore, NotesLine, counted_line, doubled_text, one_more}
+use Rattle.fdb_audit.proofs.Following.{few_read, line_number, one_at_most}
 use Rattle.fdb_audit.proofs.Settled.{drop_on}
 use Rattle.fdb_audit.proofs.Totalled.{range_more}
 
@@ -51,10 +52,6 @@ fewer : (is_early judged : Bool) (old_early old_judged : ℕ) → old_judged ≤
 fewer true true early judged le few = omega (arith, le)
 fewer true false early judged le few = omega (arith, le, few)
 fewer false judged early some le few = le
-
-one_at_most : (is_early : Bool) (early : ℕ) → one_more is_early early ≤ early + 1
-one_at_most true early = omega arith
-one_at_most false early = omega arith
 
 some_more : (is_early : Bool) (early : ℕ) (number : ℕ) (last : Option ℕ) → is_some last ≡ nat_lt 0 early
     → is_some (if is_early then Some number else last) ≡ nat_lt 0 (one_more is_early early)
@@ -102,16 +99,6 @@ early_more start old new read said told are room notes was =
 
 -- ---- what is said
 
-refused_on : (warnings : List Warning) (warning : Warning) → said_refused (warnings ++ warning ∷ []) ≡ said_refused warnings ++ said_refused (warning ∷ [])
-refused_on [] warning = refl
-refused_on (Refused error ∷ warnings) warning = ap (λ rest. error ∷ rest) (refused_on warnings warning)
-refused_on (Early it ∷ warnings) warning = refused_on warnings warning
-
-earlier_on : (warnings : List Warning) (warning : Warning) → said_early (warnings ++ warning ∷ []) ≡ said_early warnings ++ said_early (warning ∷ [])
-earlier_on [] warning = refl
-earlier_on (Refused error ∷ warnings) warning = earlier_on warnings warning
-earlier_on (Early it ∷ warnings) warning = ap (λ rest. it ∷ rest) (earlier_on warnings warning)
-
 all_more : (number : ℕ) (read : List (Result SaidLine Why)) (why : Why)
     → all_refused number (read ++ Err why ∷ []) ≡ all_refused number read ++ record { line = number + length read; why = why } ∷ []
 all_more number [] why = ap (λ n. let it : ReadError = record { line = n; why = why } in it ∷ []) (sym (add-zero number))
@@ -128,33 +115,10 @@ all_same number [] said = refl
 all_same number (Ok other ∷ read) said = all_same (number + 1) read said
 all_same number (Err why ∷ read) said = ap (λ rest. let it : ReadError = record { line = number; why = why } in it ∷ rest) (all_same (number + 1) read said)
 
-all_stay : (more : ℕ) (read further : List (Result SaidLine Why)) (list : List EarlyLine) → All (λ (it : EarlyLine). IsNumberOfTaken more read it.line × (0 < it.by)) list
-    → All (λ (it : EarlyLine). IsNumberOfTaken more (read ++ further) it.line × (0 < it.by)) list
-all_stay more read further list all = λ k d lt. let one = all k d lt in (number_stays more read further (get_or list k d).line one.0, one.1)
+abbrev IsTold : ℕ → List (Result SaidLine Why) → CountedLine → Type 0
+IsTold more read it = IsNumberOfTaken more read it.line × (0 < it.by)
 
--- a line more that is refused
-pub refused_more : (more : ℕ) (read : List (Result SaidLine Why)) (why : Why) (early : ℕ) (text : List ℕ) (error : ReadError)
-    → error ≡ record { line = more + 1 + length read; why = why } → IsWarned more read early text → IsWarned more (read ++ Err why ∷ []) early (text ++ warning_line (Refused error))
-refused_more more read why early text error is (warnings, are, texts) = (
-  warnings ++ Refused error ∷ [],
-  record {
-    refused = refused_on warnings (Refused error) ∙ (ap (λ list. list ++ error ∷ []) are.refused
-        ∙ (ap (λ it. all_refused (more + 1) read ++ it ∷ []) is ∙ sym (all_more (more + 1) read why)));
-    doubled = ap (map (λ (it : EarlyLine). it.count)) (earlier_on warnings (Refused error) ∙ append-nil (said_early warnings)) ∙ are.doubled;
-    taken = subst (All (λ (it : EarlyLine). IsNumberOfTaken more (read ++ Err why ∷ []) it.line × (0 < it.by))) (sym (earlier_on warnings (Refused error) ∙ append-nil (said_early warnings)))
-        (all_stay more read (Err why ∷ []) (said_early warnings) are.taken);
-  },
-  ap (λ part. part ++ warning_line (Refused error)) texts
-      ∙ sym (flat_map-append warning_line warnings (Refused error ∷ []) ∙ ap (λ part. flat_map warning_line warnings ++ part) (append-nil (warning_line (Refused error)))),
-)
-
--- a line more that is taken and of which nothing is said
-quiet_more : (more : ℕ) (read : List (Result SaidLine Why)) (said : SaidLine) (early : ℕ) (text : List ℕ) → IsWarned more read early text → IsWarned more (read ++ Ok said ∷ []) early text
-quiet_more more read said early text (warnings, are, texts) = (
-  warnings,
-  record { refused = are.refused ∙ sym (all_same (more + 1) read said); doubled = are.doubled; taken = all_stay more read (Ok said ∷ []) (said_early warnings) are.taken },
-  texts,
-)
+-- ---- lines that are counted
 
 filter_on : {X : Type 0} (test : X → Bool) (xs : List X) (x : X) → filter test (xs ++ x ∷ []) ≡ filter test xs ++ (if test x then x ∷ [] else [])
 filter_on test [] x = alone (test x) refl
@@ -169,82 +133,163 @@ filter_on test (y ∷ xs) x = on (test y) refl (filter_on test xs x)
     on true is rest = grind (arith, is, rest)
     on false is rest = grind (arith, is, rest)
 
--- one more that came early
-counts_on : (early : ℕ) → filter is_power_of_two (range_with_len 1 (early + 1))
-    ≡ filter is_power_of_two (range_with_len 1 early) ++ (if is_power_of_two (early + 1) then (early + 1) ∷ [] else [])
-counts_on early =
-    let same : 1 + early ≡ early + 1 = omega arith in
-    ap (filter is_power_of_two) (ap (range_with_len 1) (add-one early) ∙ sym (range_more 1 early)) ∙ (filter_on is_power_of_two (range_with_len 1 early) (1 + early)
-    ∙ ap (λ n. filter is_power_of_two (range_with_len 1 early) ++ (if is_power_of_two n then n ∷ [] else [])) same)
+counts_on : (count : ℕ) → filter is_power_of_two (range_with_len 1 (count + 1))
+    ≡ filter is_power_of_two (range_with_len 1 count) ++ (if is_power_of_two (count + 1) then (count + 1) ∷ [] else [])
+counts_on count =
+    let same : 1 + count ≡ count + 1 = omega arith in
+    ap (filter is_power_of_two) (ap (range_with_len 1) (add-one count) ∙ sym (range_more 1 count)) ∙ (filter_on is_power_of_two (range_with_len 1 count) (1 + count)
+    ∙ ap (λ n. filter is_power_of_two (range_with_len 1 count) ++ (if is_power_of_two n then n ∷ [] else [])) same)
 
-early_quiet : (more : ℕ) (read : List (Result SaidLine Why)) (said : SaidLine) (early : ℕ) (text : List ℕ) → is_power_of_two (early + 1) ≡ false
-    → IsWarned more read early text → IsWarned more (read ++ Ok said ∷ []) (early + 1) text
-early_quiet more read said early text is (warnings, are, texts) = (
+-- what is told of them stays true
+doubled_stays : (more : ℕ) (read further : List (Result SaidLine Why)) (count : ℕ) (told : List CountedLine) → AreDoubled more read count told → AreDoubled more (read ++ further) count told
+doubled_stays more read further count told are = record {
+  counts = are.counts;
+  taken = λ k d lt. let one = are.taken k d lt in (number_stays more read further (get_or told k d).line one.0, one.1);
+}
+
+doubled_quiet : (more : ℕ) (read : List (Result SaidLine Why)) (count : ℕ) (told : List CountedLine) → is_power_of_two (count + 1) ≡ false
+    → AreDoubled more read count told → AreDoubled more read (count + 1) told
+doubled_quiet more read count told is are = record {
+  counts = are.counts ∙ sym (counts_on count ∙ (ap (λ test. filter is_power_of_two (range_with_len 1 count) ++ (if test then (count + 1) ∷ [] else [])) is
+      ∙ append-nil (filter is_power_of_two (range_with_len 1 count))));
+  taken = are.taken;
+}
+
+doubled_loud : (more : ℕ) (read : List (Result SaidLine Why)) (count : ℕ) (told : List CountedLine) (it : CountedLine) → is_power_of_two (count + 1) ≡ true
+    → it.count ≡ count + 1 → IsTold more read it → AreDoubled more read count told → AreDoubled more read (count + 1) (told ++ it ∷ [])
+doubled_loud more read count told it is count_is holds are = record {
+  counts = map_push (λ (it : CountedLine). it.count) told it
+      ∙ (ap (λ list. list ++ it.count ∷ []) are.counts ∙ (ap (λ n. filter is_power_of_two (range_with_len 1 count) ++ n ∷ []) count_is
+      ∙ sym (counts_on count ∙ ap (λ test. filter is_power_of_two (range_with_len 1 count) ++ (if test then (count + 1) ∷ [] else [])) is)));
+  taken = All-push (IsTold more read) told it are.taken holds;
+}
+
+-- ---- with one more that is said
+
+-- what is said more is told among what is of one kind
+kind_more : {X : Type 0} (kind : Warning → Option X) (warnings : List Warning) (warning : Warning) (it : X) → kind warning ≡ Some it
+    → filter_map kind warnings ++ it ∷ [] ≡ filter_map kind (warnings ++ warning ∷ [])
+kind_more kind warnings warning it is = ap (λ (one : Option _). filter_map kind warnings ++ cons_option one []) (sym is) ∙ sym (filter_map-append kind warnings (warning ∷ []))
+
+-- or is of another
+kind_same : {X : Type 0} (kind : Warning → Option X) (warnings : List Warning) (warning : Warning) → kind warning ≡ None → filter_map kind warnings ≡ filter_map kind (warnings ++ warning ∷ [])
+kind_same kind warnings warning is =
+    sym (append-nil (filter_map kind warnings))
+    ∙ (ap (λ (one : Option _). filter_map kind warnings ++ cons_option one []) (sym is) ∙ sym (filter_map-append kind warnings (warning ∷ [])))
+
+texts_more : (warnings : List Warning) (warning : Warning) (text : List ℕ) → text ≡ flat_map warning_line warnings → text ++ warning_line warning ≡ flat_map warning_line (warnings ++ warning ∷ [])
+texts_more warnings warning text is =
+    ap (λ part. part ++ warning_line warning) is
+    ∙ sym (flat_map-append warning_line warnings (warning ∷ []) ∙ ap (λ part. flat_map warning_line warnings ++ part) (append-nil (warning_line warning)))
+
+-- a line more that is refused
+pub refused_more : (more : ℕ) (read : List (Result SaidLine Why)) (why : Why) (early ahead : ℕ) (text : List ℕ) (error : ReadError)
+    → error ≡ record { line = more + 1 + length read; why = why } → IsWarned more read early ahead text → IsWarned more (read ++ Err why ∷ []) early ahead (text ++ warning_line (Refused error))
+refused_more more read why early ahead text error is (warnings, are, texts) =
+    let warning = Refused error in
+    let all = read ++ Err why ∷ [] in (
+      warnings ++ warning ∷ [],
+      record {
+        refused = sym (kind_more as_refused warnings warning error refl) ∙ (ap (λ list. list ++ error ∷ []) are.refused
+            ∙ (ap (λ it. all_refused (more + 1) read ++ it ∷ []) is ∙ sym (all_more (more + 1) read why)));
+        early_are = subst (AreDoubled more all early) (kind_same as_early warnings warning refl) (doubled_stays more read (Err why ∷ []) early (filter_map as_early warnings) are.early_are);
+        ahead_are = subst (AreDoubled more all ahead) (kind_same as_ahead warnings warning refl) (doubled_stays more read (Err why ∷ []) ahead (filter_map as_ahead warnings) are.ahead_are);
+      },
+      texts_more warnings warning text texts,
+    )
+
+-- a line more that is taken and of which nothing is said
+quiet_more : (more : ℕ) (read : List (Result SaidLine Why)) (said : SaidLine) (early ahead : ℕ) (text : List ℕ) → IsWarned more read early ahead text → IsWarned more (read ++ Ok said ∷ []) early ahead text
+quiet_more more read said early ahead text (warnings, are, texts) = (
   warnings,
   record {
     refused = are.refused ∙ sym (all_same (more + 1) read said);
-    doubled = are.doubled ∙ sym (counts_on early ∙ (ap (λ test. filter is_power_of_two (range_with_len 1 early) ++ (if test then (early + 1) ∷ [] else [])) is
-        ∙ append-nil (filter is_power_of_two (range_with_len 1 early))));
-    taken = all_stay more read (Ok said ∷ []) (said_early warnings) are.taken;
+    early_are = doubled_stays more read (Ok said ∷ []) early (filter_map as_early warnings) are.early_are;
+    ahead_are = doubled_stays more read (Ok said ∷ []) ahead (filter_map as_ahead warnings) are.ahead_are;
   },
   texts,
 )
 
-early_loud : (more : ℕ) (read : List (Result SaidLine Why)) (said : SaidLine) (early : ℕ) (text : List ℕ) (it : EarlyLine) → is_power_of_two (early + 1) ≡ true
-    → it.count ≡ early + 1 → 0 < it.by → it.line ≡ more + length read + 1
-    → IsWarned more read early text → IsWarned more (read ++ Ok said ∷ []) (early + 1) (text ++ warning_line (Early it))
-early_loud more read said early text it is count by number (warnings, are, texts) =
-    let count_of = λ (it : EarlyLine). it.count in
-    let all = λ (list : List EarlyLine). All (λ (it : EarlyLine). IsNumberOfTaken more (read ++ Ok said ∷ []) it.line × (0 < it.by)) list in (
+-- a line that is counted, of which something is said or not
+module _ (it : CountedLine) (warning : Warning) where
+  said_if : (b : Bool) → nat_lt 0 it.by && is_power_of_two it.count ≡ b → doubled_text it warning ≡ (if b then warning_line warning else [])
+  said_if b is = ap (λ test. if test then warning_line warning else []) is
+
+  -- by the count as it is then
+  count_by_then : (Said : ℕ → List ℕ → Type 0) (count : ℕ) (text : List ℕ) → count + 1 < 2 ^ 64 → it.count ≡ one_more (nat_lt 0 it.by) count → Said count text
+      → (is_power_of_two (count + 1) ≡ false → Said (count + 1) text)
+      → (is_power_of_two (count + 1) ≡ true → it.count ≡ count + 1 → 0 < it.by → Said (count + 1) (text ++ warning_line warning))
+      → Said it.count (text ++ doubled_text it warning)
+  count_by_then Said count text few is was quiet loud = on (nat_lt 0 it.by) refl
+    where
+      silent : nat_lt 0 it.by && is_power_of_two it.count ≡ false → text ≡ text ++ doubled_text it warning
+      silent none = sym (append-nil text) ∙ ap (λ part. text ++ part) (sym (said_if false none))
+
+      doubles : (b : Bool) → is_power_of_two (count + 1) ≡ b → nat_lt 0 it.by ≡ true → it.count ≡ count + 1 → Said it.count (text ++ doubled_text it warning)
+      doubles true power some next =
+          subst (Said it.count) (ap (λ part. text ++ part) (sym (said_if true (and_from (nat_lt 0 it.by) (is_power_of_two it.count) some (ap is_power_of_two next ∙ power)))))
+          (subst (λ n. Said n (text ++ warning_line warning)) (sym next) (loud power next (grind (arith, nat_tests, some))))
+      doubles false power some next =
+          subst (Said it.count) (silent (and_right (nat_lt 0 it.by) (is_power_of_two it.count) (ap is_power_of_two next ∙ power)))
+          (subst (λ n. Said n text) (sym next) (quiet power))
+
+      on : (b : Bool) → nat_lt 0 it.by ≡ b → Said it.count (text ++ doubled_text it warning)
+      on true some =
+          let next : it.count ≡ count + 1 = is ∙ (ap (λ b. one_more b count) some ∙ (let same : min (count + 1) (2 ^ 64 - 1) ≡ count + 1 = omega (arith, few) in same)) in
+          doubles (is_power_of_two (count + 1)) refl some next
+      on false none =
+          subst (Said it.count) (silent (and_left (nat_lt 0 it.by) (is_power_of_two it.count) none))
+          (subst (λ n. Said n text) (sym (is ∙ ap (λ b. one_more b count) none)) was)
+
+-- one that may have come early
+early_said : (more : ℕ) (read : List (Result SaidLine Why)) (early ahead : ℕ) (text : List ℕ) (it : CountedLine) → early + 1 < 2 ^ 64 → it.count ≡ one_more (nat_lt 0 it.by) early
+    → IsNumberOfTaken more read it.line → IsWarned more read early ahead text → IsWarned more read it.count ahead (text ++ doubled_text it (Early it))
+early_said more read early ahead text it few is number was = count_by_then it (Early it) (λ n text. IsWarned more read n ahead text) early text few is was (quiet was) (loud was)
+  where
+    quiet : IsWarned more read early ahead text → is_power_of_two (early + 1) ≡ false → IsWarned more read (early + 1) ahead text
+    quiet (warnings, are, texts) power =
+        (warnings, record { refused = are.refused; early_are = doubled_quiet more read early (filter_map as_early warnings) power are.early_are; ahead_are = are.ahead_are }, texts)
+
+    loud : IsWarned more read early ahead text → is_power_of_two (early + 1) ≡ true → it.count ≡ early + 1 → 0 < it.by → IsWarned more read (early + 1) ahead (text ++ warning_line (Early it))
+    loud (warnings, are, texts) power next some = (
       warnings ++ Early it ∷ [],
       record {
-        refused = refused_on warnings (Early it) ∙ (append-nil (said_refused warnings) ∙ (are.refused ∙ sym (all_same (more + 1) read said)));
-        doubled = ap (map count_of) (earlier_on warnings (Early it)) ∙ (map_push count_of (said_early warnings) it
-            ∙ (ap (λ list. list ++ it.count ∷ []) are.doubled ∙ (ap (λ n. filter is_power_of_two (range_with_len 1 early) ++ n ∷ []) count
-            ∙ sym (counts_on early ∙ ap (λ test. filter is_power_of_two (range_with_len 1 early) ++ (if test then (early + 1) ∷ [] else [])) is))));
-        taken = subst all (sym (earlier_on warnings (Early it)))
-            (All-push (λ (it : EarlyLine). IsNumberOfTaken more (read ++ Ok said ∷ []) it.line × (0 < it.by)) (said_early warnings) it
-            (all_stay more read (Ok said ∷ []) (said_early warnings) are.taken) ((length read, said, get_last read (Ok said), number), by));
+        refused = sym (kind_same as_refused warnings (Early it) refl) ∙ are.refused;
+        early_are = subst (AreDoubled more read (early + 1)) (kind_more as_early warnings (Early it) it refl)
+            (doubled_loud more read early (filter_map as_early warnings) it power next (number, some) are.early_are);
+        ahead_are = subst (AreDoubled more read ahead) (kind_same as_ahead warnings (Early it) refl) are.ahead_are;
       },
-      ap (λ part. part ++ warning_line (Early it)) texts
-          ∙ sym (flat_map-append warning_line warnings (Early it ∷ []) ∙ ap (λ part. flat_map warning_line warnings ++ part) (append-nil (warning_line (Early it)))),
+      texts_more warnings (Early it) text texts,
     )
 
--- a line more that is taken
-said_more : (more : ℕ) (read : List (Result SaidLine Why)) (said : SaidLine) (from began early new number by : ℕ) (text : List ℕ) → by ≡ from - began
-    → early + 1 < 2 ^ 64 - 1 → new ≡ one_more (nat_lt began from) early → number ≡ more + length read + 1
-    → IsWarned more read early text → IsWarned more (read ++ Ok said ∷ []) new (text ++ early_text number by new)
-said_more more read said from start early new number by text by_is few new_is number_is was = on (nat_lt start from) refl
+-- and may be ahead
+ahead_said : (more : ℕ) (read : List (Result SaidLine Why)) (early ahead : ℕ) (text : List ℕ) (it : CountedLine) → ahead + 1 < 2 ^ 64 → it.count ≡ one_more (nat_lt 0 it.by) ahead
+    → IsNumberOfTaken more read it.line → IsWarned more read early ahead text → IsWarned more read early it.count (text ++ doubled_text it (Ahead it))
+ahead_said more read early ahead text it few is number was = count_by_then it (Ahead it) (λ n text. IsWarned more read early n text) ahead text few is was (quiet was) (loud was)
   where
-    warned : ℕ → List ℕ → Type 0
-    warned count text = IsWarned more (read ++ Ok said ∷ []) count text
+    quiet : IsWarned more read early ahead text → is_power_of_two (ahead + 1) ≡ false → IsWarned more read early (ahead + 1) text
+    quiet (warnings, are, texts) power =
+        (warnings, record { refused = are.refused; early_are = are.early_are; ahead_are = doubled_quiet more read ahead (filter_map as_ahead warnings) power are.ahead_are }, texts)
 
-    doubles : (b : Bool) → is_power_of_two (early + 1) ≡ b → 0 < by → new ≡ early + 1 → warned new (text ++ early_text number by new)
-    doubles true is some next =
-        let it : EarlyLine = record { line = number; by = by; count = new } in
-        let said_is : early_text number by new ≡ warning_line (Early it) =
-        ap (λ test. if test then warning_line (Early it) else []) (and_from (nat_lt 0 by) (is_power_of_two new) (grind (arith, nat_tests)) (ap is_power_of_two next ∙ is)) in
-        subst (warned new) (ap (λ part. text ++ part) (sym said_is))
-        (subst (λ count. warned count (text ++ warning_line (Early it))) (sym next) (early_loud more read said early text it is next some number_is was))
-    doubles false is some next =
-        let it : EarlyLine = record { line = number; by = by; count = new } in
-        let none : early_text number by new ≡ [] =
-        ap (λ test. if test then warning_line (Early it) else []) (and_right (nat_lt 0 by) (is_power_of_two new) (ap is_power_of_two next ∙ is)) in
-        subst (warned new) (sym (append-nil text) ∙ ap (λ part. text ++ part) (sym none))
-        (subst (λ count. warned count text) (sym next) (early_quiet more read said early text is was))
+    loud : IsWarned more read early ahead text → is_power_of_two (ahead + 1) ≡ true → it.count ≡ ahead + 1 → 0 < it.by → IsWarned more read early (ahead + 1) (text ++ warning_line (Ahead it))
+    loud (warnings, are, texts) power next some = (
+      warnings ++ Ahead it ∷ [],
+      record {
+        refused = sym (kind_same as_refused warnings (Ahead it) refl) ∙ are.refused;
+        early_are = subst (AreDoubled more read early) (kind_same as_early warnings (Ahead it) refl) are.early_are;
+        ahead_are = subst (AreDoubled more read (ahead + 1)) (kind_more as_ahead warnings (Ahead it) it refl)
+            (doubled_loud more read ahead (filter_map as_ahead warnings) it power next (number, some) are.ahead_are);
+      },
+      texts_more warnings (Ahead it) text texts,
+    )
 
-    on : (b : Bool) → nat_lt start from ≡ b → warned new (text ++ early_text number by new)
-    on true is =
-        let some : 0 < by = (let lt : start < from = grind (arith, nat_tests) in omega (arith, lt, by_is)) in
-        let next : new ≡ early + 1 = new_is ∙ (ap (λ b. one_more b early) is ∙ (let same : min (early + 1) (2 ^ 64 - 1) ≡ early + 1 = omega (arith, few) in same)) in
-        doubles (is_power_of_two (early + 1)) refl some next
-    on false is =
-        let zero_of : by ≡ 0 = (let le : from ≤ start = grind (arith, nat_tests) in omega (arith, le, by_is)) in
-        let it : EarlyLine = record { line = number; by = by; count = new } in
-        let none : early_text number by new ≡ [] =
-        ap (λ test. if test then warning_line (Early it) else []) (and_left (nat_lt 0 by) (is_power_of_two new) (ap (nat_lt 0) zero_of)) in
-        subst (warned new) (sym (append-nil text) ∙ ap (λ part. text ++ part) (sym none))
-        (subst (λ count. warned count text) (sym (new_is ∙ ap (λ b. one_more b early) is)) (quiet_more more read said early text was))
+-- a line began before a moment that is some time above it
+some_time : (began from : ℕ) → nat_lt began from ≡ nat_lt 0 (from - began)
+some_time start from = by (nat_lt start from) refl
+  where
+    by : (b : Bool) → nat_lt start from ≡ b → nat_lt start from ≡ nat_lt 0 (from - start)
+    by true is = let some : 0 < from - start = (let lt : start < from = grind (arith, nat_tests) in omega (arith, lt)) in grind (arith, nat_tests, is, some)
+    by false is = let none : from - start ≡ 0 = (let le : from ≤ start = grind (arith, nat_tests) in omega (arith, le)) in is ∙ ap (nat_lt 0) (sym none)
 
 -- and one that is noted
 pub noted_more : (start : Start) (old new : Taking) (read : List (Result SaidLine Why)) (said : SaidLine) (told : List Found) (warned : List ℕ) → AreTaken start old read told
@@ -253,30 +298,44 @@ pub noted_more : (start : Start) (old new : Taking) (read : List (Result SaidLin
 noted_more start old new read said told warned are room notes was =
     let more = start.numbers.more + start.lines in
     let since = drop start.lines read in
+    let all = since ++ Ok said ∷ [] in
+    let early = counted_line notes.number (old.watch.from - began said.line) new.counts.early in
+    let ahead = counted_line notes.number (ahead_of old.clocks said.line) new.counts.ahead in
     let number = line_number start old new read said told are room notes in
     let few : length read + 1 < 2 ^ 64 - 1 = few_read start old read told are room in
-    let at : notes.number ≡ more + length since + 1 = (let size = length-drop start.lines read in let less = are.few in omega (arith, number, size, less)) in
-    subst (λ read. IsWarned more read new.counts.early (warned ++ string_bytes new.warnings)) (sym (drop_on start.lines read (Ok said ∷ []) are.few))
-    (subst (IsWarned more (since ++ Ok said ∷ []) new.counts.early)
-    (append_assoc warned (string_bytes old.warnings) _ ∙ ap (λ part. warned ++ part) (sym notes.warned))
-    (said_more more since said old.watch.from (began said.line) old.counts.early new.counts.early notes.number _ (warned ++ string_bytes old.warnings) refl
-    (let most = are.came.most in omega (arith, most, few)) notes.came.early at was))
+    let few_ahead : old.counts.ahead + 1 < 2 ^ 64 = (let most = are.few_ahead in omega (arith, most, few)) in
+    let its : IsNumberOfTaken more all notes.number =
+    (length since, said, get_last since (Ok said), (let size = length-drop start.lines read in let less = are.few in omega (arith, number, size, less))) in
+    let one = quiet_more more since said old.counts.early old.counts.ahead (warned ++ string_bytes old.warnings) was in
+    let two = early_said more all old.counts.early old.counts.ahead (warned ++ string_bytes old.warnings) early (let most = are.came.most in omega (arith, most, few))
+    (notes.came.early ∙ ap (λ b. one_more b old.counts.early) (some_time (began said.line) old.watch.from)) its one in
+    let three = ahead_said more all new.counts.early old.counts.ahead ((warned ++ string_bytes old.warnings) ++ doubled_text early (Early early)) ahead few_ahead notes.ahead its two in
+    subst (λ read. IsWarned more read new.counts.early new.counts.ahead (warned ++ string_bytes new.warnings)) (sym (drop_on start.lines read (Ok said ∷ []) are.few))
+    (subst (IsWarned more all new.counts.early new.counts.ahead)
+    (append_assoc (warned ++ string_bytes old.warnings) (doubled_text early (Early early)) (doubled_text ahead (Ahead ahead))
+    ∙ (append_assoc warned (string_bytes old.warnings) (doubled_text early (Early early) ++ doubled_text ahead (Ahead ahead))
+    ∙ ap (λ part. warned ++ part) (sym (append_assoc (string_bytes old.warnings) (doubled_text early (Early early)) (doubled_text ahead (Ahead ahead))) ∙ sym notes.warned)))
+    three)
 
 pub left_more : (start : Start) (old : Taking) (read : List (Result SaidLine Why)) (why : Why) (warned warnings : List ℕ) (error : ReadError) → start.lines ≤ length read
     → error ≡ record { line = start.numbers.more + 1 + length read; why = why }
     → warnings ≡ string_bytes old.warnings ++ warning_line (Refused error)
-    → HasWarned start old read warned → IsSaid start (read ++ Err why ∷ []) old.counts.early (warned ++ warnings)
+    → HasWarned start old read warned → IsSaid start (read ++ Err why ∷ []) old.counts.early old.counts.ahead (warned ++ warnings)
 left_more start old read why warned warnings error less is text was =
     let more = start.numbers.more + start.lines in
     let since = drop start.lines read in
     let here : start.numbers.more + 1 + length read ≡ more + 1 + length since = (let size = length-drop start.lines read in omega (arith, size, less)) in
-    subst (λ read. IsWarned more read old.counts.early (warned ++ warnings)) (sym (drop_on start.lines read (Err why ∷ []) less))
-    (subst (IsWarned more (since ++ Err why ∷ []) old.counts.early) (append_assoc warned (string_bytes old.warnings) (warning_line (Refused error)) ∙ ap (λ part. warned ++ part) (sym text))
-    (refused_more more since why old.counts.early (warned ++ string_bytes old.warnings) error (is ∙ ap (λ n. let it : ReadError = record { line = n; why = why } in it) here) was))
+    subst (λ read. IsWarned more read old.counts.early old.counts.ahead (warned ++ warnings)) (sym (drop_on start.lines read (Err why ∷ []) less))
+    (subst (IsWarned more (since ++ Err why ∷ []) old.counts.early old.counts.ahead)
+    (append_assoc warned (string_bytes old.warnings) (warning_line (Refused error)) ∙ ap (λ part. warned ++ part) (sym text))
+    (refused_more more since why old.counts.early old.counts.ahead (warned ++ string_bytes old.warnings) error (is ∙ ap (λ n. let it : ReadError = record { line = n; why = why } in it) here) was))
 
 -- nothing is said of no lines
-pub none_said : (start : Start) (read : List (Result SaidLine Why)) (counts : Counts) (text : List ℕ) → drop start.lines read ≡ [] → counts.early ≡ 0 → text ≡ [] → IsSaid start read counts.early text
-none_said start read counts text none early empty =
+pub none_said : (start : Start) (read : List (Result SaidLine Why)) (counts : Counts) (text : List ℕ) → drop start.lines read ≡ [] → counts.early ≡ 0 → counts.ahead ≡ 0 → text ≡ []
+    → IsSaid start read counts.early counts.ahead text
+none_said start read counts text none early ahead empty =
     let more = start.numbers.more + start.lines in
-    subst (λ read. IsWarned more read counts.early text) (sym none)
-    (subst (λ count. IsWarned more [] count text) (sym early) ([], record { refused = refl; doubled = refl; taken = λ k d lt. absurd (omega (arith, lt)) }, empty))
+    let none_told : AreDoubled more [] 0 [] = record { counts = refl; taken = λ k d lt. absurd (omega (arith, lt)) } in
+    subst (λ read. IsWarned more read counts.early counts.ahead text) (sym none)
+    (subst (λ count. IsWarned more [] count counts.ahead text) (sym early)
+    (subst (λ count. IsWarned more [] 0 count text) (sym ahead) ([], record { refused = refl; early_are = none_told; ahead_are = none_told }, empty)))

@@ -1,12 +1,12 @@
 -- What is told of a log that is followed as it grows. (this product's own)
-use Rattle.std.specs.Prelude.{◌≡◌, ℕ, zero, suc, ◌+◌, ◌≤◌, ◌++◌, ◌||◌, nat_le, not, Bool, true, false, List, [], ◌∷◌, All, Option, None, Some, codes, cond, count_by, drop, length, map, max, nat_lt, option_map, slice_get, slice_index, take, unwrap_or, Result, Ok, Err, if◌then◌else◌}
+use Rattle.std.specs.Prelude.{◌≡◌, ℕ, zero, suc, ◌+◌, ◌≤◌, ◌||◌, nat_le, not, Bool, true, false, List, [], ◌∷◌, ◌++◌, All, Option, None, Some, codes, count_by, drop, length, map, nat_lt, option_map, slice_get, slice_index, take, unwrap_or, Result, Ok, Err, if◌then◌else◌}
 use Rattle.std.specs.List.{flat_map, range_with_len}
 use Rattle.std.specs.Option.{option_or}
 use Rattle.fdb_lines.specs.declared.fault.Fault.{Fault}
 use Rattle.fdb_lines.specs.declared.fault.Found.{Found}
 use Rattle.fdb_lines.specs.declared.line.Line.{Line}
 use Rattle.fdb_lines.specs.declared.reason.Finding.{Finding}
-use Rattle.fdb_lines.specs.Before.{began, ended}
+use Rattle.fdb_lines.specs.Before.{began}
 use Rattle.fdb_lines.specs.Carried.{with_times}
 use Rattle.fdb_lines.specs.KeyParts.{lines_of_one}
 use Rattle.fdb_lines.specs.Keys.{placed_finding, placed_found, places_of}
@@ -97,17 +97,6 @@ lines_since start read = lines_taken (drop start.lines read)
 -- how many of some lines began before a moment
 abbrev pub early_at : ℕ → List Line → ℕ
 early_at at lines = count_by (λ line. nat_lt (began line) at) lines
-
--- the newest end of some lines that is known, or of what was before
-abbrev pub newest_end : ℕ → List Line → ℕ
-newest_end newest [] = newest
-newest_end newest (line ∷ lines) = newest_end (max newest (unwrap_or (ended line) 0)) lines
-
--- how many of some lines began further behind than that the newest end of those above them
-abbrev pub out_of_reach : ℕ → ℕ → List Line → ℕ
-out_of_reach behind newest [] = 0
-out_of_reach behind newest (line ∷ lines) =
-    cond (nat_lt (began line + behind) newest) 1 0 + out_of_reach behind (max newest (unwrap_or (ended line) 0)) lines
 
 -- why a part of a log is refused, if it is: the last line that is, or that none is taken
 abbrev pub left_out : KeptNumbers → List (Result SaidLine Why) → Option ReadError
@@ -205,7 +194,7 @@ lines_told read windows = flat_map (λ (window : Window). lines_at (take window.
 -- ---- what is printed at the end
 
 -- how many lines were taken, in all and of each kind; how many were refused; how many began before what had been settled, and
--- how many of these were judged
+-- how many of these were judged; and how many ends were found to be ahead
 pub record Counted : Type 0 where
   pub lines : ℕ
   pub reads : ℕ
@@ -215,6 +204,7 @@ pub record Counted : Type 0 where
   pub refused : ℕ
   pub early : ℕ
   pub judged : ℕ
+  pub ahead : ℕ
 
 pub record IsCounted (start : Start) (read : List (Result SaidLine Why)) (counts : Counted) : Type 0 where
   pub lines : counts.lines ≡ length (lines_since start read)
@@ -229,12 +219,18 @@ abbrev pub judged_figures : ℕ → ℕ → List Figure
 judged_figures zero judged = []
 judged_figures (suc early) judged = figure (codes "judged") judged ∷ []
 
+-- and how many ends were found to be ahead, where some were
+abbrev pub ahead_figures : ℕ → List Figure
+ahead_figures zero = []
+ahead_figures (suc ahead) = figure (codes "ahead") (suc ahead) ∷ []
+
 -- these, by their names
 abbrev pub counted_figures : Counted → List Figure
 counted_figures counts =
     figure (codes "lines") counts.lines ∷ figure (codes "reads") counts.reads ∷ figure (codes "commits") counts.commits
     ∷ figure (codes "asks") counts.asks ∷ figure (codes "reports") counts.reports ∷ figure (codes "refused") counts.refused
     ∷ figure (codes "early") counts.early ∷ judged_figures counts.early counts.judged
+    ++ ahead_figures counts.ahead
 
 -- what is said in front of them, where no fault was found: a log of which lines came early was not judged whole
 abbrev pub verdict_of : ℕ → List ℕ

@@ -20,9 +20,10 @@ use Rattle.fdb_audit.specs.Taken.{AreTaken}
 use Rattle.fdb_audit.specs.Watched.{IsFollowed, lines_asked, names_asked}
 
 -- the members that say as what a line is kept: its number among all lines that were read, counted from 1; how many had been
--- read; and up to when all was told, which is left out in lines that came since
+-- read; up to when all was told, which is left out in lines that came since; and in the first of how many clients lines had come, up
+-- to two
 abbrev pub kept_members : List (List ℕ)
-kept_members = codes "kept_line" ∷ codes "kept_lines" ∷ codes "kept_settled" ∷ []
+kept_members = codes "kept_line" ∷ codes "kept_lines" ∷ codes "kept_settled" ∷ codes "kept_clients" ∷ []
 
 -- the lines that a text keeps, where a member has the keys, if they are kept
 abbrev pub lines_kept : Option (List ℕ) → List ℕ → List SaidLine

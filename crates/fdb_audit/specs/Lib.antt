@@ -5,10 +5,12 @@ pub mod Objects
 pub mod Totals
 pub mod Groups
 pub mod Judged
+pub mod Clocks
 pub mod Following
 pub mod Warned
 pub mod Taken
 pub mod Watched
+pub mod Progress
 pub mod Kept
 pub mod Pieces
 pub mod Program

@@ -25,7 +25,8 @@ use Rattle.fdb_audit.specs.Kept.{start_of}
 use Rattle.fdb_audit.specs.declared.audit_program.AuditIntake.{AuditIntake}
 use Rattle.fdb_audit.specs.declared.audit_program.AuditIntake.TheVariants.{Whole, Followed}
 use Rattle.fdb_audit.specs.declared.audit_program.TheConstants.{MAX_LOG_BYTES}
-use Rattle.fdb_audit.specs.Watched.{HasFollowed, IsFollowed, lines_asked}
+use Rattle.fdb_audit.specs.Progress.{HasPrinted, IsPrinted}
+use Rattle.fdb_audit.specs.Watched.{lines_asked}
 
 -- an argument that gives a text, as clap is given it
 abbrev pub text_rule : Text → Rule
@@ -110,7 +111,7 @@ abbrev pub HasTaken : AuditArguments → AuditIntake → List ℕ → List ℕ �
 HasTaken asked (Whole reader) bytes told = (asked.follow ≡ None) × HasRead asked reader bytes × (told ≡ [])
 HasTaken asked (Followed log) bytes told =
     (behind : ℕ) × (asked.follow ≡ Some behind) × (kept : List ℕ) × MayBeKept asked kept
-    × HasFollowed asked (started asked behind kept) log.follower (kept ++ bytes) told
+    × HasPrinted asked (started asked behind kept) log (kept ++ bytes) told
 
 -- why a part of a text is refused, if it is: the last line that is, or that none is taken
 abbrev pub refused_of : AuditArguments → Start → List ℕ → Option ReadError
@@ -125,7 +126,7 @@ abbrev pub PrintsBy : Option ℕ → AuditArguments → List ℕ → List ℕ �
 PrintsBy None asked bytes text found refused = Prints asked bytes text found × (refused ≡ None)
 PrintsBy (Some behind) asked bytes text found refused =
     (kept : List ℕ) × MayBeKept asked kept × (last_early : Option ℕ)
-    × IsFollowed asked (started asked behind kept) (not (is_some asked.keep)) (kept ++ bytes) text found last_early
+    × IsPrinted asked (started asked behind kept) (not (is_some asked.keep)) (kept ++ bytes) text found last_early
     × (refused ≡ refusal_of (refused_of asked (started asked behind kept) (kept ++ bytes)) last_early)
 
 -- why it is refused, or why a part of it is, or that not all of it was judged; or what was kept is
@@ -138,7 +139,7 @@ RefusesBy (Some behind) asked bytes (Log error) =
 RefusesBy (Some behind) asked bytes (Early number) =
     (kept : List ℕ) × MayBeKept asked kept × (refused_of asked (started asked behind kept) (kept ++ bytes) ≡ None)
     × (text : List ℕ) × (found : Option LogFault)
-    × IsFollowed asked (started asked behind kept) (not (is_some asked.keep)) (kept ++ bytes) text found (Some number)
+    × IsPrinted asked (started asked behind kept) (not (is_some asked.keep)) (kept ++ bytes) text found (Some number)
 RefusesBy (Some behind) asked bytes (Of_kept refused) = is_some asked.keep ≡ true
 
 -- Neither --complete nor --history suits --follow, and --keep suits nothing else. It prints what an audit of the log finds that the bytes stand for,

@@ -1,5 +1,5 @@
 -- The lines that a follower has taken, of those that were read, and what it has told of them. (this product's own)
-use Rattle.std.specs.Prelude.{◌≡◌, ℕ, ◌+◌, ◌-◌, ◌<◌, ◌≤◌, ◌^◌, ◌++◌, Bool, true, false, All, List, MatchOption, None, Option, Result, drop, length, map, string_bytes, take}
+use Rattle.std.specs.Prelude.{◌≡◌, ℕ, ◌+◌, ◌-◌, ◌<◌, ◌≤◌, ◌==◌, ◌^◌, ◌++◌, Bool, true, false, All, List, MatchOption, None, Option, Some, Result, drop, length, map, string_bytes, take, if◌then◌else◌}
 use Rattle.std.specs.List.{range_with_len}
 use Rattle.fdb_lines.specs.declared.fault.Fault.{Fault}
 use Rattle.fdb_lines.specs.declared.fault.Found.{Found}
@@ -17,7 +17,10 @@ use Rattle.fdb_audit.specs.declared.teller.Teller.{Teller}
 use Rattle.fdb_audit.specs.declared.beside.Column.{Column}
 use Rattle.fdb_audit.specs.declared.told_faults.ToldFaults.{ToldFaults}
 use Rattle.fdb_audit.specs.Warned.{AreEarly, IsSaid}
-use Rattle.fdb_audit.specs.Following.{Counted, KeptNumbers, Start, early_at, keys_taken, last_refused, lines_since, lines_taken, newest_end, out_of_reach, taken, taken_above}
+use Rattle.fdb_audit.specs.Following.{Counted, KeptNumbers, Start, early_at, keys_taken, last_refused, lines_since, lines_taken, taken, taken_above}
+use Rattle.fdb_audit.specs.Clocks.{ahead_end, ahead_in, believed_end, newest_end, others_end, out_of_reach}
+use Rattle.fdb_audit.specs.declared.clocks.Clocks.{Clocks}
+use Rattle.fdb_audit.specs.declared.clocks.Leader.{Leader}
 
 -- the numbers of the lines that were kept of others and come first, and how many more there were
 abbrev pub kept_by : Numbering → KeptNumbers
@@ -37,12 +40,36 @@ pub record AreCounted (counts : Counts) (all : List Line) : Type 0 where
   pub asks : counts.asks ≡ how_many is_ask all
   pub reports : counts.reports ≡ how_many is_report all
 
+-- ---- the clocks of lines
+
+-- whether a client is known to be this one
+abbrev pub is_client : ℕ → Option ℕ → Bool
+is_client one None = false
+is_client one (Some other) = one == other
+
+-- the newest end of others, by the client who leads and the newest end of the rest
+abbrev pub others_by : Option Leader → Option ℕ → Option ℕ → Option ℕ
+others_by None second client = second
+others_by (Some leader) second client = if is_client leader.client client then second else Some leader.end
+
+abbrev pub others_of : Clocks → Option ℕ → Option ℕ
+others_of clocks client = others_by clocks.leader clocks.second client
+
+-- these lines have been heard
+pub record HasHeard (clocks : Clocks) (lines : List Line) : Type 0 where
+  pub newest : clocks.newest ≡ newest_end 0 lines
+  pub others : (client : Option ℕ) → others_of clocks client ≡ others_end client lines
+
 -- It has settled no further than to where lines that came after that might begin, and so no more have come early than began out of
--- reach.
+-- reach; and so many are ahead.
 pub record IsInReach (behind : ℕ) (taking : Taking) (lines : List Line) : Type 0 where
-  pub newest : taking.newest ≡ newest_end 0 lines
-  pub from : taking.watch.from ≤ newest_end 0 (take taking.settled lines) - behind
-  pub early : taking.counts.early ≤ out_of_reach behind 0 lines
+  pub behind_is : taking.clocks.behind ≡ behind
+  pub heard : HasHeard taking.clocks lines
+  pub believed : taking.clocks.believed ≡ believed_end behind lines
+  pub ahead_to : taking.clocks.ahead ≡ ahead_end behind lines
+  pub from : taking.watch.from ≤ believed_end behind (take taking.settled lines) - behind
+  pub early : taking.counts.early ≤ out_of_reach behind lines
+  pub ahead : taking.counts.ahead ≡ ahead_in behind lines
 
 -- So many lines had come when it settled last; of those that came since no more began before that than came early.
 pub record HasSettled (start : Start) (taking : Taking) (lines : List Line) : Type 0 where
@@ -65,11 +92,12 @@ pub record AreTaken (start : Start) (taking : Taking) (read : List (Result SaidL
   pub settled : HasSettled start taking (lines_taken read)
   pub reach : start.anew ≡ true → IsInReach start.behind taking (lines_taken read)
   pub came : AreEarly start.numbers.more read taking.counts.early taking.counts.judged taking.counts.last_early
+  pub few_ahead : taking.counts.ahead ≤ length read
   pub once : start.early ≡ 0 → taking.counts.early ≡ 0 → HasTold taking.watch (lines_taken read) (keys_taken read) told
 
 -- This was said on standard error of those that came since, but for what is said next.
 abbrev pub HasWarned : Start → Taking → List (Result SaidLine Why) → List ℕ → Type 0
-HasWarned start taking read warned = IsSaid start read taking.counts.early (warned ++ string_bytes taking.warnings)
+HasWarned start taking read warned = IsSaid start read taking.counts.early taking.counts.ahead (warned ++ string_bytes taking.warnings)
 
 -- Faults of these kinds are counted, the first of which stands at the first of these lines, and so on, with what is printed of
 -- these members beside the lines.
@@ -98,6 +126,7 @@ counted_in counts refused = record {
   refused = refused;
   early = counts.early;
   judged = counts.judged;
+  ahead = counts.ahead;
 }
 
 abbrev pub counted_of : Taking → Counted

@@ -1,6 +1,6 @@
 -- What is said on standard error of a log that is followed. (this product's own)
 use Rattle.std.specs.Prelude.{◌≡◌, ℕ, ◌+◌, ◌<◌, ◌≤◌, ◌++◌, All, IfSome, List, [], ◌∷◌, Option, None, Some, Result, Ok, Err, codes, decimal, drop, is_some, length, map, nat_lt, slice_get}
-use Rattle.std.specs.List.{filter, flat_map, range_with_len}
+use Rattle.std.specs.List.{filter, filter_map, flat_map, range_with_len}
 use Rattle.std.specs.Int.{is_power_of_two}
 use Rattle.fdb_log_reader.specs.declared.error.ReadError.{ReadError}
 use Rattle.fdb_log_reader.specs.declared.error.Why.{Why}
@@ -11,9 +11,9 @@ use Rattle.fdb_log_reader.specs.Text.{error_text}
 use Rattle.fdb_audit.specs.declared.refused.KeptRefused.{KeptRefused}
 use Rattle.fdb_audit.specs.declared.refused.LogsRefused.{LogsRefused}
 use Rattle.fdb_audit.specs.declared.refused.LogsRefused.TheVariants.{Early, Kept, Log}
-use Rattle.fdb_audit.specs.declared.warning.EarlyLine.{EarlyLine}
+use Rattle.fdb_audit.specs.declared.warning.CountedLine.{CountedLine}
 use Rattle.fdb_audit.specs.declared.warning.Warning.{Warning}
-use Rattle.fdb_audit.specs.declared.warning.Warning.TheVariants.{Refused}
+use Rattle.fdb_audit.specs.declared.warning.Warning.TheVariants.{Refused, Ahead}
 use Rattle.fdb_audit.specs.declared.warning.Warning.TheVariants.{Early as Of_early}
 use Rattle.fdb_audit.specs.Following.{Start}
 use Rattle.fdb_audit.specs.Text.{line}
@@ -67,6 +67,9 @@ warning_line (Refused error) = line (codes "fdb_audit: " ++ refused_text (Log er
 warning_line (Of_early it) =
     counted (codes "fdb_audit: early line ") it.line (codes ": it began ") ++ counted [] it.by (codes " before what had been settled; ")
     ++ counted [] it.count (line (codes " so far: --follow is too small, or a clock is ahead"))
+warning_line (Ahead it) =
+    counted (codes "fdb_audit: a clock is ahead: above line ") it.line (codes " a line of another client ended ") ++ counted [] it.by (codes " after it; ")
+    ++ counted [] it.count (line (codes " so far: it is not believed"))
 
 -- the lines that are refused, each by its number and why, where the first has a number
 abbrev pub all_refused : ℕ → List (Result SaidLine Why) → List ReadError
@@ -74,17 +77,21 @@ all_refused number [] = []
 all_refused number (Ok said ∷ read) = all_refused (number + 1) read
 all_refused number (Err why ∷ read) = record { line = number; why = why } ∷ all_refused (number + 1) read
 
--- of what is said, the lines that are said to be refused
-abbrev pub said_refused : List Warning → List ReadError
-said_refused [] = []
-said_refused (Refused error ∷ warnings) = error ∷ said_refused warnings
-said_refused (Of_early it ∷ warnings) = said_refused warnings
+-- of what is said of a line: why it is refused; or that it came early, or is ahead
+abbrev pub as_refused : Warning → Option ReadError
+as_refused (Refused error) = Some error
+as_refused (Of_early it) = None
+as_refused (Ahead it) = None
 
--- and those that are said to have come early
-abbrev pub said_early : List Warning → List EarlyLine
-said_early [] = []
-said_early (Refused error ∷ warnings) = said_early warnings
-said_early (Of_early it ∷ warnings) = it ∷ said_early warnings
+abbrev pub as_early : Warning → Option CountedLine
+as_early (Refused error) = None
+as_early (Of_early it) = Some it
+as_early (Ahead it) = None
+
+abbrev pub as_ahead : Warning → Option CountedLine
+as_ahead (Refused error) = None
+as_ahead (Of_early it) = None
+as_ahead (Ahead it) = Some it
 
 -- a line that was taken has this number, counted from 1, where so many more were read
 abbrev pub IsNumberOfTaken : ℕ → List (Result SaidLine Why) → ℕ → Type 0
@@ -97,17 +104,22 @@ pub record AreEarly (more : ℕ) (read : List (Result SaidLine Why)) (early judg
   pub some : is_some last ≡ nat_lt 0 early
   pub taken : IfSome last (IsNumberOfTaken more read)
 
--- What is said of lines that were read, of which so many came early: of each that is refused, in their order, and of the first,
--- second, fourth and so on that came early.
-pub record AreWarnings (more : ℕ) (read : List (Result SaidLine Why)) (early : ℕ) (warnings : List Warning) : Type 0 where
-  pub refused : said_refused warnings ≡ all_refused (more + 1) read
-  pub doubled : map (λ (it : EarlyLine). it.count) (said_early warnings) ≡ filter is_power_of_two (range_with_len 1 early)
-  pub taken : All (λ (it : EarlyLine). IsNumberOfTaken more read it.line × (0 < it.by)) (said_early warnings)
+-- Of so many lines that were counted the first, second, fourth and so on are told, each by its number, and by more than 0.
+pub record AreDoubled (more : ℕ) (read : List (Result SaidLine Why)) (count : ℕ) (told : List CountedLine) : Type 0 where
+  pub counts : map (λ (it : CountedLine). it.count) told ≡ filter is_power_of_two (range_with_len 1 count)
+  pub taken : All (λ (it : CountedLine). IsNumberOfTaken more read it.line × (0 < it.by)) told
+
+-- What is said of lines that were read, of which so many came early, and so many were ahead: of each that is refused, in their order,
+-- and of the first, second, fourth and so on that came early, or was ahead.
+pub record AreWarnings (more : ℕ) (read : List (Result SaidLine Why)) (early ahead : ℕ) (warnings : List Warning) : Type 0 where
+  pub refused : filter_map as_refused warnings ≡ all_refused (more + 1) read
+  pub early_are : AreDoubled more read early (filter_map as_early warnings)
+  pub ahead_are : AreDoubled more read ahead (filter_map as_ahead warnings)
 
 -- and this is their text
-abbrev pub IsWarned : ℕ → List (Result SaidLine Why) → ℕ → List ℕ → Type 0
-IsWarned more read early text = (warnings : List Warning) × AreWarnings more read early warnings × (text ≡ flat_map warning_line warnings)
+abbrev pub IsWarned : ℕ → List (Result SaidLine Why) → (early ahead : ℕ) → List ℕ → Type 0
+IsWarned more read early ahead text = (warnings : List Warning) × AreWarnings more read early ahead warnings × (text ≡ flat_map warning_line warnings)
 
 -- of a log that is followed on it is said of the lines that came since
-abbrev pub IsSaid : Start → List (Result SaidLine Why) → ℕ → List ℕ → Type 0
-IsSaid start read early text = IsWarned (start.numbers.more + start.lines) (drop start.lines read) early text
+abbrev pub IsSaid : Start → List (Result SaidLine Why) → (early ahead : ℕ) → List ℕ → Type 0
+IsSaid start read early ahead text = IsWarned (start.numbers.more + start.lines) (drop start.lines read) early ahead text

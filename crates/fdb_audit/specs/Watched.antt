@@ -11,7 +11,8 @@ use Rattle.fdb_audit.specs.declared.arguments.AuditArguments.{AuditArguments}
 use Rattle.fdb_audit.specs.declared.fault.LogFault.{LogFault}
 use Rattle.fdb_audit.specs.declared.follower.Follower.{Follower}
 use Rattle.fdb_audit.specs.declared.teller.Teller.{Teller}
-use Rattle.fdb_audit.specs.Following.{AreWindows, Counted, FollowArguments, IsCounted, IsEnd, Start, Window, early_at, first_told, keys_taken, kinds_told, lines_since, lines_taken, lines_told, out_of_reach, told_in_all}
+use Rattle.fdb_audit.specs.Following.{AreWindows, Counted, FollowArguments, IsCounted, IsEnd, Start, Window, early_at, first_told, keys_taken, kinds_told, lines_since, lines_taken, lines_told, told_in_all}
+use Rattle.fdb_audit.specs.Clocks.{ahead_in, out_of_reach}
 use Rattle.fdb_audit.specs.Taken.{AreTaken, HasTotals, HasWarned, counted_of}
 use Rattle.fdb_audit.specs.Warned.{AreEarly, IsSaid}
 
@@ -68,7 +69,7 @@ pub record HasSaid (asked : AuditArguments) (start : Start) (follower : Follower
 -- At its end this was said of all lines, where the last that came early has this number, if one did.
 abbrev pub HasSaidAll : AuditArguments → Start → List ℕ → Option ℕ → List ℕ → Type 0
 HasSaidAll asked start bytes last_early text =
-    (early : ℕ) × IsSaid start (lines_asked asked bytes) early text × (is_some last_early ≡ nat_lt 0 early)
+    (early ahead : ℕ) × IsSaid start (lines_asked asked bytes) early ahead text × (is_some last_early ≡ nat_lt 0 early)
 
 -- At the end of a log has been told, each fault once, what an audit of all lines finds; where it is to be followed on, what that
 -- finds at lines that began before some moment.
@@ -78,7 +79,8 @@ IsComplete false margin read told = (to : ℕ) × IsPermutation told (audited_to
 
 -- What is told of all lines of a text, window by window, and at the end how much was read; the first fault, if one was told, and
 -- the number of the last line that came early, if one did. Where none came early, it is whole; from its beginning no more came early
--- than began out of reach, and no fewer did than began before that up to which all had been told.
+-- than began out of reach, and so many were ahead as are of what was known; and no fewer came early than began before that up to
+-- which all had been told.
 pub record IsFollowed (asked : AuditArguments) (start : Start) (ends : Bool) (bytes text : List ℕ) (found : Option LogFault) (last_early : Option ℕ) : Type 0 where
   pub windows : List Window
   pub told : List ℕ
@@ -92,7 +94,8 @@ pub record IsFollowed (asked : AuditArguments) (start : Start) (ends : Bool) (by
   pub end_is : IsEnd (not (is_some found) && not asked.wanted.json) asked.wanted.totals asked.wanted.json counts (followed_by asked start.behind)
       (map printed (names_asked asked bytes).clients) (lines_told (lines_asked asked bytes) windows) (kinds_told windows) end
   pub whole : start.early ≡ 0 → counts.early ≡ 0 → IsComplete ends asked.opts.margin (lines_asked asked bytes) (start.told ++ told_in_all (lines_asked asked bytes) windows)
-  pub early : start.anew ≡ true → counts.early ≤ out_of_reach start.behind 0 (lines_taken (lines_asked asked bytes))
+  pub early : start.anew ≡ true → counts.early ≤ out_of_reach start.behind (lines_taken (lines_asked asked bytes))
+  pub ahead : start.anew ≡ true → counts.ahead ≡ ahead_in start.behind (lines_taken (lines_asked asked bytes))
   pub came : AreEarly start.numbers.more (lines_asked asked bytes) counts.early counts.judged last_early
   pub late : early_at start.from (lines_since start (lines_asked asked bytes)) ≤ counts.early
 
@@ -105,6 +108,7 @@ pub record HasToldAll (asked : AuditArguments) (start : Start) (ends : Bool) (fo
   pub before : start.early ≡ 0 → All (λ (found : Found). found.line < start.lines) start.told
   pub counted : IsCounted start read (counted_of follower.taking)
   pub whole : start.early ≡ 0 → follower.taking.counts.early ≡ 0 → IsComplete ends asked.opts.margin read (start.told ++ told_in_all read windows)
-  pub early : start.anew ≡ true → follower.taking.counts.early ≤ out_of_reach start.behind 0 (lines_taken read)
+  pub early : start.anew ≡ true → follower.taking.counts.early ≤ out_of_reach start.behind (lines_taken read)
+  pub ahead : start.anew ≡ true → follower.taking.counts.ahead ≡ ahead_in start.behind (lines_taken read)
   pub came : AreEarly start.numbers.more read follower.taking.counts.early follower.taking.counts.judged follower.taking.counts.last_early
   pub late : early_at start.from (lines_since start read) ≤ follower.taking.counts.early

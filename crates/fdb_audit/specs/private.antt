@@ -1,4 +1,5 @@
 -- What a printer shows, and what is asked of a log. (this product's own)
+pub mod Clocks
 pub mod Followed
 pub mod Numbering
 pub mod Kept

@@ -8,7 +8,7 @@ ghost use Rattle.clap.specs.Words.{Text};
 ghost use Rattle.fdb_audit.specs.Program.{audit, HasRead, HasTaken, IsAsked, IsWhole, Prints};
 ghost use Rattle.fdb_audit.specs.Following.{Start};
 ghost use Rattle.fdb_audit.specs.Program.{PrintsBy, refusal_of, refused_of};
-ghost use Rattle.fdb_audit.specs.Watched.{HasFollowed, IsFollowed};
+ghost use Rattle.fdb_audit.specs.Progress.{HasPrinted, IsPrinted};
 ghost use Rattle.fdb_command.specs.Driving.{IsBegun, IsDriven, Stops};
 
 use crate::arguments::{AuditArguments, command, member_names, owned, text, wanted_of};
@@ -219,8 +219,8 @@ fn followed<R: Files>(
     log: FollowedLog,
 ) -> Result<Output<LogsRefused, LogFault>, Failure<LogsRefused, LogFault>>
     ensures told { IfOk result (λ it. (start : Start) → (bytes told : List ℕ)
-        → HasFollowed asked.now start log.follower bytes told → (last_early : Option ℕ)
-        × IsFollowed asked.now start (not (is_some asked.now.keep)) bytes
+        → HasPrinted asked.now start log bytes told → (last_early : Option ℕ)
+        × IsPrinted asked.now start (not (is_some asked.now.keep)) bytes
         (told ++ it.text.items) it.found last_early
         × (it.refused ≡ refusal_of (refused_of asked.now start bytes) last_early)) }
     ensures stops { IfErr result (λ fault. (fault ≡ Failure.Memory)

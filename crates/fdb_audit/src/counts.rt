@@ -29,6 +29,8 @@ pub(crate) struct Counts {
     pub judged: u64,
     /// The number of the last of them, counted from 1, if there is one.
     pub last_early: Option<u64>,
+    /// Lines of which one above was ahead, newer than those that were found to be before.
+    pub ahead: u64,
 }
 
 /// How a line came.
@@ -45,7 +47,7 @@ impl Counts {
     pub(crate) fn new() -> Self
         ensures counted { AreCounted result [] }
         ensures early { result.early ≡ 0 }
-        ensures none { (result.judged ≡ 0) × (result.last_early ≡ None) }
+        ensures none { (result.judged ≡ 0) × (result.last_early ≡ None) × (result.ahead ≡ 0) }
     {
         Counts {
             lines: 0,
@@ -56,6 +58,7 @@ impl Counts {
             early: 0,
             judged: 0,
             last_early: None,
+            ahead: 0,
         }
     }
 
@@ -64,6 +67,7 @@ impl Counts {
         ensures counted { (lines : List Line) → length lines + 1 < 2 ^ 64
             → AreCounted self.old lines → AreCounted self.new (lines ++ line.now ∷ []) }
         ensures early { CameMore (nat_lt (began line.now) settled_to) came self.old self.new }
+        ensures ahead { self.new.ahead ≡ self.old.ahead }
     {
         add_one(&mut self.lines);
         self.add_call(line.call);
@@ -78,6 +82,7 @@ impl Counts {
         ensures commits { self.new.commits ≡ self.old.commits }
         ensures asks { self.new.asks ≡ self.old.asks }
         ensures reports { self.new.reports ≡ self.old.reports }
+        ensures ahead { self.new.ahead ≡ self.old.ahead }
     {
         if !is_early {
             return;
@@ -87,6 +92,15 @@ impl Counts {
             add_one(&mut self.judged);
         }
         self.last_early = Some(came.number);
+    }
+
+    /// Counts a line of which another is ahead.
+    pub(crate) fn add_ahead(&mut self, is_ahead: bool)
+        ensures { self.new ≡ record self.old { ahead = one_more is_ahead self.old.ahead } }
+    {
+        if is_ahead {
+            add_one(&mut self.ahead);
+        }
     }
 
     /// Counts a call by its kind.
@@ -100,7 +114,8 @@ impl Counts {
         ensures lines { self.new.lines ≡ self.old.lines }
         ensures early { (self.new.early ≡ self.old.early)
             × (self.new.judged ≡ self.old.judged)
-            × (self.new.last_early ≡ self.old.last_early) }
+            × (self.new.last_early ≡ self.old.last_early)
+            × (self.new.ahead ≡ self.old.ahead) }
     {
         match call {
             Operation::Read(_) => add_one(&mut self.reads),
@@ -112,12 +127,12 @@ impl Counts {
     }
 
     /// How many lines were taken, how many were refused, and how they came: of those that came early
-    /// also how many were judged, if there are some.
+    /// also how many were judged, if there are some, and how many were ahead, if some were.
     pub(crate) fn figures(&self, alloc: Global, refused: u64) -> Result<Vec<Figure>, AllocError>
         ensures { IfOk result (λ figures.
             map figure_of figures.items ≡ counted_figures (counted_in self.now refused)) }
     {
-        let mut figures = Vec::with_capacity(alloc, 8)?;
+        let mut figures = Vec::with_capacity(alloc, 9)?;
         figures.push(Figure("lines", Some(self.lines)))?;
         figures.push(Figure("reads", Some(self.reads)))?;
         figures.push(Figure("commits", Some(self.commits)))?;
@@ -127,6 +142,9 @@ impl Counts {
         figures.push(Figure("early", Some(self.early)))?;
         if self.early > 0 {
             figures.push(Figure("judged", Some(self.judged)))?;
+        }
+        if self.ahead > 0 {
+            figures.push(Figure("ahead", Some(self.ahead)))?;
         }
         Ok(figures)
     }

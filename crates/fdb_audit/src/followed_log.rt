@@ -5,13 +5,15 @@ ghost use Rattle.std.specs.Prelude.{None, OnOk, is_some, string_bytes, true};
 ghost use Rattle.fdb_audit.specs.Following.{Start, left_out};
 ghost use Rattle.fdb_audit.specs.Kept.{start_of};
 ghost use Rattle.fdb_audit.specs.private.Kept.{MayStop};
-ghost use Rattle.fdb_audit.specs.Watched.{HasFollowed, IsFollowed, lines_asked};
+ghost use Rattle.fdb_audit.specs.Progress.{HasPrinted, IsPrinted};
+ghost use Rattle.fdb_audit.specs.Watched.{HasFollowed, lines_asked};
 ghost use Rattle.fdb_audit.specs.declared.arguments.AuditArguments.{AuditArguments};
 
 use crate::arguments::AuditArguments;
 use crate::fault::LogFault;
 use crate::follower::{Followed, Follower, Said, Stopped};
 use crate::pace::{Pace, SECOND, moment};
+use crate::progress::Reporter;
 use crate::refused::LogsRefused;
 use fdb_command::Failure;
 use std::alloc::{AllocError, Global};
@@ -46,7 +48,9 @@ const KEEPING: Pace = Pace {
 /// A log that is followed, and where its lines are kept, if they are to be.
 #[derive(Drop)]
 pub struct FollowedLog {
+    alloc: Global,
     pub(crate) follower: Follower,
+    pub(crate) reporter: Reporter,
     keeper: Option<Keeper>,
     settling: Pace,
     /// Whether bytes have come since something was told: where none have, the log has ended.
@@ -77,7 +81,7 @@ impl FollowedLog {
         behind: u64,
     ) -> Result<Self, Stop>
         ensures begun { IfOk result (λ log. (kept : List ℕ) × MayBeKept asked.now kept
-            × HasFollowed asked.now (started asked.now behind kept) log.follower kept []) }
+            × HasPrinted asked.now (started asked.now behind kept) log kept []) }
         ensures stops { IfErr result (MayStop (is_some asked.now.keep)) }
     {
         match asked.keep.as_deref() {
@@ -87,7 +91,7 @@ impl FollowedLog {
             }
             None => {
                 let follower = Follower::new(alloc, asked, behind)?;
-                Ok(FollowedLog::new(follower, None))
+                Ok(FollowedLog::new(alloc, asked, follower, None))
             }
         }
     }
@@ -101,21 +105,29 @@ impl FollowedLog {
         file: &str,
     ) -> Result<Self, Stop>
         ensures begun { IfOk result (λ log. (text : List ℕ)
-            × HasFollowed asked.now (start_of asked.now behind text) log.follower text []) }
+            × HasPrinted asked.now (start_of asked.now behind text) log text []) }
         ensures stops { IfErr result (MayStop true) }
     {
         let text = read_kept(rt, alloc, file)?;
         let follower = restored(alloc, asked, behind, &text)?;
         let keeper = Keeper::new(alloc, file)?;
-        Ok(FollowedLog::new(follower, Some(keeper)))
+        Ok(FollowedLog::new(alloc, asked, follower, Some(keeper)))
     }
 
     /// A log of which nothing has been told.
-    fn new(follower: Follower, keeper: Option<Keeper>) -> Self
-        ensures { result.follower ≡ follower }
+    fn new(
+        alloc: Global,
+        asked: &AuditArguments,
+        follower: Follower,
+        keeper: Option<Keeper>,
+    ) -> Self
+        ensures { (start : Start) → (bytes : List ℕ) → HasFollowed asked.now start follower bytes []
+            → HasPrinted asked.now start result bytes [] }
     {
         FollowedLog {
+            alloc,
             follower,
+            reporter: Reporter::new(asked.wanted.json, asked.progress),
             keeper,
             settling: SETTLING,
             has_grown: false,
@@ -125,19 +137,35 @@ impl FollowedLog {
     /// Reads on. An error says that memory was refused.
     pub(crate) fn feed(&mut self, bytes: &[u8]) -> Result<(), AllocError>
         ensures { OnOk result ((asked : AuditArguments) → (start : Start)
-            → (before told : List ℕ) → HasFollowed asked start self.old.follower before told
-            → HasFollowed asked start self.new.follower (before ++ bytes.now) told) }
+            → (before text : List ℕ) → HasPrinted asked start self.old before text
+            → HasPrinted asked start self.new (before ++ bytes.now) text) }
     {
         self.has_grown = true;
         self.follower.feed(bytes)
     }
 
-    /// What is to be said before more is read, as [`Follower::tell`] has it. Where it takes long to
-    /// find that for the lines that came, it has time, but at the end of the log.
+    /// What is to be said before more is read, as [`Follower::tell`] has it, and behind it how far the
+    /// log was followed, if that is to be told and it is time to.
     pub(crate) fn tell<R: Clock>(&mut self, rt: &R, is_idle: bool) -> Result<Said, AllocError>
         ensures { IfOk result (λ said. (asked : AuditArguments) → (start : Start)
+            → (bytes text : List ℕ) → HasPrinted asked start self.old bytes text
+            → HasPrinted asked start self.new bytes (text ++ string_bytes said.text)) }
+    {
+        let mut said = self.tell_in_time(rt, is_idle)?;
+        if self.reporter.is_due(moment(rt)) {
+            let progress = self.follower.progress();
+            self.reporter.push(self.alloc, progress, &mut said)?;
+        }
+        Ok(said)
+    }
+
+    /// What is to be said before more is read. Where it takes long to find that for the lines that
+    /// came, it has time, but at the end of the log.
+    fn tell_in_time<R: Clock>(&mut self, rt: &R, is_idle: bool) -> Result<Said, AllocError>
+        ensures told { IfOk result (λ said. (asked : AuditArguments) → (start : Start)
             → (bytes told : List ℕ) → HasFollowed asked start self.old.follower bytes told
             → HasFollowed asked start self.new.follower bytes (told ++ string_bytes said.text)) }
+        ensures reporter { self.new.reporter ≡ self.old.reporter }
     {
         let unsettled = self.follower.unsettled();
         let has_time = self.has_grown && !unsettled.are_enough(is_idle);
@@ -160,7 +188,8 @@ impl FollowedLog {
 
     /// Keeps the lines that yet matter, where that is asked for.
     pub(crate) fn keep<R: Files + Clock>(mut self, rt: &R, keeps: bool) -> Result<Self, Stop>
-        ensures follower { IfOk result (λ next. next.follower ≡ self.follower) }
+        ensures same { IfOk result (λ next. (next.follower ≡ self.follower)
+            × (next.reporter ≡ self.reporter)) }
         ensures stops { IfErr result (λ fault. (fault ≡ Failure.Memory)
             ⊎ ((fault ≡ Failure.Writing) × (keeps ≡ true))) }
     {
@@ -173,7 +202,8 @@ impl FollowedLog {
     /// Keeps the lines that yet matter, if more were taken or it has settled since they were kept,
     /// and it is time to.
     fn keep_now<R: Files + Clock>(&mut self, rt: &R) -> Result<(), Stop>
-        ensures follower { self.new.follower ≡ self.old.follower }
+        ensures same { (self.new.follower ≡ self.old.follower)
+            × (self.new.reporter ≡ self.old.reporter) }
         ensures stops { IfErr result (λ fault. (fault ≡ Failure.Memory) ⊎ (fault ≡ Failure.Writing)) }
     {
         let Some(keeper) = &mut self.keeper else {
@@ -194,27 +224,45 @@ impl FollowedLog {
     /// What is left to be said, where the log ends here.
     pub(crate) fn finish(self) -> Result<Followed, Stop>
         ensures told { IfOk result (λ it. (asked : AuditArguments) → (start : Start)
-            → (bytes told : List ℕ) → HasFollowed asked start self.follower bytes told → IsFollowed
-            asked start true bytes (told ++ string_bytes it.said.text) it.found it.last_early) }
+            → (bytes text : List ℕ) → HasPrinted asked start self bytes text → IsPrinted
+            asked start true bytes (text ++ string_bytes it.said.text) it.found it.last_early) }
         ensures refused { IfOk result (λ it. (asked : AuditArguments) → (start : Start)
-            → (bytes told : List ℕ) → HasFollowed asked start self.follower bytes told
+            → (bytes text : List ℕ) → HasPrinted asked start self bytes text
             → it.refused ≡ left_out start.numbers (lines_asked asked bytes)) }
         ensures stops { IfErr result (λ fault. fault ≡ Failure.Memory) }
     {
+        let front = self.front()?;
         let followed = self.follower.finish()?;
+        let followed = behind(front, followed)?;
         Ok(followed)
+    }
+
+    /// How far the log was followed, if that is to be told, in front of what is said at its end.
+    fn front(&self) -> Result<Said, AllocError>
+        ensures { IfOk result (λ said. (asked : AuditArguments) → (start : Start)
+            → (bytes text : List ℕ) → HasPrinted asked start self.now bytes text
+            → HasPrinted asked start self.now bytes (text ++ string_bytes said.text)) }
+    {
+        let mut said = Said {
+            text: String::new(self.alloc),
+            warnings: String::new(self.alloc),
+        };
+        self.reporter
+            .push(self.alloc, self.follower.progress(), &mut said)?;
+        Ok(said)
     }
 
     /// Keeps the lines that yet matter, and says what is left to be said.
     pub(crate) fn stop<R: Files>(self, rt: &R) -> Result<Followed, Stop>
         ensures told { IfOk result (λ it. (asked : AuditArguments) → (start : Start)
-            → (bytes told : List ℕ) → HasFollowed asked start self.follower bytes told → IsFollowed
-            asked start false bytes (told ++ string_bytes it.said.text) it.found it.last_early) }
+            → (bytes text : List ℕ) → HasPrinted asked start self bytes text → IsPrinted
+            asked start false bytes (text ++ string_bytes it.said.text) it.found it.last_early) }
         ensures refused { IfOk result (λ it. (asked : AuditArguments) → (start : Start)
-            → (bytes told : List ℕ) → HasFollowed asked start self.follower bytes told
+            → (bytes text : List ℕ) → HasPrinted asked start self bytes text
             → it.refused ≡ left_out start.numbers (lines_asked asked bytes)) }
         ensures stops { IfErr result (λ fault. (fault ≡ Failure.Memory) ⊎ (fault ≡ Failure.Writing)) }
     {
+        let front = self.front()?;
         let Stopped { followed, kept } = self.follower.stop()?;
         if let Some(keeper) = &self.keeper {
             let Ok(kept) = kept else {
@@ -222,8 +270,33 @@ impl FollowedLog {
             };
             keeper.write(rt, &kept)?;
         }
+        let followed = behind(front, followed)?;
         Ok(followed)
     }
+}
+
+/// What is said at the end of a log, behind what is said in front of it.
+fn behind(front: Said, followed: Followed) -> Result<Followed, AllocError>
+    ensures text { IfOk result (λ it. string_bytes it.said.text
+        ≡ string_bytes front.text ++ string_bytes followed.said.text) }
+    ensures same { IfOk result (λ it. (it.found ≡ followed.found) × (it.refused ≡ followed.refused)
+        × (it.last_early ≡ followed.last_early)) }
+{
+    let Followed {
+        said,
+        found,
+        refused,
+        last_early,
+    } = followed;
+    let mut all = front;
+    all.text.push_str(&said.text)?;
+    all.warnings.push_str(&said.warnings)?;
+    Ok(Followed {
+        said: all,
+        found,
+        refused,
+        last_early,
+    })
 }
 
 impl Keeper {

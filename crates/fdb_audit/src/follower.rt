@@ -16,6 +16,7 @@ use crate::arguments::AuditArguments;
 use crate::fault::LogFault;
 use crate::kept::{KeptText, kept_text};
 use crate::numbering::Numbering;
+use crate::progress::Progress;
 use crate::read_back::{kept_in_order, refusal_of};
 use crate::refused::KeptRefused;
 use crate::taking::Taking;
@@ -75,7 +76,9 @@ impl Follower {
     ghost use Rattle.fdb_audit.specs.Watched.{lines_asked, names_asked, HasFollowed, HasSaid};
     ghost use Rattle.fdb_audit.specs.Watched.{HasSaidAll};
     ghost use Rattle.fdb_audit.specs.Watched.{HasToldAll, IsTelling};
+    ghost use Rattle.fdb_audit.specs.Following.{IsCounted};
     ghost use Rattle.fdb_audit.specs.Kept.{IsStopped};
+    ghost use Rattle.fdb_audit.specs.Progress.{counted_by};
     ghost use Rattle.fdb_audit.specs.Taken.{counted_of, kept_by};
     ghost use Rattle.fdb_audit.specs.private.Followed.{AreEarlyIn, HasWarned, IsUnread, SaysNext};
     ghost use Rattle.fdb_audit.specs.private.Followed.{SettlesOn};
@@ -139,8 +142,32 @@ impl Follower {
         };
         let numbering = Numbering::new(alloc, kept.numbers, kept.more);
         let mut follower = Follower::numbered(alloc, asked, behind, numbering)?;
-        follower.feed_kept(text, kept.told, kept.settled)?;
+        follower.feed_kept(text, kept.told, kept.settled, kept.are_many)?;
         Ok(Ok(follower))
+    }
+
+    /// How far the log has been followed.
+    pub fn progress(&self) -> Progress
+        ensures { (asked : AuditArguments) → (start : Start) → (bytes told : List ℕ)
+            → (has : HasFollowed asked start self.now bytes told)
+            → IsCounted start has.read (counted_by result) }
+    {
+        let taking = &self.taking;
+        Progress {
+            lines: taking.counts.lines,
+            reads: taking.counts.reads,
+            commits: taking.counts.commits,
+            asks: taking.counts.asks,
+            reports: taking.counts.reports,
+            refused: taking.numbering.count(),
+            early: taking.counts.early,
+            judged: taking.counts.judged,
+            ahead: taking.counts.ahead,
+            open: taking.unsettled.open(),
+            kept: taking.kept,
+            newest_end: taking.clocks.believed,
+            settled_to: taking.watch.settled_to(),
+        }
     }
 
     /// How many lines have been taken, those that were kept not counted.
@@ -163,8 +190,15 @@ impl Follower {
     }
 
     /// Reads lines that were kept, of which so many had come when it had settled up to a moment: what
-    /// was to be told then has been told.
-    fn feed_kept(&mut self, bytes: &[u8], told: usize, settled: u64) -> Result<(), AllocError>
+    /// was to be told then has been told. Where lines of more than one client had come, none vouches
+    /// for itself.
+    fn feed_kept(
+        &mut self,
+        bytes: &[u8],
+        told: usize,
+        settled: u64,
+        are_many: bool,
+    ) -> Result<(), AllocError>
         ensures { OnOk result ((asked : AuditArguments) → (behind : ℕ) → (kept : KeptSaid)
             → kept.told ≡ told → kept.settled ≡ settled → EndsALine bytes.now
             → IsUnread asked (start_with behind kept.numbers) self.old
@@ -175,7 +209,8 @@ impl Follower {
         a_space_more_is_of_one_line();
         let lines = self.reader.feed(self.alloc, bytes)?;
         self.taking.take_kept(lines, told, settled)?;
-        self.taking.newest = self.taking.newest.max(settled.saturating_add(self.behind));
+        let believed = settled.saturating_add(self.behind);
+        self.taking.clocks.go_on(believed, are_many);
         Ok(())
     }
 
@@ -203,7 +238,8 @@ impl Follower {
             → (bytes warned : List ℕ) → HasSaid asked start self.old bytes warned
             → HasSaid asked start self.new bytes (warned ++ string_bytes said.warnings)) }
     {
-        let is_due = self.taking.unsettled.is_due(self.certain_to());
+        let at = self.taking.clocks.certain_to();
+        let is_due = self.taking.unsettled.is_due(at);
         self.settle_if(is_time && is_due)?;
         Ok(self.say())
     }
@@ -256,13 +292,6 @@ impl Follower {
         self.taking.unsettled
     }
 
-    /// The moment before which no line that comes may begin.
-    fn certain_to(&self) -> u64
-        ensures { result ≡ self.now.taking.newest - self.now.behind }
-    {
-        self.taking.newest.saturating_sub(self.behind)
-    }
-
     /// Settles, if it is time to.
     fn settle_if(&mut self, is_time: bool) -> Result<(), AllocError>
         ensures reader { self.new.reader ≡ self.old.reader }
@@ -270,7 +299,7 @@ impl Follower {
             → (read : List (Result SaidLine Why)) → (told : List ℕ)
             → IsTelling asked start self.old read told → IsTelling asked start self.new read told) }
         ensures taken { OnOk result
-            (SettlesOn self.old.behind self.old.taking self.new.taking) }
+            (SettlesOn self.old.taking self.new.taking) }
         ensures behind { self.new.behind ≡ self.old.behind }
     {
         if is_time {
@@ -286,10 +315,10 @@ impl Follower {
             → (read : List (Result SaidLine Why)) → (told : List ℕ)
             → IsTelling asked start self.old read told → IsTelling asked start self.new read told) }
         ensures taken { OnOk result
-            (SettlesOn self.old.behind self.old.taking self.new.taking) }
+            (SettlesOn self.old.taking self.new.taking) }
         ensures behind { self.new.behind ≡ self.old.behind }
     {
-        let at = self.certain_to();
+        let at = self.taking.clocks.certain_to();
         let told = self.taking.watch.settle(self.alloc, at)?;
         self.teller
             .tell_all(self.alloc, &self.reader, &self.taking, &told)?;

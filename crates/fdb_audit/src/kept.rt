@@ -31,6 +31,9 @@ const READ: &str = "kept_lines";
 /// The member that has the moment up to which all was told; it is left out in lines that came since.
 const SETTLED: &str = "kept_settled";
 
+/// The member of the first line that says of how many clients lines have come, up to two.
+const CLIENTS: &str = "kept_clients";
+
 /// What a text says of the lines that were kept.
 #[derive(Drop)]
 pub(crate) struct KeptText {
@@ -42,6 +45,8 @@ pub(crate) struct KeptText {
     pub(crate) more: u64,
     /// The moment up to which it had settled.
     pub(crate) settled: u64,
+    /// Whether lines of more than one client had come.
+    pub(crate) are_many: bool,
     ghost few: { more < 18446744073709551615 },
     ghost rise: { Rise numbers.items },
 }
@@ -63,6 +68,7 @@ struct KeptAs {
     number: u64,
     read: u64,
     settled: Option<u64>,
+    are_many: bool,
 }
 
 impl KeptText {
@@ -77,6 +83,7 @@ impl KeptText {
             told: 0,
             more: 0,
             settled: 0,
+            are_many: false,
         }
     }
 
@@ -168,6 +175,7 @@ impl KeptText {
         }
         self.numbers.push(kept.number)?;
         self.more = more;
+        self.are_many = self.are_many || kept.are_many;
         if let Some(settled) = kept.settled {
             self.told = self.numbers.len();
             self.settled = settled;
@@ -206,6 +214,7 @@ fn members_kept(alloc: Global) -> Result<Vec<String>, AllocError>
     members.push(String::from_str(alloc, NUMBER)?)?;
     members.push(String::from_str(alloc, READ)?)?;
     members.push(String::from_str(alloc, SETTLED)?)?;
+    members.push(String::from_str(alloc, CLIENTS)?)?;
     Ok(members)
 }
 
@@ -216,12 +225,14 @@ fn kept_as(alloc: Global, read: &ReadLine) -> Result<Option<KeptAs>, AllocError>
     let number = number_at(alloc, read, 0)?;
     let lines = number_at(alloc, read, 1)?;
     let settled = number_at(alloc, read, 2)?;
+    let are_many = number_at(alloc, read, 3)?.is_some_and(|clients| clients > 1);
     let is_bad = settled.is_none() && read.shown.get(2).is_some_and(Option::is_some);
     match (number, lines) {
         (Some(number), Some(read)) if !is_bad => Ok(Some(KeptAs {
             number,
             read,
             settled,
+            are_many,
         })),
         _ => Ok(None),
     }
@@ -278,11 +289,16 @@ pub(crate) fn kept_text(
     kept: &[KeptLine],
 ) -> Result<String, AllocError> {
     let mut text = String::new(alloc);
+    let mut clients = Some(if taking.clocks.are_many() { 2 } else { 1 });
     for line in kept {
         push_call(alloc, &mut text, reader, line)?;
         push_key(alloc, &mut text, reader, key, line)?;
         taking.rows.push_texts(&mut text, line.number)?;
         push_kept(&mut text, taking, line)?;
+        if let Some(clients) = clients.take() {
+            write!(text, ",\"{CLIENTS}\":{clients}")?;
+        }
+        writeln!(text, "}}")?;
     }
     Ok(text)
 }
@@ -337,7 +353,7 @@ fn push_key(
     Ok(())
 }
 
-/// Writes as what a line is kept, and ends it.
+/// Writes as what a line is kept.
 fn push_kept(out: &mut String, taking: &Taking, kept: &KeptLine) -> Result<(), AllocError> {
     let number = taking.numbering.number(kept.number);
     let read = taking.line_count();
@@ -346,5 +362,5 @@ fn push_kept(out: &mut String, taking: &Taking, kept: &KeptLine) -> Result<(), A
         let settled = taking.watch.settled_to();
         write!(out, ",\"{SETTLED}\":{settled}")?;
     }
-    writeln!(out, "}}")
+    Ok(())
 }

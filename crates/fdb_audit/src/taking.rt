@@ -12,11 +12,12 @@ ghost use Rattle.fdb_log_reader.specs.declared.error.Why.{Why};
 ghost use Rattle.fdb_log_reader.specs.ReadLine.{IsTimed, SaidLine, said_by, said_in};
 ghost use Rattle.fdb_lines.specs.ToldByKey.{audited_to};
 
+use crate::clocks::Clocks;
 use crate::counts::{Came, Counts};
 use crate::numbering::Numbering;
 use crate::rows::Rows;
 use crate::unsettled::Unsettled;
-use crate::warning::{EarlyLine, Warning, push_warning};
+use crate::warning::{CountedLine, Warning, push_doubled, push_warning};
 use fdb_lines::{KeyWatch, Line, SettledKey, WatchError, laws};
 use fdb_log_reader::{ReadError, ReadLine, Why};
 use std::alloc::{AllocError, Global};
@@ -33,10 +34,12 @@ pub(crate) struct Taking {
     pub(crate) taken: u64,
     /// How many of them had come when it settled last.
     pub(crate) settled: u64,
-    /// The newest moment at which a call has ended.
-    pub(crate) newest: u64,
+    /// How far the ends of lines are believed.
+    pub(crate) clocks: Clocks,
     /// The lines that came since it settled.
     pub(crate) unsettled: Unsettled,
+    /// How many lines it keeps.
+    pub(crate) kept: u64,
     /// The last line that was refused, if one was.
     pub(crate) refused: Option<ReadError>,
     /// What is to be said on standard error next.
@@ -49,7 +52,8 @@ impl Taking {
     ghost use Rattle.fdb_audit.specs.Following.{early_at, start_with};
     ghost use Rattle.fdb_audit.specs.Kept.{KeptSaid, start_from};
     ghost use Rattle.fdb_audit.specs.Taken.{AreCounted, HasWarned, kept_by};
-    ghost use Rattle.fdb_audit.specs.private.Followed.{AreTaken, NotesLine, early_text, noted};
+    ghost use Rattle.fdb_audit.specs.private.Followed.{AreTaken, NotesLine, counted_line};
+    ghost use Rattle.fdb_audit.specs.private.Followed.{noted, odd_text};
 
     /// No line has been taken; those of these numbers come first. It fails only where memory is
     /// refused.
@@ -62,10 +66,10 @@ impl Taking {
     ) -> Result<Self, AllocError>
         requires none { numbering.above.items ≡ [] }
         requires few { numbering.more < 18446744073709551615 }
-        ensures taken { IfOk result (λ taking. (behind : ℕ)
-            → AreTaken (start_with behind (kept_by numbering)) taking [] []) }
-        ensures warned { IfOk result (λ taking. (behind : ℕ)
-            → HasWarned (start_with behind (kept_by numbering)) taking [] []) }
+        ensures taken { IfOk result (λ taking.
+            AreTaken (start_with behind (kept_by numbering)) taking [] []) }
+        ensures warned { IfOk result (λ taking.
+            HasWarned (start_with behind (kept_by numbering)) taking [] []) }
         ensures margin { IfOk result (λ taking. taking.watch.margin ≡ margin) }
         ensures members { IfOk result (λ taking. map string_bytes taking.rows.members.items
             ≡ map (λ name. printed (string_bytes name)) shown.now) }
@@ -79,8 +83,9 @@ impl Taking {
             counts: Counts::new(),
             taken: 0,
             settled: 0,
-            newest: 0,
+            clocks: Clocks::new(behind),
             unsettled: Unsettled::new(),
+            kept: 0,
             refused: None,
             warnings: String::new(alloc),
         })
@@ -188,6 +193,7 @@ impl Taking {
         ensures warnings { self.new.warnings ≡ self.old.warnings }
     {
         self.unsettled = Unsettled::since(self.watch.settled_to(), told);
+        self.kept = self.kept.saturating_sub(let_go(told));
         self.settled = self.taken;
     }
 
@@ -252,7 +258,8 @@ impl Taking {
         }
     }
 
-    /// Notes when a line that was added began and ended, counts it, and says so where it came early.
+    /// Notes when a line that was added began and ended, counts it, and says so where it came early or
+    /// is ahead.
     fn note(&mut self, line: &Line, is_judged: bool) -> Result<(), AllocError>
         requires room { self.old.taken + self.old.numbering.more
             + length self.old.numbering.above.items < 18446744073709551614 }
@@ -261,27 +268,37 @@ impl Taking {
         ensures watch { self.new.watch ≡ self.old.watch }
     {
         let from = self.watch.settled_to();
-        self.newest = self.newest.max(line.ended().unwrap_or(0));
+        let ahead_by = self.clocks.hear(line);
         self.unsettled.add(line.began());
+        self.kept = self.kept.saturating_add(1);
         self.taken += 1;
         let number = self.line_count();
         self.counts.add(line, from, Came { number, is_judged });
-        self.warn_early(number, from.saturating_sub(line.began()))?;
+        self.counts.add_ahead(ahead_by > 0);
+        self.warn(number, from.saturating_sub(line.began()), ahead_by)?;
         Ok(())
     }
 
-    /// Says that the line of a number came so long before what had been settled, where it did, and
-    /// their number has doubled.
-    fn warn_early(&mut self, line: u64, by: u64) -> Result<(), AllocError>
-        ensures warnings { OnOk result (string_bytes self.new.warnings
-            ≡ string_bytes self.old.warnings ++ early_text line by self.old.counts.early) }
+    /// Says that the line of a number came so long before what had been settled, and is so far ahead,
+    /// where it is, and the number of such lines has doubled.
+    fn warn(&mut self, line: u64, early_by: u64, ahead_by: u64) -> Result<(), AllocError>
+        ensures warnings { OnOk result (string_bytes self.new.warnings ≡ odd_text
+            (counted_line line early_by self.old.counts.early)
+            (counted_line line ahead_by self.old.counts.ahead) (string_bytes self.old.warnings)) }
         ensures same { self.new ≡ record self.old { warnings = self.new.warnings } }
     {
-        let count = self.counts.early;
-        if by > 0 && count.is_power_of_two() {
-            let early = Warning::Early(EarlyLine { line, by, count });
-            push_warning(&mut self.warnings, early)?;
-        }
+        let early = CountedLine {
+            line,
+            by: early_by,
+            count: self.counts.early,
+        };
+        let ahead = CountedLine {
+            line,
+            by: ahead_by,
+            count: self.counts.ahead,
+        };
+        push_doubled(&mut self.warnings, early, Warning::Early(early))?;
+        push_doubled(&mut self.warnings, ahead, Warning::Ahead(ahead))?;
         Ok(())
     }
 
@@ -307,4 +324,15 @@ impl Taking {
         push_warning(&mut self.warnings, Warning::Refused(error))?;
         Ok(())
     }
+}
+
+/// How many lines are not kept on, of those of which a watch tells.
+fn let_go(told: &[SettledKey]) -> u64 {
+    let mut count = 0u64;
+    for entry in told {
+        let settled = &entry.settled;
+        let gone = settled.numbers.len().saturating_sub(settled.kept.len());
+        count = count.saturating_add(gone as u64);
+    }
+    count
 }

@@ -20,6 +20,8 @@ pub(crate) struct Unsettled {
     kept: u64,
     /// The first moment at which one that is not judged began.
     first: u64,
+    /// How many lines are not judged that had come when it settled.
+    unjudged: u64,
 }
 
 impl Unsettled {
@@ -29,6 +31,7 @@ impl Unsettled {
             came: 0,
             kept: 0,
             first: u64::MAX,
+            unjudged: 0,
         }
     }
 
@@ -56,6 +59,7 @@ impl Unsettled {
     fn note(&mut self, began: u64, settled_to: u64) {
         if began >= settled_to {
             self.first = self.first.min(began);
+            self.unjudged = self.unjudged.saturating_add(1);
         }
     }
 
@@ -64,6 +68,11 @@ impl Unsettled {
     pub(crate) fn add(&mut self, began: u64) {
         self.came = self.came.saturating_add(1);
         self.first = self.first.min(began);
+    }
+
+    /// How many lines are not judged.
+    pub(crate) fn open(&self) -> u64 {
+        self.unjudged.saturating_add(self.came)
     }
 
     /// Whether a line that is not judged began before a moment.

@@ -2,6 +2,7 @@
 
 ghost use Rattle.std.specs.Prelude.{◌≡◌, ◌++◌, OnOk, string_bytes};
 ghost use Rattle.fdb_audit.specs.Warned.{counted, warning_line};
+ghost use Rattle.fdb_audit.specs.private.Followed.{doubled_text};
 
 use crate::refused::LogsRefused;
 use fdb_log_reader::ReadError;
@@ -13,19 +14,22 @@ use std::fmt::Write;
 pub enum Warning {
     /// It is refused.
     Refused(ReadError),
-    /// It came early. That is said of the first that does, and of each at which their number has
-    /// doubled.
-    Early(EarlyLine),
+    /// It came early: it began before what had been settled. That is said of the first that does, and
+    /// of each at which their number has doubled.
+    Early(CountedLine),
+    /// A line of another client above it is ahead of it, by more than a line may be behind. That is
+    /// said of as many.
+    Ahead(CountedLine),
 }
 
-/// A line that began before what had been settled.
+/// A line that came early, or of which another is ahead.
 #[derive(Clone, Copy, Debug, PartialEq, Eq)]
-pub struct EarlyLine {
+pub struct CountedLine {
     /// Its number, counted from 1.
     pub line: u64,
-    /// How long before that, in the unit of the log's times.
+    /// By how much it is, in the unit of the log's times.
     pub by: u64,
-    /// How many lines have come early, with it.
+    /// How many such lines there are, with it.
     pub count: u64,
 }
 
@@ -40,11 +44,27 @@ pub(crate) fn push_warning(out: &mut String, warning: Warning) -> Result<(), All
             writeln!(out, "fdb_audit: {refused}")
         }
         Warning::Early(early) => push_early(out, early),
+        Warning::Ahead(ahead) => push_ahead(out, ahead),
     }
 }
 
+/// Writes what is said of a line that is counted, if their number has doubled with it.
+pub(crate) fn push_doubled(
+    out: &mut String,
+    line: CountedLine,
+    warning: Warning,
+) -> Result<(), AllocError>
+    ensures { OnOk result (string_bytes out.new
+        ≡ string_bytes out.old ++ doubled_text line warning) }
+{
+    if line.by > 0 && line.count.is_power_of_two() {
+        push_warning(out, warning)?;
+    }
+    Ok(())
+}
+
 /// Writes that a line came early.
-fn push_early(out: &mut String, early: EarlyLine) -> Result<(), AllocError>
+fn push_early(out: &mut String, early: CountedLine) -> Result<(), AllocError>
     ensures { OnOk result (string_bytes out.new
         ≡ string_bytes out.old ++ warning_line (Warning.Early early)) }
 {
@@ -52,6 +72,23 @@ fn push_early(out: &mut String, early: EarlyLine) -> Result<(), AllocError>
     push_count(out, "", early.by, " before what had been settled; ")?;
     let meaning = " so far: --follow is too small, or a clock is ahead\n";
     push_count(out, "", early.count, meaning)?;
+    Ok(())
+}
+
+/// Writes that another line is ahead of a line.
+fn push_ahead(out: &mut String, ahead: CountedLine) -> Result<(), AllocError>
+    ensures { OnOk result (string_bytes out.new
+        ≡ string_bytes out.old ++ warning_line (Warning.Ahead ahead)) }
+{
+    push_count(
+        out,
+        "fdb_audit: a clock is ahead: above line ",
+        ahead.line,
+        " a line of another client ended ",
+    )?;
+    push_count(out, "", ahead.by, " after it; ")?;
+    let meaning = " so far: it is not believed\n";
+    push_count(out, "", ahead.count, meaning)?;
     Ok(())
 }
 

@@ -1,5 +1,5 @@
 -- What the parts of a follower hold of the lines that were read. (this product's own)
-use Rattle.std.specs.Prelude.{◌≡◌, ℕ, ◌+◌, ◌-◌, ◌^◌, ◌++◌, ◌&&◌, Bool, true, false, List, [], All, Some, is_some, length, max, min, nat_lt, string_bytes, unwrap_or, Result, if◌then◌else◌, ◌∷◌, ◌<◌}
+use Rattle.std.specs.Prelude.{◌≡◌, ℕ, ◌+◌, ◌-◌, ◌^◌, ◌++◌, ◌&&◌, Bool, true, false, List, [], All, Some, is_some, length, min, nat_lt, string_bytes, Result, if◌then◌else◌, ◌∷◌, ◌<◌}
 use Rattle.std.specs.Option.{option_or}
 use Rattle.fdb_lines.specs.declared.fault.Fault.{Fault}
 use Rattle.fdb_lines.specs.declared.fault.Found.{Found}
@@ -13,10 +13,13 @@ use Rattle.fdb_audit.specs.declared.counts.Counts.{Counts}
 use Rattle.fdb_audit.specs.declared.follower.Follower.{Follower}
 pub use Rattle.fdb_audit.specs.Taken.{AreCounted, AreNumbered, AreTaken, HasCounted, HasTotals, HasTotalsIn, HasWarned, counted_in, counted_of}
 use Rattle.std.specs.Int.{is_power_of_two}
-use Rattle.fdb_lines.specs.Before.{began, ended}
+use Rattle.fdb_lines.specs.Before.{began}
 use Rattle.fdb_audit.specs.declared.taking.Taking.{Taking}
 use Rattle.fdb_audit.specs.declared.teller.Teller.{Teller}
-use Rattle.fdb_audit.specs.declared.warning.Warning.TheVariants.{Early}
+use Rattle.fdb_audit.specs.declared.warning.CountedLine.{CountedLine}
+use Rattle.fdb_audit.specs.declared.warning.Warning.{Warning}
+use Rattle.fdb_audit.specs.declared.warning.Warning.TheVariants.{Ahead, Early}
+use Rattle.fdb_audit.specs.private.Clocks.{Hears, ahead_of}
 use Rattle.fdb_audit.specs.Warned.{AreEarly, warning_line}
 use Rattle.fdb_audit.specs.Following.{AreWindows, FollowArguments, KeptNumbers, Start, Window, first_told, kinds_told, lines_told, told_in_all}
 use Rattle.fdb_audit.specs.Watched.{IsTold, lines_asked, names_asked}
@@ -55,10 +58,16 @@ pub record CameMore (is_early : Bool) (came : Came) (old new : Counts) : Type 0 
   pub judged : new.judged ≡ one_more (is_early && came.is_judged) old.judged
   pub last : new.last_early ≡ (if is_early then Some came.number else old.last_early)
 
--- what is said of a line, by its number, that began so long before what had been settled, where so many have come early with it
-abbrev pub early_text : (line by count : ℕ) → List ℕ
-early_text line by count =
-    if nat_lt 0 by && is_power_of_two count then warning_line (Early (record { line = line; by = by; count = count })) else []
+abbrev pub counted_line : (line by count : ℕ) → CountedLine
+counted_line line by count = record { line = line; by = by; count = count }
+
+-- what is said of a line that is counted, where their number has doubled with it
+abbrev pub doubled_text : CountedLine → Warning → List ℕ
+doubled_text it warning = if nat_lt 0 it.by && is_power_of_two it.count then warning_line warning else []
+
+-- and where it may have come early, and may be ahead
+abbrev pub odd_text : (early ahead : CountedLine) → List ℕ → List ℕ
+odd_text early ahead text = (text ++ doubled_text early (Early early)) ++ doubled_text ahead (Ahead ahead)
 
 -- A line more was taken, which is noted, where all was settled up to a moment.
 pub record NotesLine (from : ℕ) (old new : Taking) (line : Line) : Type 0 where
@@ -68,11 +77,13 @@ pub record NotesLine (from : ℕ) (old new : Taking) (line : Line) : Type 0 wher
   pub count : new.taken ≡ old.taken + 1
   pub refused : new.refused ≡ old.refused
   pub settled : new.settled ≡ old.settled
-  pub newest : new.newest ≡ max old.newest (unwrap_or (ended line) 0)
+  pub hears : Hears old.clocks new.clocks line
   pub counted : (lines : List Line) → length lines + 1 < 2 ^ 64 → AreCounted old.counts lines → AreCounted new.counts (lines ++ line ∷ [])
   pub its_number : number ≡ min (new.taken + new.numbering.more + length new.numbering.above.items) (2 ^ 64 - 1)
   pub came : CameMore (nat_lt (began line) from) (record { number = number; is_judged = judged }) old.counts new.counts
-  pub warned : string_bytes new.warnings ≡ string_bytes old.warnings ++ early_text number (from - began line) new.counts.early
+  pub ahead : new.counts.ahead ≡ one_more (nat_lt 0 (ahead_of old.clocks line)) old.counts.ahead
+  pub warned : string_bytes new.warnings ≡ odd_text (counted_line number (from - began line) new.counts.early)
+      (counted_line number (ahead_of old.clocks line) new.counts.ahead) (string_bytes old.warnings)
 
 -- the same, once it is noted that it has settled
 abbrev pub noted : Taking → Taking
@@ -86,9 +97,9 @@ told_with behind teller members = record { behind = behind; margin = teller.marg
 abbrev pub AreEarlyIn : Start → List (Result SaidLine Why) → Counts → Type 0
 AreEarlyIn start read counts = AreEarly start.numbers.more read counts.early counts.judged counts.last_early
 
--- The lines that were taken have settled further, no line that comes may begin so far behind; nothing was said of them.
-pub record SettlesOn (behind : ℕ) (old new : Taking) : Type 0 where
-  pub taken : (start : Start) (read : List (Result SaidLine Why)) (told : List Found) → behind ≡ start.behind → AreTaken start old read told
+-- The lines that were taken have settled further; nothing was said of them.
+pub record SettlesOn (old new : Taking) : Type 0 where
+  pub taken : (start : Start) (read : List (Result SaidLine Why)) (told : List Found) → AreTaken start old read told
       → (more : List Found) × AreTaken start new read (told ++ more)
   pub warnings : new.warnings ≡ old.warnings
   pub counts : new.counts ≡ old.counts

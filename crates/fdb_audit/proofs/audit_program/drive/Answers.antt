@@ -7,7 +7,7 @@ use Rattle.fdb_command.specs.declared.failure.Failure.{Failure}
 use Rattle.fdb_command.specs.declared.program.Output.{Output}
 use Rattle.fdb_log_reader.specs.declared.error.ReadError.{ReadError}
 use Rattle.fdb_audit.specs.Program.{HasTaken, IsAsked, IsWhole, PrintsBy, RefusesBy, audit, refusal_of, refused_of, started}
-use Rattle.fdb_audit.specs.Watched.{IsFollowed}
+use Rattle.fdb_audit.specs.Progress.{IsPrinted}
 use Rattle.fdb_audit.specs.declared.refused.KeptRefused.{KeptRefused}
 use Rattle.fdb_audit.specs.declared.arguments.AuditArguments.{AuditArguments}
 use Rattle.fdb_audit.specs.declared.fault.LogFault.{LogFault}
@@ -61,7 +61,7 @@ part_refused (Some behind) asked bytes text found (Some (Log error)) (kept, for,
     (kept, for, log_error (refused_of asked (started asked behind kept) (kept ++ bytes)) last error is)
 part_refused (Some behind) asked bytes text found (Some (Early number)) (kept, for, last, followed, is) =
     let (none, early) = early_error (refused_of asked (started asked behind kept) (kept ++ bytes)) last number is in
-    (kept, for, none, text, found, subst (IsFollowed asked (started asked behind kept) (not (is_some asked.keep)) (kept ++ bytes) text found) early followed)
+    (kept, for, none, text, found, subst (IsPrinted asked (started asked behind kept) (not (is_some asked.keep)) (kept ++ bytes) text found) early followed)
 part_refused (Some behind) asked bytes text found (Some (Kept error)) (kept, for, last, followed, is) =
     absurd (not_kept (refused_of asked (started asked behind kept) (kept ++ bytes)) last error is)
 

@@ -1,6 +1,6 @@
 use Rattle.std.proofs.Common.{◌≡◌, ◌++◌, ℕ, Global, Vec, ap, string_bytes, subst, sym}
 use Rattle.fdb_audit.specs.Program.{started}
-use Rattle.fdb_audit.specs.Watched.{HasFollowed}
+use Rattle.fdb_audit.specs.Progress.{HasPrinted}
 use Rattle.fdb_audit.proofs.audit_program.tell_of.Goals as goal
 
 pub returns-clause-told : goal.returns-clause-told
@@ -10,6 +10,6 @@ returns-clause-told g c = λ asked bytes told (behind, follows, kept, for, has).
       follows,
       kept,
       for,
-      subst (λ text. HasFollowed asked (started asked behind kept) c.tell.new.self.follower (kept ++ bytes) (told ++ text)) (sym same)
+      subst (λ text. HasPrinted asked (started asked behind kept) c.tell.new.self (kept ++ bytes) (told ++ text)) (sym same)
           (c.in_ok-text.ensures asked (started asked behind kept) (kept ++ bytes) told has),
     )

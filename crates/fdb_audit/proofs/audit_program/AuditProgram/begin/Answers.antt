@@ -2,14 +2,14 @@ use Rattle.std.proofs.Common.{ℕ, List, [], append-nil, subst, sym}
 use Rattle.clap.specs.Words.{Text}
 use Rattle.fdb_command.specs.Driving.{Stops}
 use Rattle.fdb_audit.specs.Program.{IsAsked, audit, started}
-use Rattle.fdb_audit.specs.Watched.{HasFollowed}
+use Rattle.fdb_audit.specs.Progress.{HasPrinted}
 use Rattle.fdb_audit.proofs.Refusing.{passed_on, stops_following}
 use Rattle.fdb_audit.proofs.audit_program.AuditProgram.begin.Goals as goal
 
 pub returns-in_ok-log-in-Some-clause-taken : goal.returns-in_ok-log-in-Some-clause-taken
 returns-in_ok-log-in-Some-clause-taken g c =
     let (kept, for, has) = c.in_ok-log-in-Some.ensures.begun in
-    (c.in-Some.behind, c.in-Some.is, kept, for, subst (λ bytes. HasFollowed c.args.asked.now (started c.args.asked.now c.in-Some.behind kept) c.in_ok-log-in-Some.log.follower bytes []) (sym (append-nil kept)) has)
+    (c.in-Some.behind, c.in-Some.is, kept, for, subst (λ bytes. HasPrinted c.args.asked.now (started c.args.asked.now c.in-Some.behind kept) c.in_ok-log-in-Some.log bytes []) (sym (append-nil kept)) has)
 
 pub returns-in_err-log-in-Some-clause-stops : goal.returns-in_err-log-in-Some-clause-stops
 returns-in_err-log-in-Some-clause-stops g c =

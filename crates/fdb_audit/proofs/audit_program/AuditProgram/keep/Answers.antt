@@ -1,9 +1,10 @@
-use Rattle.std.proofs.Common.{◌≡◌, ◌∙◌, ◌⊎◌, ◌++◌, List, inl, inr, subst, sym, true}
+use Rattle.std.proofs.Common.{◌≡◌, ◌∙◌, ◌⊎◌, ◌++◌, List, ap, inl, inr, subst, sym, true}
 use Rattle.clap.specs.Words.{Text}
 use Rattle.fdb_command.specs.declared.failure.Failure.TheVariants.{Memory, Writing}
 use Rattle.fdb_audit.specs.Program.{HasTaken, IsAsked, audit, started}
 use Rattle.fdb_audit.specs.Watched.{HasFollowed}
 use Rattle.fdb_audit.specs.declared.follower.Follower.{Follower}
+use Rattle.fdb_audit.specs.declared.progress.Reporter.{Reporter}
 use Rattle.fdb_audit.specs.declared.audit_program.AuditIntake.{AuditIntake}
 use Rattle.fdb_audit.proofs.Refusing.{keeps_asked, passed_on}
 use Rattle.fdb_audit.proofs.audit_program.AuditProgram.keep.Goals as goal
@@ -12,7 +13,19 @@ pub returns-in_ok-next-in-Followed-clause-taken : goal.returns-in_ok-next-in-Fol
 returns-in_ok-next-in-Followed-clause-taken g c = λ before told has.
     let asked = c.args.asked.now in
     let (behind, follows, kept, for, is) = subst (λ (it : AuditIntake). HasTaken asked it before told) c.in-Followed.is has in
-    (behind, follows, kept, for, subst (λ (follower : Follower). HasFollowed asked (started asked behind kept) follower (kept ++ before) told) (sym c.in_ok-next-in-Followed.ensures.follower) is)
+    let (objects, all, followed, told_with) = is in
+    let same = c.in_ok-next-in-Followed.ensures.same in (
+      behind,
+      follows,
+      kept,
+      for,
+      (
+        ap (λ (reporter : Reporter). reporter.objects) same.1 ∙ objects,
+        all,
+        subst (λ (follower : Follower). HasFollowed asked (started asked behind kept) follower (kept ++ before) all) (sym same.0) followed,
+        told_with,
+      ),
+    )
 
 pub returns-in_err-next-in-Followed-clause-stops : goal.returns-in_err-next-in-Followed-clause-stops
 returns-in_err-next-in-Followed-clause-stops g c =

@@ -2,7 +2,7 @@ use Rattle.std.proofs.Common.{◌∙◌, ◌++◌, ap, append_assoc, inl, inr, s
 use Rattle.fdb_log_reader.specs.Reading.{reading_with}
 use Rattle.fdb_audit.specs.Program.{key_asked, shown_asked, HasTaken, started}
 use Rattle.fdb_audit.specs.declared.audit_program.AuditIntake.{AuditIntake}
-use Rattle.fdb_audit.specs.Watched.{HasFollowed}
+use Rattle.fdb_audit.specs.Progress.{HasPrinted}
 use Rattle.fdb_audit.proofs.Refusing.{stops}
 use Rattle.fdb_audit.proofs.audit_program.AuditProgram.take.Goals as goal
 
@@ -28,6 +28,6 @@ returns-in_ok-feed-in-Followed-clause-taken c = λ options before told has.
       follows,
       kept,
       for,
-      subst (λ text. HasFollowed options (started options behind kept) c.feed-in-Followed.new.self.follower text told) (append_assoc kept before bytes)
+      subst (λ text. HasPrinted options (started options behind kept) c.feed-in-Followed.new.self text told) (append_assoc kept before bytes)
           (c.in_ok-feed-in-Followed.ensures options (started options behind kept) (kept ++ before) told is),
     )

@@ -3,7 +3,7 @@ use Rattle.std.proofs.lemmas.Bool.{false≢true}
 use Rattle.fdb_audit.specs.Following.{fresh}
 use Rattle.fdb_audit.specs.Kept.{start_of}
 use Rattle.fdb_audit.specs.Watched.{HasFollowed}
-use Rattle.fdb_audit.specs.declared.follower.Follower.{Follower}
+use Rattle.fdb_audit.specs.Progress.{HasPrinted}
 use Rattle.fdb_audit.proofs.followed_log.FollowedLog.begin.Goals as goal
 
 pub returns-in_ok-log-in-Some-clause-begun : goal.returns-in_ok-log-in-Some-clause-begun
@@ -13,7 +13,7 @@ returns-in_ok-log-in-Some-clause-begun g c =
     let keeps : is_some asked.keep ≡ true = sym c.as_deref.ensures.variant ∙ ap is_some c.in-Some.is in (
       text,
       λ none. absurd (false≢true (sym (ap is_some none) ∙ keeps)),
-      subst (λ b. HasFollowed asked (if b then start_of asked c.args.behind text else fresh c.args.behind) c.in_ok-log-in-Some.log.follower text []) (sym keeps) has,
+      subst (λ b. HasPrinted asked (if b then start_of asked c.args.behind text else fresh c.args.behind) c.in_ok-log-in-Some.log text []) (sym keeps) has,
     )
 
 pub returns-in_ok-follower-in-None-clause-begun : goal.returns-in_ok-follower-in-None-clause-begun
@@ -22,6 +22,6 @@ returns-in_ok-follower-in-None-clause-begun g c =
     let none : is_some asked.keep ≡ false = sym c.as_deref.ensures.variant ∙ ap is_some c.in-None.is in (
       [],
       λ _. refl,
-      subst (λ (follower : Follower). HasFollowed asked (if is_some asked.keep then start_of asked c.args.behind [] else fresh c.args.behind) follower [] []) (sym c.new-in-None.ensures)
+      c.new-in-None.ensures (if is_some asked.keep then start_of asked c.args.behind [] else fresh c.args.behind) []
           (subst (λ b. HasFollowed asked (if b then start_of asked c.args.behind [] else fresh c.args.behind) c.in_ok-follower-in-None.follower [] []) (sym none) c.in_ok-follower-in-None.ensures.followed),
     )

@@ -7,7 +7,7 @@ use Rattle.fdb_audit.specs.Kept.{start_from}
 use Rattle.fdb_audit.specs.Watched.{lines_asked}
 use Rattle.fdb_audit.specs.private.Followed.{AreTaken, HasWarned}
 use Rattle.fdb_audit.proofs.KeptTexts.{nothing_pending}
-use Rattle.fdb_audit.proofs.SettledOn.{newest_later}
+use Rattle.fdb_audit.proofs.SettledOn.{believes_else}
 use Rattle.fdb_audit.proofs.TellingOn.{fed_first}
 use Rattle.fdb_audit.proofs.follower.Follower.feed_kept.Goals as goal
 
@@ -28,14 +28,14 @@ returns c = λ asked behind kept told_is settled_is ends is.
     subst (λ (read : List (Result SaidLine Why)). Took read asked.opts.margin) whole (subst (Took lines) is.margin took) in (
       fed_first (start_with behind kept.numbers) start asked c.args.self.now _ bytes lines is refl refl
           c.in_ok-lines.ensures.read c.in_ok-lines.ensures.behind
-          (newest_later start c.take_kept.new.self _ lines start.told refl took_so refl refl refl refl refl refl)
+          (believes_else start c.take_kept.new.self _ lines start.told refl took_so refl refl refl refl refl refl)
           c.take_kept.ensures.margin refl refl,
       record {
         read = lines;
         goes = goes;
         behind = is.at;
         told = start.told;
-        taken = newest_later start c.take_kept.new.self _ lines start.told refl took_so refl refl refl refl refl refl;
+        taken = believes_else start c.take_kept.new.self _ lines start.told refl took_so refl refl refl refl refl refl;
         said = said_so;
       },
     )

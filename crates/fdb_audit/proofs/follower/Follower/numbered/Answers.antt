@@ -19,8 +19,8 @@ returns c =
           ∙ (ap (λ (names : List (List ℕ)). names_behind names (no_names (option_map (λ key. key.now) c.as_deref.result)) (lines_in text)) shown
           ∙ ap (λ (key : Option (List ℕ)). names_behind (map string_bytes asked.shown.items) (no_names key) (lines_in text)) key));
       at = refl;
-      taken = c.in_ok-taking.ensures.taken c.args.behind;
-      warned = c.in_ok-taking.ensures.warned c.args.behind;
+      taken = c.in_ok-taking.ensures.taken;
+      warned = c.in_ok-taking.ensures.warned;
       margin = c.in_ok-taking.ensures.margin;
       text = teller.text;
       are = record {

@@ -20,7 +20,7 @@ returns-clause-told c = λ asked start read told is.
     let faults = start.told ++ told_in_all read is.windows in
     settled start asked old _ read told (told_by_all entries) is refl
     (c.note_settled.ensures.taken start read (faults ++ told_by_all entries)
-    (settled_taken start old.taking _ read faults (told_by_all entries) old.behind c.certain_to-at.result is.taken is.behind c.certain_to-at.ensures
+    (settled_taken start old.taking _ read faults (told_by_all entries) c.certain_to-at.result is.taken c.certain_to-at.ensures
     (c.settle.ensures.seen lines keys is.taken.seen) c.in_ok-told.ensures.settled
     (c.in_ok-told.ensures.once lines keys faults is.taken.seen) refl refl refl refl refl refl))
     (ap (λ (watch : KeyWatch). watch.margin) c.note_settled.ensures.watch ∙ c.settle.ensures.margin.0)
@@ -35,12 +35,12 @@ returns-clause-taken c =
     let old = c.args.self.now in
     let entries = c.in_ok-told.told.items in
     record {
-      taken = λ start read told behind are.
+      taken = λ start read told are.
           let lines = lines_taken read in
           let keys = keys_taken read in (
             told_by_all entries,
             c.note_settled.ensures.taken start read (told ++ told_by_all entries)
-                (settled_taken start old.taking _ read told (told_by_all entries) old.behind c.certain_to-at.result are behind c.certain_to-at.ensures
+                (settled_taken start old.taking _ read told (told_by_all entries) c.certain_to-at.result are c.certain_to-at.ensures
                 (c.settle.ensures.seen lines keys are.seen) c.in_ok-told.ensures.settled
                 (c.in_ok-told.ensures.once lines keys told are.seen) refl refl refl refl refl refl),
           );

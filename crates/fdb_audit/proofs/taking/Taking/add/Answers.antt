@@ -25,7 +25,8 @@ returns-clause-taken c = λ start lines told are.
       count = its.count;
       refused = its.refused;
       settled = its.settled;
-      newest = its.newest;
+      hears = record { newest = its.hears.newest; others = its.hears.others; believed = its.hears.believed; ahead = its.hears.ahead; behind = its.hears.behind };
+      ahead = its.ahead;
       counted = its.counted;
       its_number = its.its_number;
       came = record { early = its.came.early; judged = its.came.judged; last = its.came.last };
@@ -51,7 +52,8 @@ returns-clause-warned c = λ start lines told warned are was.
       count = its.count;
       refused = its.refused;
       settled = its.settled;
-      newest = its.newest;
+      hears = record { newest = its.hears.newest; others = its.hears.others; believed = its.hears.believed; ahead = its.hears.ahead; behind = its.hears.behind };
+      ahead = its.ahead;
       counted = its.counted;
       its_number = its.its_number;
       came = record { early = its.came.early; judged = its.came.judged; last = its.came.last };

@@ -5,5 +5,5 @@ use Rattle.fdb_audit.proofs.Warned.{none_said}
 use Rattle.fdb_audit.proofs.taking.Taking.new.Goals as goal
 
 pub returns-clause-warned : goal.returns-clause-warned
-returns-clause-warned c = λ behind.
-    none_said (start_with behind (kept_by c.args.numbering)) [] c.new-3.result (string_bytes c.new-5.result) refl c.new-3.ensures.early c.new-5.ensures.bytes
+returns-clause-warned c =
+    none_said (start_with c.args.behind (kept_by c.args.numbering)) [] c.new-3.result (string_bytes c.new-6.result) refl c.new-3.ensures.early c.new-3.ensures.none.2 c.new-6.ensures.bytes

@@ -24,6 +24,7 @@ returns-clause-taken c = λ start read told are.
       few = are.few;
       before = are.before;
       came = are.came;
+      few_ahead = are.few_ahead;
       from = (let was = are.from in let moved = c.in_ok-told.ensures.settled in omega (arith, was, moved));
       late = are.late;
       settled = settled_now (record start { anew = false }) _ lines (are.count ∙ sym size);

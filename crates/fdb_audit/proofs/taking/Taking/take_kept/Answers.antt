@@ -81,7 +81,8 @@ returns-clause-taken c = λ behind kept told_is settled_is are.
             omega (arith, came, size, most);
         reach = λ anew. absurd (false≢true anew);
         came = none_early start all c.new-self.result c.new-self.ensures.early c.new-self.ensures.none.0 c.new-self.ensures.none.1;
+        few_ahead = (let none = c.new-self.ensures.none.2 in omega (arith, none));
         once = λ none_before none_since. last.once refl (omega (arith, most_last, none_before));
       },
-      none_said start all c.new-self.result (string_bytes c.new.result) none c.new-self.ensures.early c.new.ensures.bytes,
+      none_said start all c.new-self.result (string_bytes c.new.result) none c.new-self.ensures.early c.new-self.ensures.none.2 c.new.ensures.bytes,
     )

@@ -8,7 +8,7 @@ use Rattle.fdb_command.specs.declared.failure.Failure.TheVariants.{Memory, Writi
 use Rattle.fdb_command.specs.declared.program.Output.{Output}
 use Rattle.fdb_audit.specs.Following.{Start}
 use Rattle.fdb_audit.specs.Program.{HasTaken, IsAsked, Prints, PrintsBy, audit, refusal_of, refused_of, started}
-use Rattle.fdb_audit.specs.Watched.{HasFollowed, IsFollowed}
+use Rattle.fdb_audit.specs.Progress.{HasPrinted, IsPrinted}
 use Rattle.fdb_audit.specs.declared.arguments.AuditArguments.{AuditArguments}
 use Rattle.fdb_audit.specs.declared.fault.LogFault.{LogFault}
 use Rattle.fdb_audit.specs.declared.followed_log.FollowedLog.{FollowedLog}
@@ -33,8 +33,8 @@ whole_printed arguments asked bytes told (Err fault) whole none stops = stops
 -- of a log that is followed is printed what was told and what was left to be said
 followed_printed : (arguments : List Text) (asked : AuditArguments) (log : FollowedLog) (bytes told : List ℕ) (made : Result (Output LogsRefused LogFault) (Failure LogsRefused LogFault))
     → IsAsked arguments asked → HasTaken asked (Followed log) bytes told
-    → IfOk made (λ it. (start : Start) (bytes told : List ℕ) → HasFollowed asked start log.follower bytes told
-    → (last_early : Option ℕ) × IsFollowed asked start (not (is_some asked.keep)) bytes (told ++ it.text.items) it.found last_early
+    → IfOk made (λ it. (start : Start) (bytes told : List ℕ) → HasPrinted asked start log bytes told
+    → (last_early : Option ℕ) × IsPrinted asked start (not (is_some asked.keep)) bytes (told ++ it.text.items) it.found last_early
     × (it.refused ≡ refusal_of (refused_of asked start bytes) last_early))
     → IfErr made (λ fault. (fault ≡ Memory) ⊎ ((fault ≡ Writing) × (is_some asked.keep ≡ true)))
     → MatchResult made (λ answer. PrintsBy asked.follow asked bytes (told ++ answer.text.items) answer.found answer.refused × (asked.follow ≡ None → answer.warnings.items ≡ [])) (Stops audit arguments bytes)

@@ -1,0 +1,68 @@
+-- How far a log has been followed, as it is printed in between. (this product's own)
+use Rattle.std.specs.Prelude.{◌≡◌, ◌++◌, ℕ, Bool, true, List, [], ◌∷◌, All, IfSome, Option, None, Some, Result, codes}
+use Rattle.std.specs.List.{flat_map}
+use Rattle.fdb_log_reader.specs.declared.error.Why.{Why}
+use Rattle.fdb_log_reader.specs.ReadLine.{SaidLine}
+use Rattle.fdb_audit.specs.Figures.{Figure, figure, figures_text}
+use Rattle.fdb_audit.specs.Following.{Counted, IsCounted, Start, counted_figures}
+use Rattle.fdb_audit.specs.Text.{line}
+use Rattle.fdb_audit.specs.Watched.{HasFollowed, IsFollowed, lines_asked}
+use Rattle.fdb_audit.specs.declared.arguments.AuditArguments.{AuditArguments}
+use Rattle.fdb_audit.specs.declared.fault.LogFault.{LogFault}
+use Rattle.fdb_audit.specs.declared.followed_log.FollowedLog.{FollowedLog}
+use Rattle.fdb_audit.specs.declared.progress.Progress.{Progress}
+
+-- how much had been read
+abbrev pub counted_by : Progress → Counted
+counted_by it = record {
+  lines = it.lines;
+  reads = it.reads;
+  commits = it.commits;
+  asks = it.asks;
+  reports = it.reports;
+  refused = it.refused;
+  early = it.early;
+  judged = it.judged;
+  ahead = it.ahead;
+}
+
+-- and how far that was told
+abbrev pub progress_figures : Progress → List Figure
+progress_figures it =
+    counted_figures (counted_by it)
+    ++ figure (codes "open") it.open ∷ figure (codes "kept") it.kept ∷ figure (codes "newest_end") it.newest_end ∷ figure (codes "settled_to") it.settled_to ∷ []
+
+abbrev pub progress_object : Progress → List ℕ
+progress_object it = line (codes "{\"watched\":{" ++ figures_text true (progress_figures it) ++ codes "}}")
+
+-- A text that is told, and how far the log was followed then, where that is told behind it: these lines had been read.
+pub record Part : Type 0 where
+  pub told : List ℕ
+  pub read : List (Result SaidLine Why)
+  pub progress : Option Progress
+
+abbrev pub progress_text : Option Progress → List ℕ
+progress_text None = []
+progress_text (Some it) = progress_object it
+
+-- Whatever comes behind these bytes, the lines that had been read are the first of them; and they are counted, where objects are asked
+-- for.
+pub record IsPart (asked : AuditArguments) (start : Start) (bytes : List ℕ) (part : Part) : Type 0 where
+  pub first : (text : List ℕ) → (rest : List (Result SaidLine Why)) × (lines_asked asked (bytes ++ text) ≡ part.read ++ rest)
+  pub counts : IfSome part.progress (λ it. (asked.wanted.json ≡ true) × IsCounted start part.read (counted_by it))
+
+-- What is told of these bytes is printed in parts, behind some of which stands how far the log was followed then.
+abbrev pub IsToldWith : AuditArguments → Start → (bytes told text : List ℕ) → Type 0
+IsToldWith asked start bytes told text =
+    (parts : List Part) × (told ≡ flat_map (λ (part : Part). part.told) parts) × (text ≡ flat_map (λ (part : Part). part.told ++ progress_text part.progress) parts)
+    × All (IsPart asked start bytes) parts
+
+-- This is printed of these bytes, which have been read.
+abbrev pub HasPrinted : AuditArguments → Start → FollowedLog → (bytes text : List ℕ) → Type 0
+HasPrinted asked start log bytes text =
+    (log.reporter.objects ≡ asked.wanted.json) × (told : List ℕ) × HasFollowed asked start log.follower bytes told × IsToldWith asked start bytes told text
+
+-- And so this is of all of them, at their end.
+abbrev pub IsPrinted : AuditArguments → Start → (ends : Bool) → (bytes text : List ℕ) → Option LogFault → Option ℕ → Type 0
+IsPrinted asked start ends bytes text found last_early =
+    (told : List ℕ) × IsFollowed asked start ends bytes told found last_early × IsToldWith asked start bytes told text
