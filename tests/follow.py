@@ -57,7 +57,8 @@ def worked_by_model(_program):
     """So does the model."""
     for name, given, words, out in worked_cases(WORKED):
         ran = judged_as(given, words)
-        yield name, fault_of(ran, ran._replace(out=out)) or why_wrong(given, words, ran)
+        fault = fault_of(ran, ran._replace(out=out))
+        yield name, fault or why_wrong(given, words, ran, is_run=False)
 
 
 # ---- logs that come in pieces

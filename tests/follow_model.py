@@ -219,8 +219,8 @@ def progress_wrong(log, told):
     return None
 
 
-def why_wrong(given, words, ran, most_early=0):
-    """What is wrong with how a run ended, or None.
+def why_wrong(given, words, ran, most_early=0, is_run=True):
+    """What is wrong with how a run ended, or the model's text, or None.
 
     Where lines may have begun before what was settled, at most so many did, and of the faults any
     may be missing.
@@ -241,7 +241,7 @@ def why_wrong(given, words, ran, most_early=0):
         return f"it tells {sorted(names)} of {sorted(log.told)}"
     if log.is_listed:
         log.told = {name: log.told[name] for name in names}
-    wrong = early_wrong(log, ran, most_early) or progress_wrong(log, progress)
+    wrong = early_wrong(log, ran, most_early) or is_run and progress_wrong(log, progress)
     if wrong:
         return wrong
     # With totals alone standard error tells which fault was the first.

@@ -67,12 +67,16 @@ impl Clocks {
         self.believed.saturating_sub(self.behind)
     }
 
-    /// Goes on where ends were believed up to a moment, and more than one client is known to log or
-    /// not: then none vouches for itself.
-    pub(crate) fn go_on(&mut self, believed: u64, are_many: bool)
+    /// Goes on where it was settled up to a moment, so that ends were believed that far ahead of that,
+    /// and more than one client is known to log or not: then none vouches for itself.
+    pub(crate) fn go_on(&mut self, settled: u64, are_many: bool)
         ensures { self.new.behind ≡ self.old.behind }
     {
-        self.believed = believed;
+        self.believed = if settled > 0 {
+            settled.saturating_add(self.behind)
+        } else {
+            0
+        };
         if are_many && self.second.is_none() {
             self.second = Some(0);
         }

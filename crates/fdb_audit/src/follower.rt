@@ -209,8 +209,7 @@ impl Follower {
         a_space_more_is_of_one_line();
         let lines = self.reader.feed(self.alloc, bytes)?;
         self.taking.take_kept(lines, told, settled)?;
-        let believed = settled.saturating_add(self.behind);
-        self.taking.clocks.go_on(believed, are_many);
+        self.taking.clocks.go_on(settled, are_many);
         Ok(())
     }
 
