@@ -18,7 +18,7 @@ from harness import MANY_SECONDS, ROOT, read, run, text_of
 
 NEEDED = [f"{ROOT}/{it}" for it in (*BUILT.values(), SHARED)]
 TOOLS = ("git", "cargo", "ar", "strip", "dpkg-deb", "dpkg-shlibdeps", "dpkg-gencontrol")
-KIT, ENDED = "a-kit logic 0123456789abcdef", "1 passed, 0 failed"
+KIT, ENDED = "a-kit logic 0123456789abcdef", ["1 passed, 0 failed"]
 WHO = {"NAME": "nobody", "EMAIL": "nobody@example.org", "DATE": "2026-01-02T03:04:05Z"}
 OF_GIT = {
     **{f"GIT_{role}_{it}": value for role in ("AUTHOR", "COMMITTER") for it, value in WHO.items()},
