@@ -21,7 +21,7 @@ from released import file_of, here, made, missing, room
 
 sys.path.insert(0, f"{ROOT}/tools")
 from release_manual import installed, section
-from release_package import DOCUMENTS, LIBRARIES, PACKAGE, SHARE
+from release_package import DOCUMENTS, LIBRARIES, LIBRARY, PACKAGE, SHARE
 
 # The commands of README.md's section that have no block of their own, which `of_readme` runs.
 OWN_LOGS = "Logs of your own"
@@ -208,6 +208,7 @@ def of_library(_program):
         for name, out in (("first", bindings.FIRST_OF_C), ("audit", bindings.AUDIT_OF_C)):
             for how in ("", "-static"):
                 yield f"{name}.c {how}", fault_of(of_c(name, how, env), done(out))
+    yield from of_names()
     yield from of_wheel()
     if here("pkg-config"):
         yield from of_crates(env)
@@ -220,6 +221,17 @@ def of_c(name, how, env):
     said = f'$(pkg-config {flags} --cflags --libs {PACKAGE})'
     built = run(["sh", "-c", f'cc {how} -Wall -Werror "{source}" {said} -o "{program}"'], env=env)
     return run([program], env=env) if built.status == 0 else built
+
+
+def of_names():
+    """The package for Python finds the library in a folder by either of its names."""
+    for name in (".so.0", ".so"):
+        folder = f"{room()}/named{name}"
+        os.makedirs(folder)
+        shutil.copy(f"{unpacked()}/{LIBRARIES}/{LIBRARY}.so.0", f"{folder}/{LIBRARY}{name}")
+        env = {"PYTHONPATH": bindings.PACKAGE, "FDB_READ_VERSION_LIB": folder}
+        ran = run([sys.executable, f"{ROOT}/bindings/python/first.py"], env={**os.environ, **env})
+        yield f"the library as {name}", fault_of(ran, done(bindings.FIRST_OF_PYTHON))
 
 
 def of_wheel():
@@ -258,6 +270,9 @@ def of_crates(env):
     words, wanted = ["cargo", "run", "--quiet", "--offline"], Ran(0, bindings.AUDIT_OF_RUST, None)
     ran = run(words, seconds=MANY_SECONDS, cwd=f"{room()}/user", env=env)
     yield "the crate over the installed library", fault_of(ran, wanted)
+    named = {**env, "FDB_READ_VERSION_LIB": f"{unpacked()}/{LIBRARIES}"}
+    ran = run(words, seconds=MANY_SECONDS, cwd=f"{room()}/user", env=named)
+    yield "the crate over the installed archive", fault_of(ran, wanted)
     env["PKG_CONFIG_LIBDIR"] = "/nowhere"
     ran = run(words, seconds=MANY_SECONDS, cwd=f"{room()}/user", env=env)
     yield "the crate without it", None if LIBRARY_IS_MISSING in ran.err else f"{ran}"
