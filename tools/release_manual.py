@@ -9,6 +9,7 @@ page and a document both say is made from one text.
 import ast
 import re
 from pathlib import Path
+from textwrap import dedent
 
 from release_help import help_of
 
@@ -80,7 +81,7 @@ def of_tool(part, tool):
     parts = ast.get_docstring(ast.parse((ROOT / tool).read_text(encoding="utf-8"))).split("\n\n")
     if part == "summary":
         return lowered(parts[0].partition(".\n")[0].replace("\n", " ").removesuffix("."))
-    return "\n\n".join(f"```\n{it}\n```" if it.startswith("    ") else it.replace("\n", " ")
+    return "\n\n".join(f"```\n{dedent(it)}\n```" if it.startswith(" ") else it.replace("\n", " ")
                        for it in parts)
 
 
