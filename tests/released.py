@@ -15,9 +15,9 @@ import gate_record
 from documents import CODE, rows_of
 from gate_record import BUILT, FILES, SHARED
 from harness import MANY_SECONDS, ROOT, read, run, text_of
+from release_package import lacking
 
 NEEDED = [f"{ROOT}/{it}" for it in (*BUILT.values(), SHARED)]
-TOOLS = ("git", "cargo", "ar", "strip", "dpkg-deb", "dpkg-shlibdeps", "dpkg-gencontrol")
 KIT, ENDED = "a-kit logic 0123456789abcdef", ["1 passed, 0 failed"]
 WHO = {"NAME": "nobody", "EMAIL": "nobody@example.org", "DATE": "2026-01-02T03:04:05Z"}
 OF_GIT = {
@@ -30,10 +30,12 @@ ELSEWHERE = {"TZ": "Asia/Kathmandu", "LANG": "C", "LC_ALL": "C", "COLUMNS": "40"
 
 
 def missing():
-    """A tool without which there is no release, or None; it is said."""
-    found = next((it for it in TOOLS if not shutil.which(it)), None)
+    """What is missing for a release here, or None; it is said."""
+    found = lacking()
+    if not found and run(["git", "-C", ROOT, "rev-parse"]).status:
+        found = "this is no repository of git"
     if found:
-        print(f"(there is no {found}: left out) ", end="")
+        print(f"({found}: left out) ", end="")
     return found
 
 

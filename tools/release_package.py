@@ -23,6 +23,9 @@ OUT = "crates/fdb_c/out"
 SHARED, ARCHIVES = f"{OUT}/{LIBRARY}.so.0", [f"{OUT}/{LIBRARY}.a", f"{OUT}/liblibc_c.a"]
 LIBRARIES, SHARE = "usr/lib/x86_64-linux-gnu", f"usr/share/{PACKAGE}"
 DOCUMENTS = f"usr/share/doc/{PACKAGE}"
+# What makes a release; a cargo that is older packs no crate that needs another of its workspace.
+NEEDED = ("git", "cargo", "ar", "strip", "dpkg-deb", "dpkg-shlibdeps", "dpkg-gencontrol")
+OLDEST_CARGO = (1, 90)
 PYTHON, DEBIAN_PYTHON = "#!/usr/bin/env python3\n", "#!/usr/bin/python3\n"
 
 
@@ -30,6 +33,17 @@ def said(*words, **how):
     """What a command prints, which must succeed."""
     pipes = {"stdout": subprocess.PIPE, "stderr": subprocess.PIPE}
     return subprocess.run(words, check=True, text=True, **pipes, **how).stdout
+
+
+def lacking():
+    """What a release wants that is not here, or None."""
+    missing = next((it for it in NEEDED if not shutil.which(it)), None)
+    if missing:
+        return f"there is no {missing} on the PATH"
+    version = said("cargo", "--version").split()[1]
+    is_old = tuple(map(int, version.split(".")[:2])) < OLDEST_CARGO
+    wanted = ".".join(map(str, OLDEST_CARGO))
+    return f"cargo is {version}, and older than {wanted}" if is_old else None
 
 
 def moment_of(moment):
