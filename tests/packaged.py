@@ -4,6 +4,7 @@ There the examples of the documents run, and programs of C, Python and Rust stan
 """
 import contextlib
 import functools
+import gzip
 import os
 import re
 import shutil
@@ -183,11 +184,20 @@ def of_dpkg(_program):
     needs = run(["dpkg-deb", "--field", file_of(".deb"), "Depends"]).out.decode()
     is_so = re.fullmatch(r"libc6 \(>= [\d.]+\), python3\n", needs)
     yield "what it needs", None if is_so else needs
+    changes = gzip.decompress(read(f"{unpacked()}/{DOCUMENTS}/changelog.gz")).decode()
+    commit = text_of_record("commit")
+    yield "its changelog", None if commit in changes else f"{commit} is not in {changes}"
     if here("lintian"):
         words = ["lintian", "--allow-root", "--no-tag-display-limit", file_of(".deb")]
         said = run(words, seconds=MANY_SECONDS).out.decode()
         errors = [it for it in said.splitlines() if it.startswith("E: ")]
         yield "lintian", "; ".join(errors) or None
+
+
+def text_of_record(name):
+    """What PROVED says behind a name."""
+    lines = read(f"{made()[0]}/PROVED").decode().splitlines()
+    return next(it.partition(" ")[2] for it in lines if it.startswith(f"{name} "))
 
 
 def fault_of_end(ran):

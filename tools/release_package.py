@@ -142,13 +142,15 @@ def add_library(tree, version, room):
 
 
 def add_documents(tree, changelog):
-    """README.md, docs/ and examples/ as they are, what is said of the license, and a changelog."""
+    """README.md, docs/ and examples/ as they are, and what Debian wants: license and changelog."""
     names = said("git", "-C", str(ROOT), "ls-files", "-z", "README.md", "docs", "examples")
     for name in names.rstrip("\0").split("\0"):
         file = ROOT / name
         mode = 0o755 if os.access(file, os.X_OK) else 0o644
         tree.write(f"{DOCUMENTS}/{name}", file.read_bytes(), mode)
-    tree.write(f"{DOCUMENTS}/copyright", (ROOT / "debian" / "copyright").read_bytes())
+    for name, path in (("copyright", f"{DOCUMENTS}/copyright"),
+                       ("lintian-overrides", f"usr/share/lintian/overrides/{PACKAGE}")):
+        tree.write(path, (ROOT / "debian" / name).read_bytes())
     tree.write(f"{DOCUMENTS}/changelog.gz", packed(changelog))
 
 
