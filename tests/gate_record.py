@@ -13,6 +13,7 @@ files are not as the commit has them.
 import hashlib
 import os
 import re
+import shutil
 import sys
 
 sys.dont_write_bytecode = True
@@ -73,6 +74,8 @@ def record(commit, made_by, ended, counts, top=ROOT):
 
 def commit_of(top=ROOT):
     """The commit of a checkout whose files are as it has them, or ''."""
+    if not shutil.which("git"):
+        return ""
     changed = run(["git", "-C", top, "status", "--porcelain"])
     found = run(["git", "-C", top, "rev-parse", "HEAD"])
     is_known = changed.status == found.status == 0 and not changed.out
