@@ -46,7 +46,7 @@ def lacking():
     return f"cargo is {version}, and older than {wanted}" if is_old else None
 
 
-def moment_of(moment):
+def in_utc(moment):
     return datetime.fromtimestamp(moment, timezone.utc)
 
 
@@ -99,7 +99,7 @@ def stripped(file, to, *words):
 
 def add_programs(tree, version, moment):
     """The programs and the tools, with their manual pages and completions."""
-    date, helps = moment_of(moment).date().isoformat(), {}
+    date, helps = in_utc(moment).date().isoformat(), {}
     for name, file in BUILT.items():
         stripped(file, tree.at(f"usr/bin/{name}")).chmod(0o755)
         help = helps[name] = said(str(ROOT / file), "--help")
@@ -161,7 +161,7 @@ def changelog_of(version, gate, moment):
     return (f"{PACKAGE} ({version}) unstable; urgency=medium\n\n"
             f"  * Made of commit {gate['commit']},\n"
             f"    which {gate['kit']} has proved.\n\n"
-            f" -- {maintainer.partition(' ')[2]}  {format_datetime(moment_of(moment))}\n")
+            f" -- {maintainer.partition(' ')[2]}  {format_datetime(in_utc(moment))}\n")
 
 
 def add_control(tree, changelog, room):
