@@ -15,7 +15,7 @@ import tarfile
 import threading
 
 import bindings
-from audit_logs import LOGS
+from audit_logs import LOGS, ended_with
 from documents import BLOCK
 from harness import MANY_SECONDS, ROOT, SECONDS, Ran, done, fault_of, read, run, text_of
 from released import file_of, here, made, missing, room
@@ -89,10 +89,13 @@ def of_documents(_program):
                 count += 1
                 words = ["sh", "-c", installed(first[2:])]
                 ran = run(words, cwd=f"{top}/{DOCUMENTS}", env=env)
-                # (the status of a fault, and its line on standard error, are not shown)
-                wanted = Ran(ran.status if ran.status in (0, 4) else 0, rest.encode(), None)
-                yield f"{os.path.basename(path)}: {first}", fault_of(ran, wanted)
+                yield f"{os.path.basename(path)}: {first}", fault_of(ran, ended_with(rest.encode()))
     yield "runs in documents", None if count > 2 else f"there are {count}"
+    yield from of_tools(top, env)
+
+
+def of_tools(top, env):
+    """The tools in Python make what stands in the examples, and name what is installed."""
     logs = f"{top}/{DOCUMENTS}/examples/logs"
     for tool, given in (("fdb-audit-from-foundationdb", "trace.json"),
                         ("fdb-audit-from-jepsen", "jepsen.edn")):
@@ -121,8 +124,8 @@ def of_readme(_program):
     env, folder = without_rt(top), f"{room()}/logs"
     shutil.copytree(f"{top}/{DOCUMENTS}/examples", f"{folder}/examples")
     spans = set(re.findall(r"`([^`\n]+)`", section(OWN_LOGS)))
-    shown = {it for it in spans if "fdb_audit " in it or "tools/" in it or it.startswith("--")}
-    yield "what is shown", f"{shown ^ TRIED}" if shown ^ TRIED else None
+    asked = {it for it in spans if "fdb_audit " in it or "tools/" in it or it.startswith("--")}
+    yield "what is shown", f"{asked ^ TRIED}" if asked ^ TRIED else None
     log = "examples/logs/stale.jsonl"
 
     def sh(command):
@@ -136,8 +139,7 @@ def of_readme(_program):
     for name in ("keys", "shared"):
         words = read(f"{LOGS}/{name}.args").decode().split()
         ran = sh(" ".join([f"./fdb_audit examples/logs/{name}.jsonl", *words]))
-        wanted = Ran(ran.status, read(f"{LOGS}/{name}.out"), None)
-        yield f"{name}: {' '.join(words)}", fault_of(ran, wanted)
+        yield f"{name}: {' '.join(words)}", fault_of(ran, ended_with(read(f"{LOGS}/{name}.out")))
     shutil.copy(f"{folder}/{log}", f"{folder}/calls.jsonl")
     for more in ("", " --keep kept"):
         yield WATCHES + more, fault_of_watch(WATCHES + more, folder, env)
@@ -179,7 +181,7 @@ def of_dpkg(_program):
     is_so = own == sorted(it.replace(unpacked(), top) for it in files_in(f"{unpacked()}/usr", ""))
     yield "its files", None if is_so else f"{own}"
     ran = run([f"{top}/usr/bin/fdb_audit", f"{top}/{DOCUMENTS}/examples/logs/stale.jsonl"])
-    yield "it runs", fault_of(ran, Ran(4, read(f"{LOGS}/stale.out"), None))
+    yield "it runs", fault_of(ran, ended_with(read(f"{LOGS}/stale.out")))
     yield "its sums", fault_of_end(run([*dpkg, "--verify", PACKAGE]))
     yield "removed", fault_of_end(run([*dpkg, "--purge", PACKAGE]))
     left = [*files_in(f"{top}/usr", "")]
