@@ -101,8 +101,8 @@ def of_tools(top, env):
                         ("fdb-audit-from-jepsen", "jepsen.edn")):
         wanted = read(f"{logs}/{os.path.splitext(given)[0]}.jsonl")
         yield tool, fault_of(run([tool, f"{logs}/{given}"], env=env), Ran(0, wanted, None))
-    named = "import sys; sys.path.insert(0, sys.argv[1]); import eight_clients as it; print(it.AUDIT)"
-    ran = run([sys.executable, "-B", "-c", named, f"{top}/{DOCUMENTS}/examples"], env=env)
+    asked = [sys.executable, "-B", "-c", "import eight_clients as it; print(it.AUDIT)"]
+    ran = run(asked, env={**env, "PYTHONPATH": f"{top}/{DOCUMENTS}/examples"})
     yield "what examples of databases start", fault_of(ran, done(b"fdb_audit\n"))
     for path in sorted(files_in(f"{top}/{SHARE}", "")):
         named = re.search(rb"tools/\w+|\./fdb_\w+", read(path))
