@@ -100,6 +100,7 @@ def taken(_program):
     packed = sorted(files_in(f"{unpacked()}/usr/share/man", ".gz"))
     names = {os.path.basename(it).removesuffix(".gz") for it in packed}
     yield "pages of the package", None if names == {*pages()} else f"{names}"
+    has_man, has_mandoc = here("man"), here("mandoc")
     with tempfile.TemporaryDirectory() as room:
         os.chmod(room, 0o755)
         for path in packed:
@@ -107,11 +108,11 @@ def taken(_program):
             with open(f"{room}/{name}", "wb") as it:
                 it.write(gzip.decompress(read(path)))
             os.chmod(it.name, 0o644)
-            if here("man"):
+            if has_man:
                 env = {**os.environ, "LC_ALL": "C.UTF-8", "MANROFFSEQ": "", "MANWIDTH": "80"}
                 how = ["man", "--warnings", "-E", "UTF-8", "-l", "-Tutf8", "-Z", it.name]
                 yield f"man {name}", fault_of(run(how, env=env), Ran(0, None, b""))
-            if here("mandoc"):
+            if has_mandoc:
                 ran = run(["mandoc", "-T", "lint", it.name])
                 yield f"mandoc {name}", fault_of(ran, done(b""))
 
@@ -121,8 +122,8 @@ def completed(_program):
     if not ready():
         yield "no package", None
         return
-    share = f"{unpacked()}/usr/share"
-    for program, file in HELPS.items():
+    share, has_zsh = f"{unpacked()}/usr/share", here("zsh")
+    for program in HELPS:
         help = run([f"{unpacked()}/usr/bin/{program}", "--help"]).out.decode()
         options = help_of(help).options
         with tempfile.TemporaryDirectory() as folder:
@@ -132,7 +133,7 @@ def completed(_program):
         made = read(f"{share}/zsh/vendor-completions/_{program}").decode()
         for name in (name for it in options for name in (it.short, it.long) if name):
             yield f"{program} in zsh: {name}", None if f"){name}" in made else "it is not there"
-        if here("zsh"):
+        if has_zsh:
             ran = run(["zsh", "-n", f"{share}/zsh/vendor-completions/_{program}"])
             yield f"{program} in zsh", fault_of(ran, done(b""))
 
