@@ -19,7 +19,9 @@ import sys
 import tempfile
 import time
 
-AUDIT = os.environ.get("FDB_AUDIT") or os.path.realpath(f"{__file__}/../../fdb_audit")
+# (where the package is installed, there is no launcher)
+LAUNCHER = os.path.realpath(f"{__file__}/../../fdb_audit")
+AUDIT = os.environ.get("FDB_AUDIT") or (LAUNCHER if os.path.exists(LAUNCHER) else "fdb_audit")
 SECONDS = float(os.environ.get("SECONDS") or 4)
 ALL_RIGHT = bool(os.environ.get("RIGHT"))
 CLIENTS = "abcdefgh"

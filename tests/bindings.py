@@ -54,13 +54,14 @@ for name in ("Version", "Summary", "Author-email", "Requires-Python"):
     print(said[name])
 print(fdb_read_version.Chain(100, 200, 1).ask(0, 1, 5).version, len(fdb_read_version.__all__))
 """
-METADATA = b"""\
-0.4.0
+VERSION = text_of("VERSION").strip()
+METADATA = f"""\
+{VERSION}
 The read-version path of FoundationDB 7.1, proved, and an audit of logs, from Python
 Joskleme maintainers <maintainers@users.noreply.joskleme.example>
 >=3.9
 200 31
-"""
+""".encode()
 AUDIT_OF_RUST = b"""\
 Fault { line: 1, kind: Order, reason: Known { version: 200, means: Ended(0) }, \
 late: Some(Late { line: 0, by: 1 }) }
@@ -122,7 +123,7 @@ def linked(_program):
     fault = {it.split()[-1] for it in shared} ^ {*header.declared()}
     yield "what the shared object exports", f"{fault}" if fault else None
     said = run(["readelf", "--dynamic", SHARED]).out
-    fault = None if b"soname: [libfdb_read_version.so]" in said else "it has none"
+    fault = None if b"soname: [libfdb_read_version.so.0]" in said else "it has another one"
     yield "the shared object's name", fault
 
 
@@ -190,10 +191,11 @@ def fault_of_installed():
     with tempfile.TemporaryDirectory() as room:
         made = "import build_wheel, sys; print(build_wheel.build_sdist(sys.argv[1]))"
         ran = run([sys.executable, "-c", made, room], env=env)
-        if ran != done(b"fdb_read_version-0.4.0.tar.gz\n"):
+        name = f"fdb_read_version-{VERSION}.tar.gz"
+        if ran != done(f"{name}\n".encode()):
             return f"the sdist: {ran}"
         how = ["--quiet", "--no-index", "--no-build-isolation", "--no-compile", "--target"]
-        words = ["pip", "install", *how, f"{room}/site", f"{room}/fdb_read_version-0.4.0.tar.gz"]
+        words = ["pip", "install", *how, f"{room}/site", f"{room}/{name}"]
         ran = run(words, seconds=MANY_SECONDS, env=env)
         if ran.status:
             return ran.err[-1000:].decode(errors="replace")

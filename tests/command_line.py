@@ -6,8 +6,9 @@ from typing import Callable, NamedTuple
 
 import audit_logs
 from answers import MOST_COMMANDS
+from documents import LOGIC
 from harness import NO_MEMORY, NO_STREAM, OTHER_ARGUMENTS, REFUSED, ROOT, SECONDS, Ran, done
-from harness import fault_of, first_script, read, refused, run, script, under, written
+from harness import fault_of, first_script, read, refused, run, script, text_of, under, written
 from model import expected
 
 HELP = read(f"{ROOT}/tests/help.txt")
@@ -39,6 +40,8 @@ class Program(NamedTuple):
     # How it ends on an input with some arguments, and what of a run is looked at.
     ends: Callable
     seen: Callable = lambda ran: ran
+    # What it says where it is asked for its version, if it may be.
+    version: bytes = b""
 
     def ended(self, status, line):
         return Ran(status, b"", f"{self.name}: {line}\n".encode())
@@ -72,6 +75,7 @@ def replay(path):
 
 def audit(_path):
     many = b"".join(LINE.replace(b'"a"', b'"client %d"' % it) for it in range(9_000))
+    version = f"fdb_audit {text_of('VERSION').strip()} ({LOGIC.search(text_of('README.md'))[0]})\n"
     return Program(
         "fdb_audit", audit_logs.PROGRAM,
         ("--all", "--summary", "--json", "--history", "--progress"),
@@ -79,6 +83,7 @@ def audit(_path):
         read(f"{ROOT}/tests/audit_help.txt"),
         read(f"{audit_logs.LOGS}/stale.jsonl"), LINE,
         (b"{", audit_logs.refused_at(1, "NotJson")), many, audit_logs.judged_as,
+        version.encode(),
     )
 
 
@@ -137,7 +142,7 @@ def unwanted(it, file):
         if "x" in wrong:
             yield from ([f"{name}={value}"] for value in wrong)
             yield [name, "x", "-h"]
-    for one in ("--none", "--version", "-V", "-p", "-1"):
+    for one in ("--none", "-p", "-1", *(("--version", "-V") if not it.version else ())):
         yield from ([one], [*whole, one], [*whole, file, one], [one, *whole, file], [one, "--help"])
     for others in ([file], [""], ["--", file], ["1"], [file] * 1_000, [file, "--help"]):
         yield from ([file, *others], [*whole, file, *others], [file, *whole, *others])
@@ -156,13 +161,15 @@ def nameless(it):
 
 
 def helped(it):
-    """Help goes to standard output, whatever the arguments before it ask for."""
+    """Help and the version go to standard output, whatever the arguments before them ask for."""
     whole, number = sum(it.whole(), []), next(iter(it.numbers))
-    for words in (["--help"], ["-h"], ["--help", "--none"], ["--help", "--help"],
-                  ["-h", number, "x"], ["--help", f"{number}=x"], [*whole, "--help"],
-                  [*whole, "none", "-h"], ["none", *whole, "--help"]):
-        yield f"the arguments {words}", fault_of(run([it.path, *words], b"{"), done(it.help))
-    yield "help behind --", fault_of(run([it.path, "--", "--help"]), it.reading_failed())
+    version = [("--version", "-V", it.version)] if it.version else []
+    for long, short, said in (("--help", "-h", it.help), *version):
+        for words in ([long], [short], [long, "--none"], [long, long], [short, number, "x"],
+                      [long, f"{number}=x"], [*whole, long], [*whole, "none", short],
+                      ["none", *whole, long]):
+            yield f"the arguments {words}", fault_of(run([it.path, *words], b"{"), done(said))
+        yield f"{long} behind --", fault_of(run([it.path, "--", long]), it.reading_failed())
     for redirections, wanted in (
         ("> /dev/full", it.writing_failed()), (">&-", it.writing_failed()),
         ("<&- >&- 2>&-", Ran(NO_STREAM, b"", b"")),

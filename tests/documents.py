@@ -129,6 +129,7 @@ def believed(_program):
     said = run(["rt", "version"]).out.decode(errors="replace").strip()
     logic = LOGIC.search(said)
     yield said_so("README.md", logic[0] if logic else f"no logic in {said!r}")
+    yield said_so("crates/fdb_audit/src/arguments.rt", f"({logic[0]})" if logic else "no logic")
 
 
 # ---- clauses and files

@@ -31,6 +31,19 @@ PLAIN = {"u64": "uint64_t", "u32": "uint32_t", "u8": "uint8_t", "usize": "size_t
 PLAIN = {**PLAIN, None: "void"}
 # What stands before a name of the package for Python in that of the header, by its class.
 PREFIXES = {"FaultKind": "FAULT_", "Reason": "REASON_", "Means": "MEANS_"}
+# Where a version stands, how, and how often.
+VERSIONS = (
+    (HEADER, r"#define FDB_READ_VERSION_VERSION (\d+)$", 1),
+    (f"{SOURCES}/version.rt", r"(?:ensures \{ result ≡ |The version, |^    )([\d.]*\d)\b", 3),
+    ("crates/fdb_audit/src/arguments.rt", r'^const VERSION: &str = "([\d.]+) \(', 1),
+    (f"{OF_RUST}/lib.rs", r"FDB_READ_VERSION_VERSION: u32 = (\d+);", 1),
+    (f"{OF_PYTHON}/fdb_read_version/_library.py", r"^VERSION = (\d+)$", 1),
+    (f"{OF_PYTHON}/fdb_read_version/__init__.py", r'^__version__ = "(.*)"$', 1),
+    ("bindings/python/pyproject.toml", r'^version = "(.*)"$', 1),
+    ("bindings/rust/Cargo.toml", r'(?:^|\{ )version = "([^"]*)"', 2),
+    ("bindings/rust/sys/Cargo.toml", r'^version = "(.*)"$', 1),
+    ("bindings/rust/Cargo.lock", r'^version = "(.*)"$', 2),
+)
 # Numbers of C alone: a priority is an enum of the library's.
 OF_C_ALONE = {"FDB_SYSTEM", "FDB_DEFAULT", "FDB_BATCH"}
 
@@ -145,7 +158,7 @@ def compared(ours, theirs):
 
 
 def named(_program):
-    """Each status, member and kind of fault has its name, and all versions are one."""
+    """Each status, member and kind of fault has its name."""
     text = without_comments(HEADER)
     enums = [NUMBER_OF_C.findall(it) for it in re.findall(r"enum \{(.*?)\};", text, re.DOTALL)]
     for function, first, spelled in (
@@ -158,21 +171,17 @@ def named(_program):
         names = re.findall(r'case (\w+): return "(\w+)";', body)
         wanted = [(name, spelled(name[4:])) for name, _number in numbers]
         yield f"names by {function}", None if names == wanted else f"{names}"
-    version = re.search(r"#define FDB_READ_VERSION_VERSION (\d+)", text)[1]
-    library = re.search(r"ensures \{ result ≡ (\d+) \}", text_of(f"{SOURCES}/version.rt"))[1]
-    yield "the version of the library", None if library == version else library
-    for file, pattern in (
-        (f"{OF_RUST}/lib.rs", r"FDB_READ_VERSION_VERSION: u32 = (\d+);"),
-        (f"{OF_PYTHON}/fdb_read_version/_library.py", r"^VERSION = (\d+)$"),
-    ):
-        own = re.search(pattern, text_of(file), re.MULTILINE)[1]
-        yield f"the version in {file}", None if own == version else own
-    own = "bindings/python/src/fdb_read_version/__init__.py"
-    for file in ("bindings/rust/Cargo.toml", "bindings/python/pyproject.toml", own):
-        form = r'^(?:__)?version(?:__)? = "(\d+)\.(\d+)\.(\d+)"'
-        parts = re.search(form, text_of(file), re.MULTILINE)
-        number = sum(int(it) * by for it, by in zip(parts.groups(), (10000, 100, 1)))
-        yield f"the version in {file}", None if str(number) == version else parts[0]
+
+
+def versions(_program):
+    """Each version is the one of the file VERSION, as it stands there or as one number."""
+    version = text_of("VERSION").strip()
+    parts = [int(it) for it in re.fullmatch(r"(\d+)\.(\d\d?)\.(\d\d?)", version).groups()]
+    number = str(sum(it * by for it, by in zip(parts, (10000, 100, 1))))
+    for file, pattern, count in VERSIONS:
+        found = re.findall(pattern, text_of(file), re.MULTILINE)
+        is_so = len(found) == count and {*found} <= {version, number}
+        yield file, None if is_so else f"{found} in place of {version}"
 
 
 def agrees(_program):

@@ -41,13 +41,15 @@ def _base() -> str:
 
 def _metadata() -> bytes:
     author = re.search(r'name = "([^"]*)", email = "([^"]*)"', _project())
-    assert author
+    license_text = re.search(r'^license = \{ text = "([^"]*)" \}$', _project(), re.MULTILINE)
+    assert author and license_text
     lines = [
         "Metadata-Version: 2.1",
         f"Name: {_said('name')}",
         f"Version: {_said('version')}",
         f"Summary: {_said('description')}",
         f"Author-email: {author[1]} <{author[2]}>",
+        f"License: {license_text[1]}",
         f"Requires-Python: {_said('requires-python')}",
         f"Keywords: {','.join(_listed('keywords'))}",
         *(f"Classifier: {it}" for it in re.findall(r'^    "(.* :: .*)",$', _project(), re.M)),
@@ -61,12 +63,14 @@ def _metadata() -> bytes:
 def _library() -> bytes:
     """The library that the environment names, or what the repository built."""
     top = HERE.parent.parent
-    file = Path(os.environ.get("FDB_READ_VERSION_LIB", top / "crates" / "fdb_c" / "out"))
-    file = file / LIBRARY if file.is_dir() else file
-    if not file.is_file():
+    place = Path(os.environ.get("FDB_READ_VERSION_LIB", top / "crates" / "fdb_c" / "out"))
+    # (where it is installed, it has the name by which it is loaded)
+    files = [place / it for it in (f"{LIBRARY}.0", LIBRARY)] if place.is_dir() else [place]
+    found = next((it for it in files if it.is_file()), None)
+    if found is None:
         how = "make it with tools/bindings, or set FDB_READ_VERSION_LIB to its path"
-        raise SystemExit(f"{file} is missing: {how}")
-    return file.read_bytes()
+        raise SystemExit(f"{files[-1]} is missing: {how}")
+    return found.read_bytes()
 
 
 def _platform(library: bytes) -> str:

@@ -4,7 +4,7 @@ use Rattle.std.specs.List.{slice_split}
 use Rattle.std.specs.Option.{option_or}
 use Rattle.std.specs.Str.Parse.{digits_value, without_leading_plus}
 use Rattle.clap.specs.Words.{App, Rule, Text, first_of, matches_of, new_rule, one_of}
-use Rattle.fdb_command.specs.Arguments.{command_of, file_rule, flag_rule, is_set, number_rule}
+use Rattle.fdb_command.specs.Arguments.{file_rule, flag_rule, is_set, number_rule, versioned_command_of}
 use Rattle.fdb_command.specs.Driving.{Promise}
 use Rattle.fdb_lines.specs.declared.fault.Found.{Found}
 use Rattle.fdb_log_reader.specs.declared.error.ReadError.{ReadError}
@@ -32,9 +32,9 @@ use Rattle.fdb_audit.specs.Watched.{lines_asked}
 abbrev pub text_rule : Text → Rule
 text_rule name = record (new_rule name) { long = Some name; value_names = 1 }
 
--- LOGS, --complete START, --margin N, --follow N, --keep FILE, --key MEMBER, --show MEMBER,MEMBER, --all, --summary, --json, --history and --progress
+-- LOGS, --version, --complete START, --margin N, --follow N, --keep FILE, --key MEMBER, --show MEMBER,MEMBER, --all, --summary, --json, --history and --progress
 abbrev pub command : App
-command = command_of (codes "fdb_audit")
+command = versioned_command_of (codes "fdb_audit")
     (file_rule
     ∷ number_rule (codes "complete") (pos 0) (pos 9223372036854775807)
     ∷ number_rule (codes "margin") (pos 0) (pos 9223372036854775807)

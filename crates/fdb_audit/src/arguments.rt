@@ -10,9 +10,12 @@ ghost use Rattle.fdb_audit.specs.Program.{IsWanted};
 
 use crate::judged::Wanted;
 use clap::{Arg, ArgMatches, Command};
-use fdb_command::{file_argument, flag_argument, is_given, new_command, number_argument};
+use fdb_command::{file_argument, flag_argument, is_given, new_versioned_command, number_argument};
 use fdb_lines::AuditOpts;
 use std::alloc::{AllocError, Global};
+
+/// The version, and the logic of the kit that has proved the program.
+const VERSION: &str = "0.4.0 (logic dac8208d650f15bf)";
 
 /// What the help ends with: the statuses, and where a log's format is told.
 const AFTER_HELP: &str = "Exit status:
@@ -148,9 +151,10 @@ fn members_in(alloc: Global, text: &str) -> Result<Vec<String>, AllocError>
 pub(crate) fn command<'a>(alloc: Global) -> Result<Command<'a>, AllocError>
     ensures { IfOk result (λ made. app_of made ≡ command) }
 {
-    new_command(
+    new_versioned_command(
         alloc,
         "fdb_audit",
+        VERSION,
         "Audits a log of read versions and commit versions",
         AFTER_HELP,
     )

@@ -10,7 +10,7 @@ use Rattle.clap.specs.Words.{App, IsAmong, IsParsedFrom, Rule, Text, app_of, fau
 use Rattle.clap.specs.declared.builder.action.ArgAction.TheVariants.{SetTrue}
 use Rattle.clap.specs.declared.builder.command.Command.{Command}
 use Rattle.clap.specs.declared.builder.value_parser.ValueParser.TheVariants as parser
-use Rattle.clap.specs.declared.error.kind.ErrorKind.TheVariants.{DisplayHelp}
+use Rattle.clap.specs.declared.error.kind.ErrorKind.TheVariants.{DisplayHelp, DisplayVersion}
 use Rattle.clap.specs.declared.parser.matches.ArgMatches.{ArgMatches}
 
 -- the file that has the input, a flag, and a number in a range, as clap is given them
@@ -36,6 +36,11 @@ abbrev pub command_of : Text → List Rule → App
 command_of name rules =
     on_top (λ top. record top { no_binary_name = true; rules = rules }) (new_app name)
 
+-- the same of a program that says its version where it is asked for
+abbrev pub versioned_command_of : Text → List Rule → App
+versioned_command_of name rules =
+    on_top (λ top. record top { has_version = true }) (command_of name rules)
+
 -- these are the matches of a command on these arguments, which it takes
 pub record AreMatches (app : App) (arguments : List Text) (matches : ArgMatches) : Type 0 where
   pub command : Command
@@ -44,13 +49,13 @@ pub record AreMatches (app : App) (arguments : List Text) (matches : ArgMatches)
   pub rows : rows_of (found_of matches) ≡ matches_of app arguments
   pub taken : fault_of app arguments ≡ []
 
--- help is asked for, which clap answers as an error
+-- help or the version is asked for, which clap answers as an error
 abbrev pub AsksHelp : App → List Text → Type 0
-AsksHelp app arguments = IsAmong DisplayHelp (fault_of app arguments)
+AsksHelp app arguments = IsAmong DisplayHelp (fault_of app arguments) ⊎ IsAmong DisplayVersion (fault_of app arguments)
 
--- clap refuses the arguments, for another reason than that help is asked for
+-- clap refuses the arguments, for another reason than that one of these is asked for
 abbrev pub AreWrong : App → List Text → Type 0
-AreWrong app arguments = (kind : _) × (kind ≢ DisplayHelp) × IsAmong kind (fault_of app arguments)
+AreWrong app arguments = (kind : _) × (kind ≢ DisplayHelp) × (kind ≢ DisplayVersion) × IsAmong kind (fault_of app arguments)
 
 -- the arguments ask for an input or for help
 abbrev pub AreTaken : App → List Text → Type 0

@@ -1,12 +1,13 @@
 //! The arguments of a command line, and what is to be done where clap takes none.
 
-ghost use Rattle.std.specs.Prelude.{◌≡◌, ◌≢◌, ◌<◌, ◌^◌, ℕ, false, [], List, Ok, Err, OnOk, IfOk};
-ghost use Rattle.std.specs.Prelude.{IfErr, map, option_map, pos, string_bytes, true};
+ghost use Rattle.std.specs.Prelude.{◌≡◌, ◌≢◌, ◌⊎◌, ◌<◌, ◌^◌, ℕ, false, [], List, Ok, Err, OnOk};
+ghost use Rattle.std.specs.Prelude.{IfErr, IfOk, map, option_map, pos, string_bytes, true};
 ghost use Rattle.clap.specs.Faults.{is_simple_and_free};
 ghost use Rattle.clap.specs.Words.{Text, app_of, kind_of, matches_of, one_of, rule_of, App};
 ghost use Rattle.fdb_command.specs.Arguments.{AreMatches, AreWrong, HasArgument};
 ghost use Rattle.fdb_command.specs.Arguments.{IsNumber, command_of, file_named, file_rule};
 ghost use Rattle.fdb_command.specs.Arguments.{flag_rule, is_set, number_rule};
+ghost use Rattle.fdb_command.specs.Arguments.{versioned_command_of};
 ghost use Rattle.fdb_command.specs.private.Asked.{Ask};
 
 use clap::builder::ValueParser;
@@ -58,7 +59,7 @@ impl From<io::Error> for ArgumentsFault {
 pub(crate) enum Invocation<'a> {
     /// An input, by these matches of the arguments.
     Input(ArgMatches<'a>),
-    /// The help, which is this error's text.
+    /// The help or the version, which is this error's text.
     Help(Error),
 }
 
@@ -81,6 +82,19 @@ pub fn new_command<'a>(
         .about(about)
         .after_help(after_help)
         .no_binary_name(true)
+}
+
+/// The same of a program that says its version where `--version` or `-V` asks for it.
+pub fn new_versioned_command<'a>(
+    alloc: Global,
+    name: &'a str,
+    version: &'a str,
+    about: &'a str,
+    after_help: &'a str,
+) -> Command<'a>
+    ensures { app_of result ≡ versioned_command_of name.now [] }
+{
+    new_command(alloc, name, about, after_help).version(version)
 }
 
 /// The file that has the input; standard input, if left out.
@@ -168,19 +182,22 @@ pub fn number(matches: &ArgMatches, argument: &str) -> Option<u64>
     matches.get_one(argument)
 }
 
-/// The help, which is the text of an error of clap's where that was asked for; else
+/// The help or the version, which is the text of an error of clap's where that was asked for; else
 /// that memory was refused, or that the arguments are.
 pub(crate) fn help_of(error: Error) -> Result<Error, ArgumentsFault>
     ensures help { kind_of error ≡ ErrorKind.DisplayHelp → result ≡ Ok error }
+    ensures version { kind_of error ≡ ErrorKind.DisplayVersion → result ≡ Ok error }
     ensures memory { kind_of error ≡ ErrorKind.OutOfMemory → result ≡ Err ArgumentsFault.Memory }
-    ensures refused { kind_of error ≢ ErrorKind.DisplayHelp → kind_of error ≢ ErrorKind.OutOfMemory
-        → result ≡ Err ArgumentsFault.Refused }
-    ensures asked { OnOk result (kind_of error ≡ ErrorKind.DisplayHelp) }
+    ensures refused { kind_of error ≢ ErrorKind.DisplayHelp → kind_of error ≢ ErrorKind.DisplayVersion
+        → kind_of error ≢ ErrorKind.OutOfMemory → result ≡ Err ArgumentsFault.Refused }
+    ensures asked { OnOk result ((kind_of error ≡ ErrorKind.DisplayHelp)
+        ⊎ (kind_of error ≡ ErrorKind.DisplayVersion)) }
     ensures wrong { IfErr result (λ fault. fault ≡ ArgumentsFault.Refused
-        → (kind_of error ≢ ErrorKind.DisplayHelp) × (kind_of error ≢ ErrorKind.OutOfMemory)) }
+        → (kind_of error ≢ ErrorKind.DisplayHelp) × ((kind_of error ≢ ErrorKind.DisplayVersion)
+        × (kind_of error ≢ ErrorKind.OutOfMemory))) }
 {
     match error.kind() {
-        ErrorKind::DisplayHelp => Ok(error),
+        ErrorKind::DisplayHelp | ErrorKind::DisplayVersion => Ok(error),
         ErrorKind::OutOfMemory => Err(ArgumentsFault::Memory),
         _ => Err(ArgumentsFault::Refused),
     }

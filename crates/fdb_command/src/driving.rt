@@ -36,7 +36,7 @@ type Made<P> = Result<
 /// name, or with why they could not be had. Has the program take the bytes of the file that the
 /// arguments name or else of the input, writes what it tells of each piece to `out` and flushes that
 /// before it reads more, has `body` make the rest of the text of what the program's flags say and of
-/// what it took, and writes that to `out`; or writes the help there.
+/// what it took, and writes that to `out`; or writes the help or the version there.
 ///
 /// Answers the status of the program: 0 where all of it is done and no fault was found, 1 where the
 /// input is refused, or a part of it was and the text is written, 2 where the arguments are, 3 where
@@ -336,7 +336,7 @@ where
 enum Request<'a, T: Drop> {
     /// Its input, by these matches of the arguments, and what its flags say.
     Input(ArgMatches<'a>, T),
-    /// The help, which is this error's text.
+    /// The help or the version, which is this error's text.
     Help(Error),
 }
 
@@ -375,7 +375,7 @@ fn invoked<'a, P: Program>(
     }
 }
 
-/// Writes the help, and flushes it. What a writer that fails has taken is not said.
+/// Writes the help or the version, and flushes it. What a writer that fails has taken is not said.
 fn show<E: Debug + Display + Drop, F: Debug + Display + Drop, W: Write>(
     help: &Error,
     out: &mut W,

@@ -13,8 +13,8 @@ mod output;
 mod program;
 
 pub use arguments::{
-    ArgumentsFault, command_line, file_argument, flag_argument, is_given, new_command, number,
-    number_argument,
+    ArgumentsFault, command_line, file_argument, flag_argument, is_given, new_command,
+    new_versioned_command, number, number_argument,
 };
 pub use driving::{carry_out, drive};
 pub use failure::Failure;

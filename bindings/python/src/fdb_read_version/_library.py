@@ -17,7 +17,8 @@ from ctypes import (
 from pathlib import Path
 from typing import Any, Dict, List, Tuple
 
-FILE = "libfdb_read_version.so"
+# What the library is called where it is installed, and where programs are linked with it.
+FILES = ("libfdb_read_version.so.0", "libfdb_read_version.so")
 # That of include/fdb_read_version.h: 10,000 for a major one, 100 for a minor one, 1 for a patch.
 VERSION = 400
 HOW = "make it with tools/bindings, or set FDB_READ_VERSION_LIB to its path"
@@ -27,10 +28,13 @@ def path_of_library() -> Path:
     """The library that the environment names, the package's own, or what the repository built."""
     here = Path(__file__).resolve()
     named = os.environ.get("FDB_READ_VERSION_LIB")
-    places = [Path(named).absolute()] if named else [here.with_name(FILE)]
+    folders = [Path(named).absolute()] if named else [here.parent]
     if not named and len(here.parents) > 4:
-        places.append(here.parents[4] / "crates" / "fdb_c" / "out" / FILE)
-    places = [it / FILE if it.is_dir() else it for it in places]
+        folders.append(here.parents[4] / "crates" / "fdb_c" / "out")
+    if named and not folders[0].is_dir():
+        places = folders
+    else:
+        places = [it / file for it in folders for file in FILES]
     for place in places:
         if place.is_file():
             return place

@@ -6,7 +6,7 @@ use Rattle.fdb_audit.proofs.arguments.command.Goals as goal
 
 pub returns : goal.returns
 returns c =
-    let one = c.in_ok-arg.ensures.shape c.file_argument.ensures.own ∙ ap₂ with_rule c.new_command.ensures c.file_argument.ensures.rule in
+    let one = c.in_ok-arg.ensures.shape c.file_argument.ensures.own ∙ ap₂ with_rule c.new_versioned_command.ensures c.file_argument.ensures.rule in
     let two = c.in_ok-arg-2.ensures.shape c.number_argument.ensures.own ∙ ap₂ with_rule one c.number_argument.ensures.rule in
     let three = c.in_ok-arg-3.ensures.shape c.number_argument-2.ensures.own ∙ ap₂ with_rule two c.number_argument-2.ensures.rule in
     let four = c.in_ok-arg-4.ensures.shape c.number_argument-3.ensures.own ∙ ap₂ with_rule three c.number_argument-3.ensures.rule in

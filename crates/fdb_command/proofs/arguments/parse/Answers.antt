@@ -20,6 +20,6 @@ returns-in-Err-help_of-clause-err c =
     let error = c.in-Err.error in
     let has : HasKind (fault_of (app_of c.args.command) (map string_bytes c.args.arguments.now)) error = c.in-Err.ensures.kinds c.requires in
     λ refused. elim has [
-      | inl memory ↦ absurd ((c.in-Err-help_of.ensures.wrong refused).1 memory)
-      | inr found ↦ (kind_of error, (c.in-Err-help_of.ensures.wrong refused).0, found)
+      | inl memory ↦ absurd ((c.in-Err-help_of.ensures.wrong refused).1.1 memory)
+      | inr found ↦ (kind_of error, (c.in-Err-help_of.ensures.wrong refused).0, (c.in-Err-help_of.ensures.wrong refused).1.0, found)
     ]
