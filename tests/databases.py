@@ -52,9 +52,9 @@ def settings(right, seconds):
     return {**os.environ, "FDB_AUDIT": PROGRAM, "SECONDS": seconds, "RIGHT": right}
 
 
-def ran(database, right):
+def ran(database, right, tries=TRIES):
     """How an example ended. A busy machine may need further tries, but not for a verdict."""
-    for seconds in TRIES:
+    for seconds in tries:
         it = run(words_of(database), seconds=MANY_SECONDS, env=settings(right, seconds))
         is_judged = b"stale reads: " in it.out and TOO_LITTLE not in it.err
         if it.status in (AS_SAID, NOT_HERE) or is_judged:
@@ -89,9 +89,9 @@ def ended_midway(database, seconds):
         return begun, err, left_in(folder)
 
 
-def fault_midway(database):
+def fault_midway(database, tries=TRIES):
     """What is wrong with an example that a signal ended midway, or None."""
-    for seconds in TRIES:
+    for seconds in tries:
         begun, err, left = ended_midway(database, seconds)
         if left or begun:
             return f"it left {left}" if left else None
