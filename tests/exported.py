@@ -198,8 +198,9 @@ def textfile(_program):
             os.rename(f"{folder}/of", f"{folder}/gone")
             exporter.give(text_of(fault(9)))
             said = exporter.started.stderr.readline().decode()
-            wanted = f"exporter: writing {file} failed: No such file or directory; it is tried again\n"
-            yield "a folder that goes", None if said == wanted else said
+            why = "No such file or directory; it is tried again"
+            is_so = said == f"exporter: writing {file} failed: {why}\n"
+            yield "a folder that goes", None if is_so else said
             os.mkdir(f"{folder}/of")
             exporter.give(text_of(fault(10)))
             is_two = lambda it: it['fdb_audit_faults_total{kind="Order"}'] == 2

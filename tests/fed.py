@@ -105,7 +105,7 @@ class Fed:
 
     def kill(self, which):
         """Kills what feeds, the watch, or both; then neither is there any more."""
-        watches, feed = self.watches(), [self.started.pid]
+        watches, feed = self.until(self.watches), [self.started.pid]
         for it in {"feed": feed, "watch": watches, "both": feed + watches}[which]:
             with contextlib.suppress(ProcessLookupError):
                 os.kill(it, signal.SIGKILL)
@@ -113,11 +113,17 @@ class Fed:
         self.until(lambda: not any(map(is_running, watches)))
         self.started = None
 
+    def ended(self):
+        """What it said, and its status, once it has ended by itself."""
+        said, status = self.started.communicate(timeout=SECONDS)[1], self.started.returncode
+        self.started = None
+        return said, status
+
     def stop(self):
         """Ends it as systemd does, and gives its status."""
         self.started.send_signal(signal.SIGTERM)
-        self.errors += self.started.communicate(timeout=SECONDS)[1].decode()
-        status, self.started = self.started.returncode, None
+        said, status = self.ended()
+        self.errors += said.decode()
         return status
 
     def close(self):
@@ -296,7 +302,7 @@ def files(_program):
         it.until_told()
         other = Fed(os.path.dirname(it.log))
         other.start()
-        said = other.started.communicate(timeout=SECONDS)[1], other.started.returncode
+        said = other.ended()
         is_so = said == (f"feed: another watch writes to {it.said}\n".encode(), NO_STREAM)
         yield "another watch", None if is_so else f"{said}"
         it.stop()
@@ -304,11 +310,10 @@ def files(_program):
             with open(file, "w", encoding="ascii") as spoilt:
                 spoilt.write("nil\n")
             it.start()
-            said = it.started.communicate(timeout=SECONDS)[1], it.started.returncode
+            said = it.ended()
             is_so = said[0].startswith(f"feed: {file} ".encode()) and said[1] == NO_STREAM
             yield f"{os.path.basename(file)} is none", None if is_so else f"{said}"
             os.remove(file)
-        it.started = None
 
 
 def positions(_program):
@@ -337,11 +342,11 @@ def ended(_program):
         with fed() as it:
             it.write_more(9)
             it.start(watch=watch)
-            said = it.started.communicate(timeout=SECONDS)[1], it.started.returncode
+            said = it.ended()
             yield f"{watch}", None if said == (b"", status) else f"{said}"
     with fed() as it:
         it.start(watch=["/none/fdb_audit"])
-        said = it.started.communicate(timeout=SECONDS)[1], it.started.returncode
+        said = it.ended()
         is_so = said == (b"feed: /none/fdb_audit: No such file or directory\n", NO_STREAM)
         yield "no watch", None if is_so else f"{said}"
     ran = run([FEED, "--help"])

@@ -30,7 +30,7 @@ ALERT = re.compile(r"- alert: (\w+)")
 # How long the whole example runs, in seconds, at each try; what it says, and its picture.
 RUNS_FOR = ("20", "20", "40")
 FIRES = re.compile(rb"after \d+ s StaleRead fires: A read got a version below what was known")
-PICTURE, WIDTH, HEIGHT, MOST_BYTES = f"{ROOT}/{FOLDER}/prometheus.png", 1000, 620, 200_000
+PICTURE, WIDTH, HEIGHT, MOST_BYTES = f"{ROOT}/{FOLDER}/prometheus.png", 1000, 800, 200_000
 # Machines whose lines come late: how many, how long a call takes, and how late the last one's are.
 MACHINES, CALL, LATE, LINES = 3, 40, 500, 200
 # How many lines each of them sends at once.
