@@ -6,6 +6,7 @@ import random
 import re
 import shlex
 import shutil
+import signal
 import socket
 import struct
 import subprocess
@@ -15,7 +16,8 @@ import time
 
 import databases
 from audit_logs import PROGRAM
-from exported import PROMTOOL, free_ports
+from exported import PROMTOOL, free_ports, written
+from exporter import is_here
 from fed import Fed
 from harness import DONE, ROOT, SECONDS, TRIES, apart, read, run, text_of
 from shapes import text_of_lines, timed
@@ -100,9 +102,22 @@ def started_as(name, environment):
             yield word.replace("$$", "$")
 
 
+def counted_by_unit(folder, count):
+    """How many stale reads the exporter's unit counts, once they are so many, or after a time."""
+    file = f"{folder}/watch.prom"
+    how = {"cwd": folder, "env": {**os.environ, "EXPORTER": f"--textfile {file}"}}
+    words = [*started_as(UNITS[1], {})]
+    with subprocess.Popen(words, stderr=subprocess.DEVNULL, start_new_session=True, **how) as it:
+        try:
+            stale = 'fdb_audit_faults_total{kind="Order"}'
+            return written(file, lambda found: found[stale] == count)[stale]
+        finally:
+            os.killpg(it.pid, signal.SIGKILL)
+
+
 def unit_runs(_program):
-    """What the unit starts feeds and keeps, and SIGTERM to it alone ends it in a way that systemd
-    takes as a success."""
+    """What the units start feeds and keeps, and counts what was told, also where it is started
+    again; SIGTERM to what feeds alone ends it in a way that systemd takes as a success."""
     unit = text_of(f"{FOLDER}/{UNITS[0]}")
     with tempfile.TemporaryDirectory() as folder:
         fed = Fed(folder)
@@ -117,6 +132,10 @@ def unit_runs(_program):
         yield "what it starts", None if is_so else f"status {status}, {fed.errors}"
         left = sorted(it for it in os.listdir(folder))
         yield "its files", None if left == ["calls", "kept", "kept.files", "said"] else f"{left}"
+        told = len(fed.told())
+        for which in ("its exporter", "another one") if is_here() else ():
+            count = counted_by_unit(folder, told)
+            yield which, None if count == told > 0 else f"{count} in place of {told}"
 
 
 # ---- many machines
