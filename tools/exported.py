@@ -12,6 +12,7 @@ from typing import Any, Deque, Dict, Iterator, List, Optional, Set, Tuple
 
 from prometheus_client import Metric
 from prometheus_client.core import CounterMetricFamily, GaugeMetricFamily
+from prometheus_client.registry import Collector
 
 # The faults; those that a watch tells are there from the beginning, since a counter that comes with
 # its first fault would not seem to rise.
@@ -120,7 +121,7 @@ class Known:
         return True
 
 
-class Counts:
+class Counts(Collector):
     """What a watch has told so far, as metrics."""
 
     def __init__(self, member: Optional[str]) -> None:
