@@ -2,7 +2,9 @@
 import json
 import os
 import re
+import shutil
 import subprocess
+import tempfile
 import threading
 import time
 import urllib.request
@@ -12,7 +14,7 @@ from harness import DONE, OTHER_ARGUMENTS, ROOT, SECONDS, run
 from pictured_watches import LOG
 
 TOOL = f"{ROOT}/tools/exporter"
-LIBRARY = "/usr/lib/python3/dist-packages/prometheus_client"
+PYTHON, LIBRARY = "/usr/bin/python3", "/usr/lib/python3/dist-packages/prometheus_client"
 # How long an answer may take.
 PATIENCE = 30
 SERVED = re.compile(r"exporter: (http://127\.0\.0\.1:\d+/metrics)\n")
@@ -306,6 +308,18 @@ def helped(_program):
         ran = run([TOOL, *words])
         is_right = ran.status == OTHER_ARGUMENTS and not ran.out and ran.err
         yield f"{words}", None if is_right else f"{ran}"
-    ran = run(["/usr/bin/python3", "-B", "-I", "-S", TOOL])
+    ran = run([PYTHON, "-B", "-I", "-S", TOOL])
     is_right = ran.status == 1 and b"apt-get install python3-prometheus-client" in ran.err
     yield "no library", None if is_right and ran.err.count(b"\n") == 1 else f"{ran}"
+    if shutil.which("mypy"):
+        yield "mypy --strict", fault_of_types()
+    else:
+        print("(there is no mypy: left out) ", end="")
+
+
+def fault_of_types():
+    """What mypy says of the exporter."""
+    with tempfile.TemporaryDirectory() as room:
+        words = ["mypy", "--strict", "--cache-dir", room, "--python-executable", PYTHON]
+        ran = run([*words, "exporter", "exported.py"], cwd=f"{ROOT}/tools")
+    return None if ran.status == DONE else ran.out[-1000:].decode(errors="replace")

@@ -300,9 +300,9 @@ def files(_program):
         yield "what was told is cut", None if is_so else f"{read(it.said)[-300:]}"
         it.start()
         it.until_told()
-        other = Fed(os.path.dirname(it.log))
-        other.start()
-        said = other.ended()
+        with Fed(os.path.dirname(it.log)) as other:
+            other.start()
+            said = other.ended()
         is_so = said == (f"feed: another watch writes to {it.said}\n".encode(), NO_STREAM)
         yield "another watch", None if is_so else f"{said}"
         it.stop()
