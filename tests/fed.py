@@ -52,7 +52,7 @@ class Fed:
     def start(self, *words, watch=(PROGRAM, "--follow", str(BEHIND))):
         words = [self.log, "--keep", self.kept, "--said", self.said, *words, "--", *watch]
         self.started = subprocess.Popen([sys.executable, "-B", FEED, *words],
-                                        stderr=subprocess.PIPE)
+                                        stderr=subprocess.PIPE, start_new_session=True)
 
     def write(self, *lines):
         with open(self.log, "a", encoding="ascii") as file:
@@ -119,9 +119,9 @@ class Fed:
         self.started = None
         return said, status
 
-    def stop(self):
-        """Ends it as systemd does, and gives its status."""
-        self.started.send_signal(signal.SIGTERM)
+    def stop(self, to=os.kill, sent=signal.SIGTERM):
+        """Ends it, as systemd does if nothing else is said, and gives its status."""
+        to(self.started.pid, sent)
         said, status = self.ended()
         self.errors += said.decode()
         return status
@@ -250,17 +250,19 @@ def between_rotations(_program):
                 it.close()
                 yield f"{which}, {'copied' if is_copied else 'renamed'}", it.fault(True) or (
                     None if is_going else "it did not go on")
-    with fed() as it:
-        it.start()
-        it.until_told()
-        status = it.stop()
-        is_so = status == FAULTY and b"kept_lines" in read(it.kept)
-        yield "a signal", None if is_so else f"status {status}"
-        it.start()
-        it.rotate()
-        it.until_told()
-        it.close()
-        yield "a signal, and on", it.fault()
+    # (at a terminal a signal goes to the group)
+    for to, sent in ((os.kill, signal.SIGTERM), (os.killpg, signal.SIGINT)):
+        with fed() as it:
+            it.start()
+            it.until_told()
+            status = it.stop(to, sent)
+            is_so = status == FAULTY and b"kept_lines" in read(it.kept)
+            yield f"{sent.name}", None if is_so else f"status {status}"
+            it.start()
+            it.rotate()
+            it.until_told()
+            it.close()
+            yield f"{sent.name}, and on", it.fault()
 
 
 def files(_program):
