@@ -25,13 +25,14 @@ BEHIND, STALE = 100, 4
 # What stands for a watch: it keeps the last text of a member, and what it was given.
 STAND_IN = """
 import json, sys
-given, kept = sys.stdin.read(), sys.argv[sys.argv.index("--keep") + 1]
-member = sys.argv[sys.argv.index("--position") + 1]
+kept, member = (sys.argv[sys.argv.index(it) + 1] for it in ("--keep", "--position"))
 with open(sys.argv[1], "a") as file:
-    file.write(given)
+    for line in sys.stdin:
+        file.write(line)
+        file.flush()
 with open(kept, "w") as file:
-    last = json.loads(given.splitlines()[-1])[member]
-    file.write(json.dumps({"kept_line": 1, "kept_lines": 7, "kept_position": last}) + "\\n")
+    last = {"kept_line": 1, "kept_lines": 7, "kept_position": json.loads(line)[member]}
+    file.write(json.dumps(last) + "\\n")
 """
 
 
@@ -284,7 +285,7 @@ def files(_program):
         it.start()
         it.until_told()
         it.stop()
-        lost = len(it.lines)
+        lost = lines_kept(it.kept)
         it.rotate()
         os.remove(f"{it.log}.1")
         it.start()
@@ -328,12 +329,11 @@ def positions(_program):
             with open(it.log, "a", encoding="ascii") as file:
                 file.writelines(rows[at:to])
             it.start("--position", "n", watch=watch)
-            it.until_begun()
-            time.sleep(PAUSE)
+            it.until(lambda: size_of(given) >= sum(map(len, rows[:to])))
             it.stop()
             if at != 10:
                 it.rotate()
-            found = size_of(given) and read(given).decode()
+            found = read(given).decode()
             yield f"up to {to}", None if found == "".join(rows[:to]) else f"{found!r}"
 
 
