@@ -75,7 +75,7 @@ def left_in(folder):
     return left
 
 
-def ended_midway(database, seconds):
+def ended_midway(database, seconds, sent):
     """What an example said that a signal ended midway, and the commands that it left."""
     with tempfile.TemporaryDirectory() as top:
         # (PostgreSQL's user has to come through)
@@ -84,15 +84,15 @@ def ended_midway(database, seconds):
         how = {"stdout": subprocess.PIPE, "stderr": subprocess.PIPE, "env": settings("", seconds)}
         with subprocess.Popen([*words, folder], **how) as it:
             begun = it.stdout.readline()
-            it.send_signal(signal.SIGTERM)
+            it.send_signal(sent)
             _, err = it.communicate(timeout=MANY_SECONDS)
         return begun, err, left_in(folder)
 
 
-def fault_midway(database, tries=TRIES):
+def fault_midway(database, tries=TRIES, sent=signal.SIGTERM):
     """What is wrong with an example that a signal ended midway, or None."""
     for seconds in tries:
-        begun, err, left = ended_midway(database, seconds)
+        begun, err, left = ended_midway(database, seconds, sent)
         if left or begun:
             return f"it left {left}" if left else None
     return f"it did not begin: {err[-300:]!r}"

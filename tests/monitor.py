@@ -30,7 +30,7 @@ ANALYZE, RSYSLOG = shutil.which("systemd-analyze"), shutil.which("rsyslogd", pat
 INSTALLED, EXPOSED = "/opt/fdb-read-version", 20
 ALERT = re.compile(r"- alert: (\w+)")
 # How long the whole example runs, in seconds, at each try; what it says, and its picture.
-RUNS_FOR = ("20", "20", "40")
+RUNS_FOR, RIGHT_FOR = ("20", "20", "40"), ("5", "15", "40")
 FIRES = re.compile(rb"after \d+ s StaleRead fires: A read got a version below what was known")
 PICTURE, WIDTH, HEIGHT, MOST_BYTES = f"{ROOT}/{FOLDER}/prometheus.png", 1000, 800, 200_000
 # Machines whose lines come late: how many, how long a call takes, and how late the last one's are.
@@ -260,7 +260,11 @@ def whole(_program):
     is_so = is_so and b"log.html: " in ran.out and b'{kind="Order"} is ' in ran.out
     fault = f"status {ran.status}; it said {ran.out[-900:]!r} {ran.err[-300:]!r}"
     yield "a stale read alerts", None if is_so else fault
-    yield "ended midway", databases.fault_midway("watch", RUNS_FOR)
+    ran = databases.ran("watch", "1", RIGHT_FOR)
+    is_so = ran.status == databases.AS_SAID and b" fires: A " not in ran.out
+    yield "without one none does", None if is_so else f"status {ran.status}, {ran.out[-900:]!r}"
+    for sent in (signal.SIGTERM, signal.SIGKILL):
+        yield f"ended by {sent.name}", databases.fault_midway("watch", RUNS_FOR, sent)
 
 
 def pictured(_program):
