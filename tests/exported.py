@@ -26,6 +26,8 @@ PROMETHEUS, PROMTOOL = "/usr/bin/prometheus", "/usr/bin/promtool"
 # KiB, behind the first so many; how often at least it is asked; and as many faults are known again.
 MANY, PIECE, GROWTH, FILLED, ASKED = 1_000_000, 2_000, 8_192, 50_000, 5
 KNOWN = 10_000
+# How many millions of bytes a line has that is too long, and the most memory with it, in KiB.
+LONG, MOST_MEMORY = 150, 150_000
 
 
 # ---- many faults
@@ -95,6 +97,16 @@ def many(_program):
     is_so = len(scrapes) >= ASKED and scrapes == sorted(scrapes) and not faults
     yield "meanwhile", None if is_so else f"{scrapes[:5]} .. {scrapes[-5:]}, {faults[:5]}"
     yield "the end", None if ended == (DONE, "") else f"{ended}"
+    with Exporter() as exporter:
+        for piece in (text_of(fault(1)), b'{"fault":"Order","at":{"line":2},"note":"',
+                      *[b"n" * 1_000_000] * LONG, b'"}\n', text_of(fault(3))):
+            exporter.give(piece)
+        found = exporter.until(lambda it: it['fdb_audit_faults_total{kind="Order"}'] == 2)
+        wanted = {**faults_of("Order", 2, 5), "fdb_audit_not_said_total": 1}
+        memory = memory_of(exporter.started)
+        is_so = memory <= MOST_MEMORY
+        yield "a line that is too long", differing(found, wanted) or (
+            None if is_so else f"{memory} KiB")
 
 
 # ---- what ends it, and what does not

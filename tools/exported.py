@@ -74,7 +74,7 @@ def text_of(value: Any) -> str:
 
 
 class Lines:
-    """The lines of what comes in pieces. Of one that is too long the beginning is kept."""
+    """The lines of what comes in pieces. Of one that is too long there is only the beginning."""
 
     def __init__(self) -> None:
         self.parts: List[bytes] = []
@@ -89,9 +89,10 @@ class Lines:
             self.keep(rest)
 
     def keep(self, it: bytes) -> None:
-        if self.size < MOST_BYTES:
-            self.parts.append(it)
-            self.size += len(it)
+        self.parts.append(it)
+        self.size += len(it)
+        if self.size > MOST_BYTES:
+            self.parts = [self.parts[0][:MOST_LETTERS]]
 
     def last(self) -> Iterator[bytes]:
         """What there is of a line, if anything."""
