@@ -82,7 +82,7 @@ def units(_program):
     with tempfile.TemporaryDirectory() as folder:
         for name in UNITS:
             unit = unit_of(folder, name)
-            ran = run([ANALYZE, "verify", "--man=no", unit])
+            ran = run([ANALYZE, "verify", unit])
             yield f"{name}", None if ran == (DONE, b"", b"") else f"{ran}"
             ran = run([ANALYZE, "security", "--no-pager", "--offline=true",
                        f"--threshold={EXPOSED}", unit])
