@@ -82,8 +82,10 @@ def units(_program):
     with tempfile.TemporaryDirectory() as folder:
         for name in UNITS:
             unit = unit_of(folder, name)
-            ran = run([ANALYZE, "verify", unit])
-            yield f"{name}", None if ran == (DONE, b"", b"") else f"{ran}"
+            # (of a machine's own units it may say more)
+            ran = run([ANALYZE, "verify", "--recursive-errors=no", unit])
+            is_so = ran.status == DONE and b"fdb-audit" not in ran.out + ran.err
+            yield f"{name}", None if is_so else f"{ran}"
             ran = run([ANALYZE, "security", "--no-pager", "--offline=true",
                        f"--threshold={EXPOSED}", unit])
             yield f"{name}, exposed", None if ran.status == DONE else f"{ran.err}, {ran.out[-300:]}"
