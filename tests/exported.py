@@ -39,74 +39,101 @@ def memory_of(process):
     return int(re.search(r"VmHWM:\s+(\d+) kB", status)[1])
 
 
+class Burst:
+    """What of a burst of faults was given and passed on, as sums, and what was asked meanwhile."""
+
+    def __init__(self):
+        self.sums, self.scrapes, self.faults = [hashlib.blake2b(), hashlib.blake2b()], [], []
+        self.is_over, (self.reader, self.writer) = threading.Event(), os.pipe()
+
+    @contextlib.contextmanager
+    def through(self, exporter):
+        """While faults go through it, it is asked again and again, and what comes out is read."""
+        os.close(self.writer)
+        threads = [threading.Thread(target=it, args=[exporter]) for it in (self.hear, self.ask)]
+        for it in threads:
+            it.start()
+        try:
+            yield
+        finally:
+            self.is_over.set()
+            self.ended = exporter.end()
+            for it in threads:
+                it.join(SECONDS)
+
+    def give(self, exporter, text):
+        self.sums[0].update(text)
+        exporter.give(text)
+
+    def hear(self, _exporter):
+        with open(self.reader, "rb", 0) as file:
+            while piece := file.read(1 << 16):
+                self.sums[1].update(piece)
+
+    def ask(self, exporter):
+        while not self.is_over.wait(0.2):
+            begun = time.monotonic()
+            try:
+                self.scrapes.append(sum(it for name, it in asked(exporter.address).items()
+                                        if name.startswith("fdb_audit_faults_total")))
+            except OSError as why:
+                self.faults.append(f"{why} after {time.monotonic() - begun} s")
+
+
+def form_of_fault():
+    """A fault as a form into which the number of its line is put, wherever that stands."""
+    one = text_of(fault(987_654_321, note="text 987654321"))
+    form = one.replace(b"%", b"%%").replace(b"987654321", b"%(line)d")
+    return form, None if form % {b"line": 987_654_321} == one else f"{form}"
+
+
 def many(_program):
     """A million faults, each of a text of its own: memory is flat, and the metrics are served."""
     if not is_here():
         yield "without prometheus_client", None
         return
-    one = text_of(fault(987_654_321, note="text 987654321")).replace(b"%", b"%%")
-    parts = one.replace(b"9876543210", b"%(line)d0").replace(b"9876543214", b"%(line)d4")
-    parts = parts.replace(b"987654321", b"%(line)d")
-    yield "a fault", None if parts % {b"line": 987_654_321} == one else f"{parts}"
-    sums, scrapes, faults = [hashlib.blake2b(), hashlib.blake2b()], [], []
-    reader, writer = os.pipe()
-
-    def hear():
-        with open(reader, "rb", 0) as file:
-            while piece := file.read(1 << 16):
-                sums[1].update(piece)
-
-    def ask():
-        while not is_over.wait(0.2):
-            begun = time.monotonic()
-            try:
-                scrapes.append(sum(it for name, it in asked(exporter.address).items()
-                                   if name.startswith("fdb_audit_faults_total")))
-            except OSError as why:
-                faults.append(f"{why} after {time.monotonic() - begun} s")
-
-    is_over, threads = threading.Event(), [threading.Thread(target=it) for it in (hear, ask)]
-    with Exporter("--label", "note", out=writer) as exporter:
-        os.close(writer)
-        for it in threads:
-            it.start()
+    form, wrong = form_of_fault()
+    yield "a fault", wrong
+    burst, told_again = Burst(), (fault(MANY), fault(MANY - KNOWN + 1), fault(1, note="text 1"))
+    with Exporter("--label", "note", out=burst.writer) as exporter, burst.through(exporter):
         for at in range(0, MANY, PIECE):
-            text = b"".join(parts % {b"line": it} for it in range(at + 1, at + PIECE + 1))
-            sums[0].update(text)
-            exporter.give(text)
+            lines = range(at + 1, at + PIECE + 1)
+            burst.give(exporter, b"".join(form % {b"line": it} for it in lines))
             if at == FILLED:
                 exporter.until(lambda it: it.get(BY_NOTE("Order", "other"), 0) >= FILLED - KNOWN)
                 before = memory_of(exporter.started)
-        exporter.give(text_of(fault(MANY), fault(MANY - KNOWN + 1), fault(1, note="text 1")))
-        sums[0].update(text_of(fault(MANY), fault(MANY - KNOWN + 1), fault(1, note="text 1")))
-        found = exporter.until(lambda it: it.get("fdb_audit_told_again_total") == 2)
+        burst.give(exporter, text_of(*told_again))
+        found = exporter.until(lambda it: it["fdb_audit_told_again_total"] == 2)
         grown = memory_of(exporter.started) - before
-        is_over.set()
-        ended = exporter.end()
-        for it in threads:
-            it.join(SECONDS)
     # (of those that are told again one was the first of all, which is not known any more)
     wanted = {**NONE_BY_NOTE, **faults_of("Order", None, 5), "fdb_audit_told_again_total": 2,
               BY_NOTE("Order", "other"): MANY - 100, BY_NOTE("Order", "text 1"): 2,
               **{BY_NOTE("Order", f"text {it}"): 1 for it in range(2, 101)}}
     dropped = {it: None for it, value in wanted.items() if value is None}
     yield "what is counted", differing({**dropped, **found}, wanted)
-    is_so = len({it.digest() for it in sums}) == 1
+    is_so = len({it.digest() for it in burst.sums}) == 1
     yield "what is passed on", None if is_so else "it is not what came"
     yield "memory", None if grown <= GROWTH else f"it grew by {grown} KiB"
-    is_so = len(scrapes) >= ASKED and scrapes == sorted(scrapes) and not faults
-    yield "meanwhile", None if is_so else f"{scrapes[:5]} .. {scrapes[-5:]}, {faults[:5]}"
-    yield "the end", None if ended == (DONE, "") else f"{ended}"
+    scrapes = burst.scrapes
+    is_so = len(scrapes) >= ASKED and scrapes == sorted(scrapes) and not burst.faults
+    yield "meanwhile", None if is_so else f"{scrapes[:5]} .. {scrapes[-5:]}, {burst.faults[:5]}"
+    yield "the end", None if burst.ended == (DONE, "") else f"{burst.ended}"
+
+
+def too_long(_program):
+    """A line that is too long is not read, and takes no more memory than the longest that is."""
+    if not is_here():
+        yield "without prometheus_client", None
+        return
     with Exporter() as exporter:
         for piece in (text_of(fault(1)), b'{"fault":"Order","at":{"line":2},"note":"',
                       *[b"n" * 1_000_000] * LONG, b'"}\n', text_of(fault(3))):
             exporter.give(piece)
         found = exporter.until(lambda it: it['fdb_audit_faults_total{kind="Order"}'] == 2)
         wanted = {**faults_of("Order", 2, 5), "fdb_audit_not_said_total": 1}
+        yield "what is counted", differing(found, wanted)
         memory = memory_of(exporter.started)
-        is_so = memory <= MOST_MEMORY
-        yield "a line that is too long", differing(found, wanted) or (
-            None if is_so else f"{memory} KiB")
+        yield "memory", None if memory <= MOST_MEMORY else f"{memory} KiB"
 
 
 # ---- what ends it, and what does not
@@ -120,7 +147,7 @@ def is_served(address):
 
 
 def ends(_program):
-    """It ends with its reader, and not with who asks; what it cannot do is told in a sentence."""
+    """It ends with its reader, and what it cannot do is told in a sentence."""
     if not is_here():
         yield "without prometheus_client", None
         return
@@ -156,6 +183,13 @@ def ends(_program):
         ran = run(["sh", "-c", f"exec '{TOOL}' --port 0 {closed}"])
         is_so = ran == (NO_STREAM, b"", b"exporter: %s failed: Bad file descriptor\n" % doing)
         yield f"{closed}", None if is_so else f"{ran}"
+
+
+def askers(_program):
+    """It neither waits for nor ends with who asks and says nothing, or goes away."""
+    if not is_here():
+        yield "without prometheus_client", None
+        return
     with Exporter() as exporter:
         address = exporter.address.split("/")[2].split(":")
         # One asks and says nothing; one asks and goes away.
@@ -199,6 +233,15 @@ def textfile(_program):
         yield "at the end", differing(written(file, lambda it: True), changed)
         left = os.listdir(folder)
         yield "what is left", None if left == ["watch.prom"] else f"{left}"
+
+
+def textfile_and_port(_program):
+    """Both a file and a port, and a folder that goes and comes again."""
+    if not is_here():
+        yield "without prometheus_client", None
+        return
+    with tempfile.TemporaryDirectory() as folder:
+        file = f"{folder}/watch.prom"
         with Exporter("--textfile", file) as exporter:
             exporter.give(text_of(fault(9)))
             exporter.until(lambda it: it['fdb_audit_faults_total{kind="Order"}'] == 1)
