@@ -24,7 +24,7 @@ LAUNCHER = os.path.realpath(f"{__file__}/../../fdb_audit")
 AUDIT = os.environ.get("FDB_AUDIT") or (LAUNCHER if os.path.exists(LAUNCHER) else "fdb_audit")
 SECONDS = float(os.environ.get("SECONDS") or 4)
 ALL_RIGHT = bool(os.environ.get("RIGHT"))
-CLIENTS = "abcdefgh"
+CLIENTS, CALLS = "abcdefgh", ("read", "commit")
 # The one that only reads, and not in the right way unless all do.
 READER = CLIENTS[-1]
 ENDING = [signal.SIGINT, signal.SIGTERM, signal.SIGHUP]
@@ -174,50 +174,66 @@ class Watch:
         self.started.wait(LONG)
 
 
-def run_client(client, name, log, calls, end):
+def line_of(client, name, call):
+    """Makes a call, and gives the line that is logged of it; None where it failed."""
+    began = time.monotonic_ns() // 1000
+    version = client.read() if call == "read" else client.commit()
+    ended = -(-time.monotonic_ns() // 1000)
+    if version is None:
+        return None
+    line = {"client": name, call: version, "began": began, "ended": ended}
+    return json.dumps({**line, "node": client.node}) + "\n"
+
+
+def run_client(client, name, log, calls, end, pause):
     """Reads, or reads and commits, and logs the calls that are answered, to a watch too."""
     signal.signal(signal.SIGINT, signal.SIG_IGN)
     dice = random.Random(name)
     with open(log, "w") as out:
         while time.monotonic() < end:
-            call = "read" if name == READER else dice.choice(["read", "commit"])
-            began = time.monotonic_ns() // 1000
-            version = client.read() if call == "read" else client.commit()
-            ended = -(-time.monotonic_ns() // 1000)
-            if version is None:
+            line = line_of(client, name, "read" if name == READER else dice.choice(CALLS))
+            if line is None:
                 # A call that failed has no version, and is left out.
                 time.sleep(0.05)
                 continue
-            line = {"client": name, call: version, "began": began, "ended": ended}
-            line = json.dumps({**line, "node": client.node}) + "\n"
             out.write(line)
             # (so short a line is written as one)
             os.write(calls, line.encode())
+            time.sleep(pause)
 
 
-def run_clients(system, servers):
-    """Runs them side by side, each a process of its own, and gives the log of all, how many faults
-    the watch had told when they ended, and all that it told."""
-    logs = [f"{servers.folder}/{name}.jsonl" for name in CLIENTS]
+@contextlib.contextmanager
+def clients_of(system, logs, calls, end, pause=0):
+    """The clients, side by side, each a process of its own; where the block ends none is left."""
     clients = [system.client(name, ALL_RIGHT or name != READER) for name in CLIENTS]
-    watch = Watch(servers)
-    end = time.monotonic() + SECONDS
     run = multiprocessing.get_context("fork").Process
-    given = zip(clients, CLIENTS, logs, [watch.calls] * len(CLIENTS))
-    running = [run(target=run_client, args=(*it, end)) for it in given]
+    running = [run(target=run_client, args=(*it, calls, end, pause))
+               for it in zip(clients, CLIENTS, logs)]
     try:
         for it in running:
             it.start()
-        system.meanwhile(end)
-        servers.sleep(max(0, end - time.monotonic()))
-        soon = len(watch.told())
-        with servers.waiting():
-            for it in running:
-                it.join()
+        yield running
     finally:
         for it in running:
             if it.pid:
                 it.kill()
+
+
+def run_clients(system, servers):
+    """Runs them, and gives the log of all, how many faults the watch had told when they ended, and
+    all that it told."""
+    logs = [f"{servers.folder}/{name}.jsonl" for name in CLIENTS]
+    watch = Watch(servers)
+    end = time.monotonic() + SECONDS
+    try:
+        with clients_of(system, logs, watch.calls, end) as running:
+            system.meanwhile(end)
+            servers.sleep(max(0, end - time.monotonic()))
+            soon = len(watch.told())
+            with servers.waiting():
+                for it in running:
+                    it.join()
+    finally:
         watch.end()
     if any(it.exitcode for it in running):
         sys.exit("a client failed")
@@ -267,8 +283,9 @@ def is_as_said(log, soon, told):
     return is_right and is_enough
 
 
-def main(start, about):
-    """Runs an example, in the folder that is named, which is made and kept, or in one that goes."""
+@contextlib.contextmanager
+def folder_of(about):
+    """The folder that is named, which is made and kept, or one that goes."""
     if len(sys.argv) > 2 or sys.argv[1:2] and sys.argv[1].startswith("-"):
         sys.exit(about)
     kept = sys.argv[1:]
@@ -279,6 +296,15 @@ def main(start, about):
     except OSError as error:
         sys.exit(str(error))
     try:
+        yield folder
+    finally:
+        if not kept:
+            shutil.rmtree(folder, ignore_errors=True)
+
+
+def main(start, about):
+    """Runs an example."""
+    with folder_of(about) as folder:
         with Servers(folder) as servers:
             system = start(servers)
             way = system.RIGHT if ALL_RIGHT else system.WRONG
@@ -286,6 +312,3 @@ def main(start, about):
             run = run_clients(system, servers)
         with servers.waiting():
             sys.exit(0 if is_as_said(*run) else 1)
-    finally:
-        if not kept:
-            shutil.rmtree(folder, ignore_errors=True)

@@ -52,9 +52,9 @@ def settings(right, seconds):
     return {**os.environ, "FDB_AUDIT": PROGRAM, "SECONDS": seconds, "RIGHT": right}
 
 
-def ran(database, right):
+def ran(database, right, tries=TRIES):
     """How an example ended. A busy machine may need further tries, but not for a verdict."""
-    for seconds in TRIES:
+    for seconds in tries:
         it = run(words_of(database), seconds=MANY_SECONDS, env=settings(right, seconds))
         is_judged = b"stale reads: " in it.out and TOO_LITTLE not in it.err
         if it.status in (AS_SAID, NOT_HERE) or is_judged:
@@ -75,7 +75,7 @@ def left_in(folder):
     return left
 
 
-def ended_midway(database, seconds):
+def ended_midway(database, seconds, sent):
     """What an example said that a signal ended midway, and the commands that it left."""
     with tempfile.TemporaryDirectory() as top:
         # (PostgreSQL's user has to come through)
@@ -84,15 +84,15 @@ def ended_midway(database, seconds):
         how = {"stdout": subprocess.PIPE, "stderr": subprocess.PIPE, "env": settings("", seconds)}
         with subprocess.Popen([*words, folder], **how) as it:
             begun = it.stdout.readline()
-            it.send_signal(signal.SIGTERM)
+            it.send_signal(sent)
             _, err = it.communicate(timeout=MANY_SECONDS)
         return begun, err, left_in(folder)
 
 
-def fault_midway(database):
+def fault_midway(database, tries=TRIES, sent=signal.SIGTERM):
     """What is wrong with an example that a signal ended midway, or None."""
-    for seconds in TRIES:
-        begun, err, left = ended_midway(database, seconds)
+    for seconds in tries:
+        begun, err, left = ended_midway(database, seconds, sent)
         if left or begun:
             return f"it left {left}" if left else None
     return f"it did not begin: {err[-300:]!r}"
