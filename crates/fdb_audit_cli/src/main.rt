@@ -12,7 +12,9 @@ const PROGRESS: &str = "--progress";
 
 /// The argument that has a log cut, and how it begins with its number; and what stands before names.
 const SPLIT: &str = "--split";
+
 const SPLIT_INTO: &str = "--split=";
+
 const NAMES_FOLLOW: &str = "--";
 
 fn main(rt: HostRuntime) -> ExitCode {

@@ -1,7 +1,10 @@
 -- A line with its number behind its last member.
-use Rattle.std.proofs.Common.{◌≡◌, ◌∙◌, ℕ, zero, suc, ◌<◌, ◌==◌, Bool, true, false, ◌&&◌, ◌||◌, not, List, [], ◌∷◌, ◌++◌, length, get_or, refl, ap, sym, arith, if◌then◌else◌}
+use Rattle.std.proofs.Common.{◌≡◌, ◌∙◌, ℕ, zero, suc, ◌+◌, ◌-◌, ◌<◌, ◌≤◌, ◌==◌, Bool, true, false, ◌&&◌, ◌||◌, not, List, [], ◌∷◌, ◌++◌, drop, length, length-drop, get_or, refl, ap, sym, take, arith, drop-cons, if◌then◌else◌}
+use Rattle.std.proofs.lemmas.Bool.{eqb-true, false_from_ne_true}
+use Rattle.std.proofs.lemmas.List.{get_or-drop, take-append-drop, take_all}
 use Rattle.std.specs.List.{list_any}
 use Rattle.fdb_log_reader.specs.Split.{is_brace, with_behind}
+use Rattle.fdb_log_reader.specs.private.Placing.{IsSplitAtBrace}
 
 and_false : (b : Bool) → (b && false) ≡ false
 and_false true = refl
@@ -43,3 +46,24 @@ pub none_there : (bytes : List ℕ) → ((k : ℕ) → k < length bytes → is_b
 none_there [] none = refl
 none_there (byte ∷ bytes) none =
     ap (λ b. b || list_any is_brace bytes) (none 0 (omega arith)) ∙ none_there bytes (λ k lt. none (suc k) (omega arith))
+
+-- ---- where the last brace stands
+
+pub split_at : (line : List ℕ) (brace : ℕ) → brace < length line → is_brace (get_or line brace 0) ≡ true
+    → ((k : ℕ) → brace + 1 ≤ k → k < length line → (is_brace (get_or line k 0) ≡ true) → ⊥)
+    → IsSplitAtBrace line (take brace line) (take (length line - brace) (drop brace line))
+split_at line brace lt here after =
+    let size = length-drop brace line in
+    let all : take (length line - brace) (drop brace line) ≡ drop brace line = take_all (length line - brace) (drop brace line) (omega arith) in
+    let first : get_or line brace 0 ≡ 125 = eqb-true (get_or line brace 0) 125 here in (
+      drop (suc brace) line,
+      sym (take-append-drop brace line) ∙ ap (λ (rest : List ℕ). take brace line ++ rest) (sym all),
+      all ∙ (drop-cons line brace 0 lt ∙ ap (λ (byte : ℕ). byte ∷ drop (suc brace) line) first),
+      none_there (drop (suc brace) line) (λ k less.
+          let left = length-drop (suc brace) line in
+          false_from_ne_true (is_brace (get_or (drop (suc brace) line) k 0)) (λ is.
+          after (suc brace + k) (omega arith) (omega arith) (ap is_brace (sym (get_or-drop (suc brace) line k 0)) ∙ is))),
+    )
+
+pub nowhere : (line : List ℕ) → ((k : ℕ) → 0 ≤ k → k < length line → (is_brace (get_or line k 0) ≡ true) → ⊥) → list_any is_brace line ≡ false
+nowhere line none = none_there line (λ k lt. false_from_ne_true (is_brace (get_or line k 0)) (none k (omega arith) lt))

@@ -32,9 +32,9 @@ key_kept above (Ok parts) it is = by (refusal_below above parts) is
     by (Some why) is = absurd (cc)
 key_kept above (Err why) it is = absurd (cc)
 
-flat : {S T U : Type 0} (said : Result S Why) (then : S → Result T Why) (last : T → Result U Why) → and_then said (λ s. and_then (then s) last) ≡ and_then (and_then said then) last
-flat (Ok s) then last = refl
-flat (Err why) then last = refl
+flat : {S T U : Type 0} (said : Result S Why) (following : S → Result T Why) (last : T → Result U Why) → and_then said (λ s. and_then (following s) last) ≡ and_then (and_then said following) last
+flat (Ok s) following last = refl
+flat (Err why) following last = refl
 
 one_is : (member : List ℕ) (parts : ℕ) (above : Above) (line : List ℕ) (one : Placed) (next : Above) → line_placed member parts above line ≡ Ok (one, next) → IsOne member parts above line one next
 one_is member parts above line one next is = long (nat_lt MAX_LINE_BYTES (length line)) is

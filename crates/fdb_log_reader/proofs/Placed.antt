@@ -1,6 +1,8 @@
 -- Lines come to the parts of a log one by one, wherever its text is cut.
-use Rattle.std.proofs.Common.{◌≡◌, ◌∙◌, ◌⊎◌, ℕ, ◌+◌, suc, ◌<◌, ◌==◌, Bool, true, false, cond, nat_lt, List, [], ◌∷◌, ◌++◌, length, length-append, map, string_bytes, slice_index, slice_index_or, Result, Ok, Err, refl, ap, sym, subst, inl, inr, arith, append_assoc, append-nil, if◌then◌else◌}
+use Rattle.std.proofs.Common.{◌≡◌, ◌∙◌, ◌⊎◌, ℕ, ◌+◌, suc, ◌<◌, ◌==◌, Bool, true, false, cond, get_or, nat_lt, set, zero, List, [], ◌∷◌, ◌++◌, length, length-append, map, string_bytes, slice_index, slice_index_or, IfOk, MatchResult, Result, Ok, Err, refl, ap, sym, subst, inl, inr, arith, append_assoc, append-nil, if◌then◌else◌}
+use Rattle.std.proofs.lemmas.Bool.{cases_eq}
 use Rattle.std.proofs.lemmas.Bool.Decides.{nat_tests}
+use Rattle.std.proofs.lemmas.List.{get_or-map, get_or-set_other, get_or-set_same, length-map, length-set, map-set}
 use Rattle.std.proofs.lemmas.List.Concat.{flat_map-append}
 use Rattle.std.proofs.lemmas.List.Elements.{All-append, filter-append}
 use Rattle.std.specs.List.{filter, flat_map}
@@ -12,7 +14,7 @@ use Rattle.fdb_log_reader.specs.declared.placer.Placer.{Placer}
 use Rattle.fdb_log_reader.specs.declared.reader.TheConstants.{MAX_LINE_BYTES}
 use Rattle.fdb_log_reader.specs.declared.splitter.Splitter.{Splitter}
 use Rattle.fdb_log_reader.specs.Reading.{is_line_feed, lines_in, without_empty_end}
-use Rattle.fdb_log_reader.specs.Split.{AllPlaced, Placed, in_front, line_placed, number_below, of_part, placed_lines, placed_text, refused_below, text_of_part}
+use Rattle.fdb_log_reader.specs.Split.{AllPlaced, Placed, in_front, line_placed, number_below, of_part, placed_lines, placed_text, refused_below, text_of_part, with_number}
 use Rattle.fdb_log_reader.specs.Splitter.{HasPlaced, HasPlacedAll, HaveCome, counts_in, lines_placed, placed_on, texts_in}
 use Rattle.fdb_log_reader.specs.private.{IsOneLine}
 use Rattle.fdb_log_reader.specs.private.Placing.{Goes, KeepsBytes, PlacesLine, PlacesOne}
@@ -61,6 +63,71 @@ come_on placed more old mid new first next = record {
       omega arith;
 }
 
+-- what stands past a list is as good as in it
+pub nothing_more : {X : Type 0} (xs : List X) (none : X) (k : ℕ) → get_or (xs ++ none ∷ []) k none ≡ get_or xs k none
+nothing_more [] none zero = refl
+nothing_more [] none (suc k) = refl
+nothing_more (x ∷ xs) none zero = refl
+nothing_more (x ∷ xs) none (suc k) = nothing_more xs none k
+
+pub one_come : (parts : List PartText) (part number : ℕ) (line : List ℕ) (was new : PartText) → part < length parts → was ≡ get_or parts part was
+    → new.text.items ≡ was.text.items ++ (with_number line number ++ 10 ∷ []) → new.lines ≡ was.lines + 1
+    → HaveCome (record { part = part; number = number; line = line } ∷ []) parts (set parts part new)
+one_come parts part number line was new lt is text lines = record {
+  as_many = length-set parts part new;
+  texts = λ p less. elim (cases_eq p part) [
+    | inl here ↦ subst (λ q. slice_index_or (texts_in (set parts part new)) q [] ≡ slice_index_or (texts_in parts) q [] ++ text_of_part q (one ∷ [])) (sym here) mine
+    | inr other ↦
+        let none : (part == p) ≡ false = grind (arith, nat_tests) in
+        ap (λ (texts : List (List ℕ)). slice_index_or texts p []) (map-set text_in parts part new)
+        ∙ (get_or-set_other (texts_in parts) part p new.text.items [] other
+        ∙ (sym (append-nil (slice_index_or (texts_in parts) p []))
+        ∙ ap (λ b. slice_index_or (texts_in parts) p [] ++ flat_map placed_text (cond {A = List Placed} b (one ∷ []) [])) (sym none)))
+  ];
+  counts = λ p less. elim (cases_eq p part) [
+    | inl here ↦ subst (λ q. slice_index (counts_in (set parts part new)) q ≡ slice_index (counts_in parts) q + length (of_part q (one ∷ []))) (sym here) its
+    | inr other ↦
+        let none : (part == p) ≡ false = grind (arith, nat_tests) in
+        let same = ap (λ (counts : List ℕ). slice_index counts p) (map-set lines_in_one parts part new) ∙ get_or-set_other (counts_in parts) part p new.lines 0 other in
+        let left = ap (λ b. length (cond {A = List Placed} b (one ∷ []) [])) none in
+        omega (arith, same, left)
+  ];
+}
+  where
+    one : Placed
+    one = record { part = part; number = number; line = line }
+
+    text_in : PartText → List ℕ
+    text_in it = it.text.items
+
+    lines_in_one : PartText → ℕ
+    lines_in_one it = it.lines
+
+    self : (part == part) ≡ true
+    self = grind (arith, nat_tests)
+
+    inside : part < length (texts_in parts)
+    inside = omega (arith, length-map parts text_in)
+
+    there : part < length (counts_in parts)
+    there = omega (arith, length-map parts lines_in_one)
+
+    mine : slice_index_or (texts_in (set parts part new)) part [] ≡ slice_index_or (texts_in parts) part [] ++ text_of_part part (one ∷ [])
+    mine =
+        ap (λ (texts : List (List ℕ)). slice_index_or texts part []) (map-set text_in parts part new)
+        ∙ (get_or-set_same (texts_in parts) part new.text.items [] inside
+        ∙ (text
+        ∙ (ap (λ (text : List ℕ). text ++ (with_number line number ++ 10 ∷ [])) (ap text_in is ∙ sym (get_or-map text_in parts part was [] lt))
+        ∙ (ap (λ (text : List ℕ). slice_index_or (texts_in parts) part [] ++ text) (sym (append-nil (placed_text one)))
+        ∙ ap (λ b. slice_index_or (texts_in parts) part [] ++ flat_map placed_text (cond {A = List Placed} b (one ∷ []) [])) (sym self)))))
+
+    its : slice_index (counts_in (set parts part new)) part ≡ slice_index (counts_in parts) part + length (of_part part (one ∷ []))
+    its =
+        let same = ap (λ (counts : List ℕ). slice_index counts part) (map-set lines_in_one parts part new) ∙ get_or-set_same (counts_in parts) part new.lines 0 there in
+        let was_it = ap lines_in_one is ∙ sym (get_or-map lines_in_one parts part was 0 lt) in
+        let added = ap (λ b. length (cond {A = List Placed} b (one ∷ []) [])) self in
+        omega (arith, same, was_it, lines, added)
+
 -- ---- a line
 
 -- further lines are placed behind one that has come to its part
@@ -86,20 +153,22 @@ whole splitter line rest none one =
     ap (λ front. lines_placed splitter.placer (lines_in (front ++ (line ++ 10 ∷ rest)))) none ∙ ap (lines_placed splitter.placer) (first_line line rest one)
 
 -- what follows where nothing has been kept of a line
-anew : (it : Splitter) (rest : List ℕ) → it.front.items ≡ [] → placed_on it rest ≡ lines_placed it.placer (lines_in rest)
-anew it rest none = ap (λ (front : List ℕ). lines_placed it.placer (lines_in (front ++ rest))) none
+anew : (placer : Placer) (front rest : List ℕ) → front ≡ [] → lines_placed placer (lines_in (front ++ rest)) ≡ lines_placed placer (lines_in rest)
+anew placer front rest none = ap (λ (front : List ℕ). lines_placed placer (lines_in (front ++ rest))) none
 
-pub ended_placed : (old it : Splitter) (one : Placed) → PlacesOne old.placer old.front.items one it.placer → it.front.items ≡ [] → PlacesLine old [] (Ok it)
-ended_placed old it one is none = (
+pub ended_placed : (old : Splitter) (placer : Placer) (front : List ℕ) (one : Placed) → PlacesOne old.placer old.front.items one placer → front ≡ []
+    → (one : Placed) × ((rest : List ℕ) → placed_on old (10 ∷ rest) ≡ in_front (one ∷ []) (lines_placed placer (lines_in (front ++ rest)))) × HaveCome (one ∷ []) old.placer.parts.items placer.parts.items
+ended_placed old placer front one is none = (
   one,
-  λ rest. ended old rest ∙ (placed_behind old.placer it.placer old.front.items one (lines_in rest) is ∙ ap (in_front (one ∷ [])) (sym (anew it rest none))),
+  λ rest. ended old rest ∙ (placed_behind old.placer placer old.front.items one (lines_in rest) is ∙ ap (in_front (one ∷ [])) (sym (anew placer front rest none))),
   is.come,
 )
 
-pub whole_placed : (old it : Splitter) (line : List ℕ) (one : Placed) → old.front.items ≡ [] → IsOneLine line → PlacesOne old.placer line one it.placer → it.front.items ≡ [] → PlacesLine old line (Ok it)
-whole_placed old it line one empty single is none = (
+pub whole_placed : (old : Splitter) (placer : Placer) (front line : List ℕ) (one : Placed) → old.front.items ≡ [] → IsOneLine line → PlacesOne old.placer line one placer → front ≡ []
+    → (one : Placed) × ((rest : List ℕ) → placed_on old (line ++ 10 ∷ rest) ≡ in_front (one ∷ []) (lines_placed placer (lines_in (front ++ rest)))) × HaveCome (one ∷ []) old.placer.parts.items placer.parts.items
+whole_placed old placer front line one empty single is none = (
   one,
-  λ rest. whole old line rest empty single ∙ (placed_behind old.placer it.placer line one (lines_in rest) is ∙ ap (in_front (one ∷ [])) (sym (anew it rest none))),
+  λ rest. whole old line rest empty single ∙ (placed_behind old.placer placer line one (lines_in rest) is ∙ ap (in_front (one ∷ [])) (sym (anew placer front rest none))),
   is.come,
 )
 
@@ -209,7 +278,7 @@ fed_last splitter some = ap (lines_placed splitter.placer) (last_line splitter.f
 
 pub all_placed : (old it : Splitter) → 0 < length old.front.items → (read : PlacesLine old [] (Ok it)) → it.front.items ≡ [] → HasPlacedAll old (read.0 ∷ []) it
 all_placed old it some read none = record {
-  all = fed_last old some ∙ (read.1 [] ∙ ap (in_front (read.0 ∷ [])) (anew it [] none));
+  all = fed_last old some ∙ (read.1 [] ∙ ap (in_front (read.0 ∷ [])) (anew it.placer it.front.items [] none));
   come = read.2;
 }
 
@@ -218,4 +287,16 @@ last_refused old error some (inl memory) = inl memory
 last_refused old error some (inr refused) = inr (fed_last old some ∙ refused [])
 
 pub none_left : (splitter : Splitter) → splitter.front.items ≡ [] → HasPlacedAll splitter [] splitter
-none_left splitter none = record { all = anew splitter [] none; come = none_come splitter.placer.parts.items }
+none_left splitter none = record { all = anew splitter.placer splitter.front.items [] none; come = none_come splitter.placer.parts.items }
+
+-- ---- what a splitter answers
+
+pub finished : (old : Splitter) (result : Result Splitter ReadError) → 0 < length old.front.items → IfOk result (λ (it : Splitter). it.front.items ≡ []) → PlacesLine old [] result
+    → MatchResult result (λ it. (placed : List Placed) × HasPlacedAll old placed it) (λ error. (error.why ≡ Memory) ⊎ (placed_on old [] ≡ Err error))
+finished old (Ok it) some none read = (read.0 ∷ [], all_placed old it some read none)
+finished old (Err error) some none read = last_refused old error some read
+
+pub all_fed : (old now : Splitter) (bytes rest : List ℕ) (placed : List Placed) (result : Result Splitter ReadError) → Goes old bytes placed now rest → KeepsBytes now rest result
+    → MatchResult result (λ it. (placed : List Placed) × HasPlaced old bytes placed it) (λ error. (error.why ≡ Memory) ⊎ ((more : List ℕ) → placed_on old (bytes ++ more) ≡ Err error))
+all_fed old now bytes rest placed (Ok it) so kept = (placed, fed old now it bytes rest placed so kept)
+all_fed old now bytes rest placed (Err error) so kept = not_fed old now bytes rest placed error so kept

@@ -22,6 +22,7 @@ use std::alloc::Global;
 
 /// Where the hash of a key begins, and by what it is multiplied at each byte.
 const HASH_BASIS: u64 = 0xcbf2_9ce4_8422_2325;
+
 const HASH_PRIME: u64 = 0x100_0000_01b3;
 
 /// What is kept of a line.

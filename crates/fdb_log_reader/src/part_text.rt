@@ -1,7 +1,7 @@
 //! The text of a part of a log, as far as it is held, and how a line comes to it.
 
 ghost use Rattle.std.specs.Prelude.{◌≡◌, ◌+◌, ◌∷◌, ◌++◌, ◌<◌, [], IfOk, MatchOption, OnOk};
-ghost use Rattle.std.specs.Prelude.{false, length, replicate};
+ghost use Rattle.std.specs.Prelude.{ℕ, false, length, slice_index, slice_index_or};
 ghost use Rattle.std.specs.List.{list_any};
 ghost use Rattle.fdb_log_reader.specs.Split.{is_brace, number_member, with_number};
 ghost use Rattle.fdb_log_reader.specs.Splitter.{HaveCome, counts_in, texts_in};
@@ -63,7 +63,8 @@ pub(crate) fn add_line(
     ensures few { OnOk result (AreBelow (number + 1) parts.new.items) }
 {
     let its = &mut parts[part];
-    its.add(line, number)
+    its.add(line, number)?;
+    Ok(())
 }
 
 /// Adds a line with a member for its number behind its last one.
@@ -98,14 +99,19 @@ fn split_brace(line: &[u8]) -> Option<(&[u8], &[u8])>
     ensures { MatchOption result (list_any is_brace line.now ≡ false)
         (λ parts. IsSplitAtBrace line.now parts.0.now parts.1.now) }
 {
-    let brace = memrchr(b'}', line)?;
-    Some((&line[..brace], &line[brace..]))
+    match memrchr(b'}', line) {
+        Some(brace) => Some((&line[..brace], &line[brace..])),
+        None => None,
+    }
 }
 
 /// So many parts without lines.
 pub(crate) fn no_lines(alloc: Global, count: usize) -> Result<Vec<PartText>, AllocError>
-    ensures texts { IfOk result (λ parts. texts_in parts.items ≡ replicate count []) }
-    ensures counts { IfOk result (λ parts. counts_in parts.items ≡ replicate count 0) }
+    ensures many { IfOk result (λ parts. length parts.items ≡ count) }
+    ensures texts { IfOk result
+        (λ parts. (part : ℕ) → slice_index_or (texts_in parts.items) part [] ≡ []) }
+    ensures counts { IfOk result
+        (λ parts. (part : ℕ) → slice_index (counts_in parts.items) part ≡ 0) }
 {
     let mut parts = Vec::new(alloc);
     for _part in 0..count {

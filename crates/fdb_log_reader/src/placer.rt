@@ -1,7 +1,7 @@
 //! The parts of a log, and how its lines are placed in them.
 
 ghost use Rattle.std.specs.Prelude.{◌≡◌, ◌⊎◌, ◌+◌, ◌<◌, ◌≤◌, [], Err, IfOk, MatchResult, length};
-ghost use Rattle.std.specs.Prelude.{replicate, string_bytes};
+ghost use Rattle.std.specs.Prelude.{slice_index, slice_index_or, string_bytes, ℕ};
 ghost use Rattle.std.proofs.Props.{props};
 ghost use Rattle.fdb_log_reader.specs.Split.{part_by};
 ghost use Rattle.fdb_log_reader.specs.private.Counting.{AreBelow};
@@ -39,8 +39,11 @@ impl Placer {
         requires { 0 < parts }
         ensures member { IfOk result (λ it. string_bytes it.member ≡ member.now) }
         ensures above { IfOk result (λ it. it.above ≡ below first) }
-        ensures texts { IfOk result (λ it. texts_in it.parts.items ≡ replicate parts []) }
-        ensures counts { IfOk result (λ it. counts_in it.parts.items ≡ replicate parts 0) }
+        ensures many { IfOk result (λ it. length it.parts.items ≡ parts) }
+        ensures texts { IfOk result
+            (λ it. (part : ℕ) → slice_index_or (texts_in it.parts.items) part [] ≡ []) }
+        ensures counts { IfOk result
+            (λ it. (part : ℕ) → slice_index (counts_in it.parts.items) part ≡ 0) }
     {
         Ok(Placer {
             alloc,
@@ -50,22 +53,32 @@ impl Placer {
         })
     }
 
-    /// Places a line. After an error no more is to be placed.
-    pub(crate) fn place(&mut self, line: &[u8]) -> Result<(), Why>
+    /// Places a line.
+    pub(crate) fn place(self, line: &[u8]) -> Result<Self, Why>
         requires { length line.now ≤ MAX_LINE_BYTES }
         ensures { MatchResult result
-            (λ _. (one : Placed) × PlacesOne self.old line.now one self.new)
-            (λ why. (why ≡ Why.Memory) ⊎ (line_placed (string_bytes self.old.member)
-            (length self.old.parts.items) self.old.above line.now ≡ Err why)) }
+            (λ it. (one : Placed) × PlacesOne self line.now one it)
+            (λ why. (why ≡ Why.Memory) ⊎ (line_placed (string_bytes self.member)
+            (length self.parts.items) self.above line.now ≡ Err why)) }
     {
-        if self.above.count == u64::MAX {
+        let Placer {
+            alloc,
+            member,
+            mut parts,
+            above,
+        } = self;
+        if above.count == u64::MAX {
             return Err(Why::TooMany);
         }
-        let read = keyed_line(self.alloc, &self.member, self.above, line)?;
-        let part = part_by(self.parts.len(), read.hash);
-        add_line(&mut self.parts, part, line, self.above.count + 1)?;
-        self.above = self.above.next(read.is_timed);
-        Ok(())
+        let read = keyed_line(alloc, &member, above, line)?;
+        let part = part_by(parts.len(), read.hash);
+        add_line(&mut parts, part, line, above.count + 1)?;
+        Ok(Placer {
+            alloc,
+            member,
+            parts,
+            above: above.next(read.is_timed),
+        })
     }
 }
 

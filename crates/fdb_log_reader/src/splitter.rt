@@ -1,7 +1,7 @@
 //! A log that is cut into parts by its keys, as it is read.
 
 ghost use Rattle.std.specs.Prelude.{◌≡◌, ◌⊎◌, ◌++◌, ◌∷◌, ◌<◌, ◌≤◌, ℕ, List, [], Err, IfOk, MatchResult};
-ghost use Rattle.std.specs.Prelude.{length, replicate, slice_index, slice_index_or, slice_set};
+ghost use Rattle.std.specs.Prelude.{length, slice_index, slice_index_or, slice_set};
 ghost use Rattle.fdb_log_reader.specs.Reading.{lines_in};
 ghost use Rattle.fdb_log_reader.specs.private.{IsOneLine};
 
@@ -29,17 +29,14 @@ impl Splitter {
 
     /// A log of which nothing has been read, with so many lines above it, to be cut into so many
     /// parts by the keys that a member of this name has. It fails only where memory is refused.
-    pub fn new(
-        alloc: Global,
-        member: &str,
-        parts: usize,
-        first: u64,
-    ) -> Result<Self, AllocError>
+    pub fn new(alloc: Global, member: &str, parts: usize, first: u64) -> Result<Self, AllocError>
         requires { 0 < parts }
         ensures placed { IfOk result (λ it. (log : List ℕ) → placed_on it log
             ≡ placed_lines member.now parts (below first) (lines_in log)) }
-        ensures texts { IfOk result (λ it. texts_of it ≡ replicate parts []) }
-        ensures counts { IfOk result (λ it. counts_of it ≡ replicate parts 0) }
+        ensures parts { IfOk result (λ it. length (texts_of it) ≡ parts) }
+        ensures texts { IfOk result
+            (λ it. (part : ℕ) → slice_index_or (texts_of it) part [] ≡ []) }
+        ensures counts { IfOk result (λ it. (part : ℕ) → slice_index (counts_of it) part ≡ 0) }
     {
         Ok(Splitter {
             placer: Placer::new(alloc, member, parts, first)?,
@@ -137,11 +134,11 @@ impl Splitter {
         ensures { PlacesLine self line.now result }
     {
         let refused = self.error(Why::Memory);
-        let Splitter { mut placer, front } = self;
-        if let Err(why) = placer.place(line) {
-            return Err(ReadError { why, ..refused });
+        let Splitter { placer, front } = self;
+        match placer.place(line) {
+            Ok(placer) => Ok(Splitter { placer, front }),
+            Err(why) => Err(ReadError { why, ..refused }),
         }
-        Ok(Splitter { placer, front })
     }
 
     /// Keeps what has come of a line, unless that gets too long.
@@ -164,15 +161,14 @@ impl Splitter {
         ensures read { PlacesLine self [] result }
     {
         let refused = self.error(Why::Memory);
-        let Splitter {
-            mut placer,
-            mut front,
-        } = self;
-        if let Err(why) = placer.place(&front) {
-            return Err(ReadError { why, ..refused });
+        let Splitter { placer, mut front } = self;
+        match placer.place(&front) {
+            Ok(placer) => {
+                front.clear();
+                Ok(Splitter { placer, front })
+            }
+            Err(why) => Err(ReadError { why, ..refused }),
         }
-        front.clear();
-        Ok(Splitter { placer, front })
     }
 
     /// What is wrong with the line that has been begun, by its number.

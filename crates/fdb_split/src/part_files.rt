@@ -57,7 +57,11 @@ impl PartFiles {
 
     /// Gives a part its name, which is whole.
     pub(crate) fn finish<R: Files>(&self, rt: &R, part: usize) -> io::Result<()> {
-        rename(rt, self.unfinished_name(part)?.as_str(), self.name(part)?.as_str())
+        rename(
+            rt,
+            self.unfinished_name(part)?.as_str(),
+            self.name(part)?.as_str(),
+        )
     }
 
     /// Lets the folder go for what is not whole, once all is.
