@@ -1,5 +1,5 @@
 -- What a splitter has read of a log goes on with its next bytes.
-use Rattle.std.proofs.Common.{◌≡◌, ◌∙◌, ◌⊎◌, ℕ, zero, suc, ◌+◌, ◌<◌, ◌==◌, List, [], ◌∷◌, ◌++◌, length, length-append, map, slice_index, Option, None, Some, Ok, Err, refl, ap, sym, subst, inl, inr, arith, append_assoc, append-nil, decimal, if◌then◌else◌}
+use Rattle.std.proofs.Common.{◌≡◌, ◌∙◌, ◌⊎◌, ℕ, zero, suc, ◌+◌, ◌<◌, ◌==◌, List, [], ◌∷◌, ◌++◌, length, length-append, map, slice_index, Option, None, Some, Ok, Err, refl, ap, sym, subst, inl, inr, arith, append_assoc, append-nil, decimal, string_bytes, if◌then◌else◌}
 use Rattle.std.specs.List.{filter}
 use Rattle.std.proofs.lemmas.List.{length-map}
 use Rattle.std.proofs.lemmas.List.Elements.{filter-append}
@@ -7,11 +7,12 @@ use Rattle.fdb_log_reader.specs.declared.above.Above.{Above}
 use Rattle.fdb_log_reader.specs.declared.error.ReadError.{ReadError}
 use Rattle.fdb_log_reader.specs.declared.part_text.PartText.{PartText}
 use Rattle.fdb_log_reader.specs.declared.splitter.Splitter.{Splitter}
-use Rattle.fdb_log_reader.specs.Split.{AllPlaced, Placed, in_front, of_part}
+use Rattle.fdb_log_reader.specs.Reading.{lines_in}
+use Rattle.fdb_log_reader.specs.Split.{AllPlaced, Placed, below, in_front, of_part, placed_lines}
 use Rattle.fdb_log_reader.specs.Splitter.{HasPlaced, HasPlacedAll, HaveCome, above_of, counts_in, counts_of, placed_on, texts_in, texts_of}
 use Rattle.fdb_split.specs.Program.{HasCut, Prints, cut}
 use Rattle.fdb_split.specs.Text.{counts_listed, object_of, split_text}
-use Rattle.fdb_split.specs.declared.arguments.SplitArguments.{SplitArguments}
+use Rattle.fdb_split.specs.declared.asked.SplitArguments.{SplitArguments}
 use Rattle.fdb_split.specs.private.{HasReleased}
 
 none_in_front : (placed : AllPlaced) → in_front [] placed ≡ placed
@@ -79,6 +80,15 @@ twice_released old mid new one other = record {
   counts = other.counts ∙ one.counts;
   parts = other.parts ∙ one.parts;
   above = other.above ∙ one.above;
+}
+
+pub begun : (asked : SplitArguments) (it : Splitter) → ((log : List ℕ) → placed_on it log ≡ placed_lines (string_bytes asked.key) asked.parts (below asked.first) (lines_in log))
+    → length (texts_of it) ≡ asked.parts → ((part : ℕ) → slice_index (counts_of it) part ≡ 0) → HasCut asked it []
+begun asked it placed parts counts = record {
+  placed = [];
+  goes = λ rest. sym (placed rest) ∙ sym (none_in_front (placed_on it rest));
+  parts = parts;
+  counts = λ part lt. counts part;
 }
 
 -- ---- what is printed

@@ -1,5 +1,5 @@
 -- What the program promises of itself that cuts a log into parts. (this product's own)
-use Rattle.std.specs.Prelude.{◌≡◌, ◌≢◌, ◌≤◌, ◌<◌, ℕ, ◌++◌, ◌&&◌, Bool, false, List, [], ◌∷◌, Option, None, Some, Ok, Err, codes, is_some, length, option_map, pos, slice_index, string_bytes}
+use Rattle.std.specs.Prelude.{◌≡◌, ◌≢◌, ◌≤◌, ◌<◌, ℕ, ◌++◌, ◌&&◌, Bool, false, true, List, [], ◌∷◌, Option, None, Some, Ok, Err, codes, is_some, length, option_map, pos, slice_index, string_bytes}
 use Rattle.std.specs.Str.Parse.{digits_value, without_leading_plus}
 use Rattle.std.specs.declared.convert.Infallible.{Infallible}
 use Rattle.clap.specs.Words.{App, Text, first_of, matches_of, one_of}
@@ -16,7 +16,7 @@ use Rattle.fdb_log_reader.specs.Reading.{lines_in}
 use Rattle.fdb_log_reader.specs.Split.{AllPlaced, Placed, below, in_front, of_part, placed_lines}
 use Rattle.fdb_log_reader.specs.Splitter.{counts_of, placed_on, texts_of}
 use Rattle.fdb_split.specs.Text.{split_text}
-use Rattle.fdb_split.specs.declared.arguments.SplitArguments.{SplitArguments}
+use Rattle.fdb_split.specs.declared.asked.SplitArguments.{SplitArguments}
 use Rattle.fdb_split.specs.declared.split_program.TheConstants.{MAX_SPLIT_BYTES}
 use Rattle.fdb_split.specs.declared.splitting.Splitting.{Splitting}
 

@@ -33,23 +33,6 @@ const KEY_HELP: &str = "The member that names a line's key: all lines of a key a
 
 const FIRST_HELP: &str = "How many lines are above, where this is a block of a log [default: 0]";
 
-/// What the flags say.
-#[derive(Debug, Drop)]
-pub struct SplitArguments {
-    /// How many parts there are to be.
-    pub parts: u64,
-    /// The folder in which they are.
-    pub into: String,
-    /// The member that names a line's key.
-    pub key: String,
-    /// How many lines are above the first.
-    pub first: u64,
-    /// Whether standard error is to tell how far the log has been read.
-    pub progress: bool,
-    ghost some: { 1 ≤ parts },
-    ghost few: { parts ≤ 1024 },
-}
-
 /// How many parts there are to be.
 pub(crate) fn parts_of(matches: &ArgMatches<'_>) -> Option<u64>
     ensures named { (arguments : List Text) → AreMatches command arguments matches.now

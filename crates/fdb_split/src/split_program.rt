@@ -1,12 +1,14 @@
 //! The program that cuts a log into parts.
 
-ghost use Rattle.std.specs.Prelude.{◌≡◌, ◌≢◌, ◌⊎◌, ℕ, [], List, MatchResult, None};
+ghost use Rattle.std.specs.Prelude.{◌≡◌, ◌≢◌, ◌⊎◌, ℕ, [], IfErr, List, MatchResult, None};
 ghost use Rattle.std.specs.Prelude.{map, string_bytes};
 ghost use Rattle.clap.specs.Words.{Text};
 ghost use Rattle.fdb_command.specs.Driving.{IsDriven, Stops};
 ghost use Rattle.fdb_split.specs.Program.{split, HasCut, HasTaken, IsAsked, Prints};
+ghost use Rattle.fdb_split.specs.private.{HasReleased};
 
-use crate::arguments::{SplitArguments, command, first_of, parts_of, text};
+use crate::arguments::{command, first_of, parts_of, text};
+use crate::asked::SplitArguments;
 use crate::counts_text::object_text;
 use crate::part_files::PartFiles;
 use crate::splitting::{Splitting, Stop, unwritten};
@@ -36,6 +38,17 @@ impl Split {
     fn new() -> Self {
         Split {
             files: OnceCell::new(),
+        }
+    }
+
+    /// Writes what is left of the parts, and gives them their names.
+    fn finish<R: Files>(&self, rt: &R, cut: &mut Splitting) -> Result<(), Stop>
+        ensures released { HasReleased cut.old.splitter cut.new.splitter }
+        ensures stops { IfErr result (λ fault. (fault ≡ Failure.Memory) ⊎ (fault ≡ Failure.Writing)) }
+    {
+        match self.files.get() {
+            Some(files) => cut.finish(rt, files),
+            None => Ok(()),
         }
     }
 
@@ -213,9 +226,7 @@ fn finished<R: Files>(
         Ok(splitter) => Splitting { splitter },
         Err(error) => return Err(refusal(error)),
     };
-    if let Some(files) = program.files.get() {
-        cut.finish(rt, files)?;
-    }
+    program.finish(rt, &mut cut)?;
     let text = object_text(alloc, &cut.splitter)?;
     Ok(Output {
         text: text.into_bytes(),
