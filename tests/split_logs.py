@@ -181,7 +181,7 @@ def no_place(_program: str) -> Case:
             left = os.path.exists(f"{folder}/new")
             yield redirections, fault_of(ran, failed) or (left and "parts are left" or None)
         given = (TIMED[:-2] + b',"note":"' + b"n" * 1_000 + b'"}\n') * 2_000
-        ran = under("", "sh", given, ["-c", 'ulimit -f 100; exec "$0" "$@"', *words, f"{folder}/few"])
+        ran = under("", "sh", given, ["-c", 'trap "" XFSZ; ulimit -f 100; exec "$0" "$@"', *words, f"{folder}/few"])
         left = os.path.exists(f"{folder}/few")
         yield "files that take no more", fault_of(ran, failed) or (left and "parts are left" or None)
 
