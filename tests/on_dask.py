@@ -1,4 +1,4 @@
-"""A log by key on Dask: what tools/audit_on_dask prints of it, where a worker dies, a line is refused."""
+"""A log by key on Dask: what tools/audit_on_dask prints of it, whatever dies or is refused."""
 import contextlib
 import json
 import os
@@ -94,25 +94,26 @@ def cluster() -> Iterator[tuple[Cluster, str]]:
 
 def key_text(dice: random.Random, at: int) -> str:
     """A member for a key, in one of the ways in which it may be written, or none."""
-    key = dice.randrange(1_000)
+    key = int(1_000 * dice.random() ** 3)
     ways = (f'"key":"k{key}",', f'"key":"\\u006b{key}",', f'"key":"x","key":"k{key}",', "",
             '"key":"",', f'"key":{key},', f'"key":"{"long" * 50}{key % 7}",')
     return ways[0] if at % 4 else dice.choice(ways)
 
 
 def lines_of(count: int, seed: int) -> Iterator[str]:
-    """Lines with times, of which a few in a thousand are stale reads."""
+    """Lines with times, of which some in a thousand are stale reads, mostly of few clients."""
     dice, version = random.Random(seed), 100
     for at in range(count):
         version += dice.randrange(3)
-        call = f'"commit":{version}' if at % 3 == 0 else f'"read":{version - 40 * (at % 997 == 1)}'
+        call = f'"commit":{version}' if at % 3 == 0 else f'"read":{version - 40 * (at % 97 == 1)}'
         note = ',"note":{"line":7}' * (at % 5 == 0)
-        yield (f'{{"client":"c{dice.randrange(64)}",{key_text(dice, at)}{call},"began":{10 * at},'
-               f'"ended":{10 * at + dice.randrange(30)}{note}}}')
+        client, ended = int(64 * dice.random() ** 3), 10 * at + dice.randrange(30)
+        yield (f'{{"client":"c{client}",{key_text(dice, at)}{call},"began":{10 * at},'
+               f'"ended":{ended}{note}}}')
 
 
 def write_log(folder: str) -> tuple[list[str], bytes]:
-    """Files of a log, and all of it as one: with both ends of lines, one without, and a long line."""
+    """Files of a log, and all of it as one: with both ends of lines, none, and a long line."""
     lines = list(lines_of(LINES, 3))
     lines[LINES // 2] = lines[LINES // 2][:-1] + ',"long":"' + "x" * 1_040_000 + '"}'
     files, whole, step = [], [], LINES // FILES
@@ -134,20 +135,29 @@ def told(address: str, files: list[str], *words: str) -> Ran:
 
 
 def fault_of_told(ran: Ran, wanted: Ran) -> Optional[str]:
-    """How what was told differs from one audit, but for the order of totals."""
+    """How what was told differs from one audit, but for which of totals that tie come first."""
     fault = fault_of(ran, wanted._replace(out=None))
     if fault:
         return fault
-    (faults, totals), (faults_wanted, totals_wanted) = parted(ran.out), parted(wanted.out)
-    if faults != faults_wanted:
-        return f"faults differ: {difference(faults, faults_wanted)}"
-    return None if totals == totals_wanted else f"totals differ: {totals ^ totals_wanted}"
+    (told_first, groups), (wanted_first, wanted_groups) = parted(ran.out), parted(wanted.out)
+    if told_first != wanted_first:
+        return f"it differs: {difference(told_first, wanted_first)}"
+    return None if groups == wanted_groups else f"groups differ: {groups} for {wanted_groups}"
 
 
-def parted(out: bytes) -> tuple[bytes, set[bytes]]:
-    """The faults, and the totals behind them."""
-    at = out.find(b'{"total"')
-    return out[:at], set(out[at:].splitlines())
+def parted(out: bytes) -> tuple[bytes, list[tuple]]:
+    """What is told but of groups; of these the counts, and those that are above the least."""
+    lines = out.splitlines(keepends=True)
+    rows = [json.loads(it) for it in lines if it.startswith((b'{"client":', b'{"members":'))]
+    kinds: dict[tuple, list] = {}
+    for row in rows:
+        kinds.setdefault(("client" in row, *row.get("members", ())), []).append(row)
+    first = b"".join(lines[: len(lines) - len(rows)])
+    return first, [
+        (kind, [it["faults"] for it in some],
+         sorted(map(json.dumps, (it for it in some if it["faults"] > some[-1]["faults"]))))
+        for kind, some in kinds.items()
+    ]
 
 
 def kills(made: Cluster, number: int) -> threading.Thread:
@@ -209,7 +219,7 @@ def parts(_program: str) -> Case:
             yield name, fault_of_told(told(address, some), wanted)
         lines = [f"{line}\n".encode() for line in lines_of(2_000, 7)]
         half = b"".join(TIMED if at % 2 else it for at, it in enumerate(lines))
-        ran = told(address, [written(folder, "half", half)])
+        ran = told(address, [written(folder, "half", half)], "--parts", "7")
         said = b"as all of one key are in one\n"
         is_said = ran.err.count(b"audit_on_dask: part ") == ran.err.count(said) == 1
         yield "half of all lines without a key", None if is_said else f"it said {ran.err!r}"

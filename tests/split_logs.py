@@ -10,8 +10,8 @@ from typing import Iterator, NamedTuple, Optional
 from audit_lines import MOST_BYTES, line_of, refusal
 from audit_logs import PROGRAM, TIMED, UNTIMED, large_log, refused_at, refusals
 from audit_search import random_lines, text_of
-from harness import NO_STREAM, OTHER_ARGUMENTS, Ran, done, fault_of, processor_time, read, run, spent
-from harness import under
+from harness import NO_STREAM, OTHER_ARGUMENTS, Ran, done, fault_of, processor_time, read, run
+from harness import spent, under
 from reader import HIGHEST, Refused
 
 Case = Iterator[tuple[str, Optional[str]]]
@@ -110,8 +110,9 @@ def parts_in(folder: str) -> dict[int, bytes]:
 
 
 def fault_of_split(got: Split, wanted: Split) -> Optional[str]:
-    differ = [it for it in {*got.parts, *wanted.parts} if got.parts.get(it) != wanted.parts.get(it)]
-    return fault_of(got.ran, wanted.ran) or (f"the parts {sorted(differ)} differ" if differ else None)
+    both = {*got.parts, *wanted.parts}
+    differ = sorted(it for it in both if got.parts.get(it) != wanted.parts.get(it))
+    return fault_of(got.ran, wanted.ran) or (f"the parts {differ} differ" if differ else None)
 
 
 def cut(_program: str) -> Case:
@@ -152,7 +153,8 @@ def refused(_program: str) -> Case:
         wanted = Split(refused_at(bool(above) + 1, why), {})
         yield f"{line[:60]!r}", fault_of_split(split(given, 3), wanted)
     given = TIMED * 100_000 + b"{\n"
-    yield "behind many lines", fault_of_split(split(given, 16), Split(refused_at(100_001, "NotJson"), {}))
+    wanted = Split(refused_at(100_001, "NotJson"), {})
+    yield "behind many lines", fault_of_split(split(given, 16), wanted)
 
 
 def no_place(_program: str) -> Case:
@@ -167,8 +169,8 @@ def no_place(_program: str) -> Case:
                 to.write(b"mine")
             ran = run([*words, into], TIMED * 10)
             there = {it: read(f"{into}/{it}") for it in os.listdir(into)}
-            is_kept = there == {name: b"mine"}
-            yield f"where {name} is", fault_of(ran, failed) or (None if is_kept else f"left: {there}")
+            left = None if there == {name: b"mine"} else f"left: {there}"
+            yield f"where {name} is", fault_of(ran, failed) or left
         for name in (f"{folder}/none/parts", f"{folder}/0000.jsonl/0000.jsonl", ""):
             yield f"into {name!r}", fault_of(run([*words, name], TIMED), failed)
         os.mkdir(f"{folder}/there")
@@ -178,12 +180,13 @@ def no_place(_program: str) -> Case:
         )
         for redirections in ("> /dev/full", ">&-"):
             ran = under(redirections, PROGRAM, TIMED, words[1:] + [f"{folder}/new"])
-            left = os.path.exists(f"{folder}/new")
-            yield redirections, fault_of(ran, failed) or (left and "parts are left" or None)
+            left = "parts are left" if os.path.exists(f"{folder}/new") else None
+            yield redirections, fault_of(ran, failed) or left
         given = (TIMED[:-2] + b',"note":"' + b"n" * 1_000 + b'"}\n') * 2_000
-        ran = under("", "sh", given, ["-c", 'trap "" XFSZ; ulimit -f 100; exec "$0" "$@"', *words, f"{folder}/few"])
-        left = os.path.exists(f"{folder}/few")
-        yield "files that take no more", fault_of(ran, failed) or (left and "parts are left" or None)
+        limited = 'trap "" XFSZ; ulimit -f 100; exec "$0" "$@"'
+        ran = run(["sh", "-c", limited, *words, f"{folder}/few"], given)
+        left = "parts are left" if os.path.exists(f"{folder}/few") else None
+        yield "files that take no more", fault_of(ran, failed) or left
 
 
 def arguments(_program: str) -> Case:

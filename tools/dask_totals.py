@@ -1,4 +1,4 @@
-"""The totals of a log from what audits of its parts said, and from its faults as they are written."""
+"""The totals of a log from those of its parts, and from its faults as they are written."""
 import heapq
 import json
 import re
@@ -49,12 +49,13 @@ class Tally:
         self.counts = {}
 
     def most(self):
-        """The groups with most faults, each with how many of each kind; of ties none comes first."""
+        """The groups with most faults, with how many of each kind; of ties none comes first."""
         if self.file is None:
             rows = ((name, row) for name, row in self.counts.items())
         else:
             self.flush()
-            rows = ((it[0] or None, list(it[1:])) for it in self.file.execute("SELECT * FROM counts"))
+            counts = self.file.execute("SELECT * FROM counts")
+            rows = ((it[0] or None, list(it[1:])) for it in counts)
         return heapq.nsmallest(MOST, rows, key=lambda it: (-sum(it[1]), it[0] is not None))
 
 
