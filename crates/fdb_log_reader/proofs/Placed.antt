@@ -22,10 +22,6 @@ use Rattle.fdb_log_reader.proofs.Splitting.{first_line, front_stays, last_line, 
 
 -- ---- lines in front of lines
 
-pub none_in_front : (placed : AllPlaced) → in_front [] placed ≡ placed
-none_in_front (Ok more) = refl
-none_in_front (Err error) = refl
-
 pub both_in_front : (first next : List Placed) (placed : AllPlaced) → in_front first (in_front next placed) ≡ in_front (first ++ next) placed
 both_in_front first next (Ok more) = ap (λ (l : List Placed). let it : AllPlaced = Ok (l, more.1) in it) (sym (append_assoc first next more.0))
 both_in_front first next (Err error) = refl
@@ -62,13 +58,6 @@ come_on placed more old mid new first next = record {
       let two = next.counts part inside in
       omega arith;
 }
-
--- what stands past a list is as good as in it
-pub nothing_more : {X : Type 0} (xs : List X) (none : X) (k : ℕ) → get_or (xs ++ none ∷ []) k none ≡ get_or xs k none
-nothing_more [] none zero = refl
-nothing_more [] none (suc k) = refl
-nothing_more (x ∷ xs) none zero = refl
-nothing_more (x ∷ xs) none (suc k) = nothing_more xs none k
 
 pub one_come : (parts : List PartText) (part number : ℕ) (line : List ℕ) (was new : PartText) → part < length parts → was ≡ get_or parts part was
     → new.text.items ≡ was.text.items ++ (with_number line number ++ 10 ∷ []) → new.lines ≡ was.lines + 1
@@ -188,13 +177,6 @@ whole_refused old line why error empty single (inr refused) is = inr (λ rest.
 
 -- ---- what is kept of a line
 
-pub kept_on : (old it : Splitter) (bytes : List ℕ) → it.placer ≡ old.placer → it.front.items ≡ old.front.items ++ bytes → KeepsBytes old bytes (Ok it)
-kept_on old it bytes same front = (
-  λ rest. ap (λ (text : List ℕ). lines_placed old.placer (lines_in text)) (sym (append_assoc old.front.items bytes rest))
-      ∙ (λ i. lines_placed (sym same i) (lines_in (sym front i ++ rest))),
-  same,
-)
-
 long_first : (placer : Placer) (line : List ℕ) (more : List (List ℕ)) → MAX_LINE_BYTES < length line
     → lines_placed placer (without_empty_end (line ∷ more)) ≡ Err (record { line = number_below placer.above.count; why = TooLong })
 long_first placer line [] long =
@@ -217,27 +199,7 @@ too_long old bytes rest one long =
     ap (λ (text : List ℕ). lines_placed old.placer (lines_in text)) (sym (append_assoc old.front.items bytes rest))
     ∙ (ap (λ parts. lines_placed old.placer (without_empty_end parts)) stays ∙ long_first old.placer (front ++ first) (parts rest).1 (omega arith))
 
--- a line that was kept in part, and then ends
-pub kept_then : (old it : Splitter) (line : List ℕ) (result : Result Splitter ReadError) → KeepsBytes old line (Ok it) → PlacesLine it [] result → PlacesLine old line result
-kept_then old it line (Ok new) kept ends = (
-  ends.0,
-  λ rest. kept.0 (10 ∷ rest) ∙ ends.1 rest,
-  subst (λ (placer : Placer). HaveCome (ends.0 ∷ []) placer.parts.items new.placer.parts.items) kept.1 ends.2,
-)
-kept_then old it line (Err error) kept (inl memory) = inl memory
-kept_then old it line (Err error) kept (inr refused) = inr (λ rest. kept.0 (10 ∷ rest) ∙ refused rest)
-
-pub not_kept : (old : Splitter) (line : List ℕ) (error : ReadError) → KeepsBytes old line (Err error) → PlacesLine old line (Err error)
-not_kept old line error (inl memory) = inl memory
-not_kept old line error (inr refused) = inr (λ rest. refused (10 ∷ rest))
-
 -- ---- some bytes
-
-pub begins : (splitter : Splitter) (bytes : List ℕ) → Goes splitter bytes [] splitter bytes
-begins splitter bytes = record {
-  goes = λ more. sym (none_in_front (placed_on splitter (bytes ++ more)));
-  come = none_come splitter.placer.parts.items;
-}
 
 behind_line : (now : Splitter) (rest line after more : List ℕ) → rest ≡ line ++ 10 ∷ after → placed_on now (rest ++ more) ≡ placed_on now (line ++ 10 ∷ (after ++ more))
 behind_line now rest line after more is = ap (placed_on now) (ap (λ (r : List ℕ). r ++ more) is ∙ append_assoc line (10 ∷ after) more)

@@ -2,8 +2,8 @@
 
 ghost use Rattle.std.specs.Prelude.{◌≡◌, ◌<◌};
 
-/// How many lines there are above one, and the numbers of the first of them that has times and of the
-/// first that has none.
+/// How many lines there are above one, and the numbers of the first of them that has times and of
+/// the first that has none.
 #[derive(Clone, Copy, Debug, PartialEq, Eq)]
 pub struct Above {
     pub count: u64,

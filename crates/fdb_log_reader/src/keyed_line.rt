@@ -1,4 +1,4 @@
-//! A line of a log that is cut into parts: of its key the hash is kept, and of its times that it has some.
+//! A line of a log that is cut into parts: of its key the hash is kept, and that it has times.
 
 ghost use Rattle.std.specs.Prelude.{◌≡◌, ◌⊎◌, Err, MatchResult, Ok, [], option_map};
 ghost use Rattle.serde_json.specs.Find.{get};

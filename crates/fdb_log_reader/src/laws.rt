@@ -1,8 +1,8 @@
 //! Laws of the definitions. The functions do nothing: each stands for its contract.
 
-ghost use Rattle.std.specs.Prelude.{ℕ, ◌+◌, ◌<◌, ◌≡◌, ◌^◌, ◌++◌, ◌∷◌, [], All, IfOk, List, Ok, Option};
-ghost use Rattle.std.specs.Prelude.{Some, String, decimal, false, length, map, option_and_then};
-ghost use Rattle.std.specs.Prelude.{string_bytes};
+ghost use Rattle.std.specs.Prelude.{ℕ, ◌+◌, ◌<◌, ◌≡◌, ◌^◌, ◌++◌, ◌∷◌, [], All, IfOk, List};
+ghost use Rattle.std.specs.Prelude.{Ok, Option, Some, String, decimal, false, length, map};
+ghost use Rattle.std.specs.Prelude.{option_and_then, string_bytes};
 ghost use Rattle.std.specs.List.{range_with_len};
 ghost use Rattle.std.specs.declared.alloc.Global.{Global};
 ghost use Rattle.fdb_log_reader.specs.declared.above.Above.{Above};
@@ -69,8 +69,8 @@ pub fn digits_are_read_as_their_number()
         → option_and_then whole (text_says (Some text)) ≡ Some number }
 {}
 
-/// A log that is cut has each of its lines once, in order, under numbers that rise by one, each in one
-/// of the parts: all lines of a key are in the same.
+/// A log that is cut has each of its lines once, in order, under numbers that rise by one, each in
+/// one of the parts: all lines of a key are in the same.
 pub fn each_line_is_of_one_part()
     ensures lines { (member : List ℕ) (parts : ℕ) (above after : Above) (lines : List (List ℕ))
         (placed : List Placed) → placed_lines member parts above lines ≡ Ok (placed, after)

@@ -93,8 +93,8 @@ fn add_number(text: &mut Vec<u8>, number: u64) -> Result<(), AllocError>
     Ok(())
 }
 
-/// What stands in front of the last closing brace of a line, and what from there on; none where there
-/// is no brace.
+/// What stands in front of the last closing brace of a line, and what from there on; none where
+/// there is no brace.
 fn split_brace(line: &[u8]) -> Option<(&[u8], &[u8])>
     ensures { MatchOption result (list_any is_brace line.now ≡ false)
         (λ parts. IsSplitAtBrace line.now parts.0.now parts.1.now) }

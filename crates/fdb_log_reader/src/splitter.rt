@@ -1,7 +1,7 @@
 //! A log that is cut into parts by its keys, as it is read.
 
-ghost use Rattle.std.specs.Prelude.{◌≡◌, ◌⊎◌, ◌++◌, ◌∷◌, ◌<◌, ◌≤◌, ℕ, List, [], Err, IfOk, MatchResult};
-ghost use Rattle.std.specs.Prelude.{length, slice_index, slice_index_or, slice_set};
+ghost use Rattle.std.specs.Prelude.{◌≡◌, ◌⊎◌, ◌++◌, ◌∷◌, ◌<◌, ◌≤◌, ℕ, List, [], Err, IfOk};
+ghost use Rattle.std.specs.Prelude.{MatchResult, length, slice_index, slice_index_or, slice_set};
 ghost use Rattle.fdb_log_reader.specs.Reading.{lines_in};
 ghost use Rattle.fdb_log_reader.specs.private.{IsOneLine};
 
@@ -11,8 +11,8 @@ use crate::placer::Placer;
 use crate::reader::{MAX_LINE_BYTES, split_line};
 use std::alloc::{AllocError, Global};
 
-/// A log of which a part has been read, cut into parts by the keys of its lines. It keeps of each part
-/// what has come of its text since that was released, and the front of a line that has not ended yet.
+/// A log of which a part has been read, cut into parts by the keys of its lines. It keeps what has
+/// come of the text of each since that was released, and the front of a line that has not ended yet.
 #[derive(Drop)]
 pub struct Splitter {
     placer: Placer,
@@ -67,8 +67,8 @@ impl Splitter {
         self.placer.parts[part].lines
     }
 
-    /// What has been read: how many lines, with those above the first, and which of them are the first
-    /// with times and the first without.
+    /// What has been read: how many lines, with those above the first, and which of them are the
+    /// first with times and the first without.
     pub fn above(&self) -> Above
         ensures { result ≡ above_of self.now }
     {
@@ -87,8 +87,8 @@ impl Splitter {
         its.text.clear();
     }
 
-    /// Reads on. An error names the first line that is refused, by its number, or says that memory was
-    /// refused.
+    /// Reads on. An error names the first line that is refused, by its number, or says that memory
+    /// was refused.
     pub fn feed(mut self, bytes: &[u8]) -> Result<Self, ReadError>
         ensures { MatchResult result
             (λ it. (placed : List Placed) × HasPlaced self bytes.now placed it)

@@ -71,17 +71,6 @@ released asked old new bytes is so =
       counts = λ part lt. ap (λ (counts : List ℕ). slice_index counts part) is.counts ∙ so.counts part lt;
     }
 
-pub same_released : (splitter : Splitter) → HasReleased splitter splitter
-same_released splitter = record { goes = λ rest. refl; counts = refl; parts = refl; above = refl }
-
-pub twice_released : (old mid new : Splitter) → HasReleased old mid → HasReleased mid new → HasReleased old new
-twice_released old mid new one other = record {
-  goes = λ rest. other.goes rest ∙ one.goes rest;
-  counts = other.counts ∙ one.counts;
-  parts = other.parts ∙ one.parts;
-  above = other.above ∙ one.above;
-}
-
 pub begun : (asked : SplitArguments) (it : Splitter) → ((log : List ℕ) → placed_on it log ≡ placed_lines (string_bytes asked.key) asked.parts (below asked.first) (lines_in log))
     → length (texts_of it) ≡ asked.parts → ((part : ℕ) → slice_index (counts_of it) part ≡ 0) → HasCut asked it []
 begun asked it placed parts counts = record {

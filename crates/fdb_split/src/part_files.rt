@@ -1,5 +1,5 @@
-//! The files of the parts of a log. Until all are whole they are in a folder of their own, and a log
-//! that is refused leaves none.
+//! The files of the parts of a log. Until all are whole they are in a folder of their own, and a
+//! log that is refused leaves none.
 
 use std::alloc::Global;
 use std::fs::{Files, OpenOptions, create_dir, exists, remove_dir, remove_file, rename};

@@ -158,8 +158,8 @@ impl Program for Split {
     ghost simple = { refl };
 }
 
-/// Cuts the log of the file that the arguments name or else of the input into parts, and says on `out`
-/// how many lines each has; or writes the help there. Answers the status of the program, as
+/// Cuts the log of the file that the arguments name or else of the input into parts, and says on
+/// `out` how many lines each has; or writes the help there. Answers the status of the program, as
 /// [`fdb_command::drive`] says. Where that is not 0, no part is left.
 pub fn drive<R: Files + Clock, I: Read, O: Write, E: Write>(
     rt: &R,
@@ -169,7 +169,7 @@ pub fn drive<R: Files + Clock, I: Read, O: Write, E: Write>(
     out: &mut O,
     err: &mut E,
 ) -> u8
-    ensures { IsDriven split I.remaining O.contents arguments
+    ensures driven { IsDriven split I.remaining O.contents arguments
         input.old input.new out.old out.new err.old err.new result }
 {
     let program = Split::new();
