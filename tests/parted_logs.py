@@ -1,6 +1,7 @@
-"""The command of examples/README.md by which the parts of a log are judged apart, key by key."""
+"""The commands of examples/README.md by which the parts of a log are judged apart, key by key."""
 import collections
 import glob
+import json
 import os
 import random
 import re
@@ -12,9 +13,9 @@ from audit_search import random_lines, text_of as log_of
 from documents import BLOCK
 from harness import read, run, text_of
 
-COMMAND = next(it for _, it in BLOCK.findall(text_of("examples/README.md")) if "| parallel" in it)
+COMMAND = next(it for _, it in BLOCK.findall(text_of("examples/README.md")) if "parallel" in it)
 # The numbers of lines, which are those of a part, and counts.
-NUMBER = re.compile(rb"\b(Order|Wrong|NotAbove|Twice|Stray|line) \d+")
+NUMBER = re.compile(rb"\b(Order|Wrong|NotAbove|Twice|Stray|line) (\d+)")
 COUNT = re.compile(rb"(\w+) (\d+)")
 
 
@@ -24,14 +25,25 @@ def random_log(dice, count=400):
     return log_of([line for lines in drawn if "began" in lines[0] for line in lines])
 
 
-def told(said):
-    """The faults, each with its reason but for the numbers of lines; and the counts, added up."""
+def told(said, numbers=None):
+    """The faults, each with its reason, by the numbers of their lines; and the counts, added up."""
+    named = lambda it: b"%s %d" % (it[1], numbers[int(it[2]) - 1] if numbers else int(it[2]))
     faults, counts = collections.Counter(), collections.Counter()
     for line in said.splitlines():
         if line.startswith(b"audit fault: "):
-            faults[NUMBER.sub(rb"\1", line)] += 1
+            faults[NUMBER.sub(named, line)] += 1
         else:
             counts.update({word: int(count) for word, count in COUNT.findall(line)})
+    return faults, counts
+
+
+def told_of_parts(folder):
+    """The same of all parts, by the numbers of their lines in the whole log."""
+    faults, counts = collections.Counter(), collections.Counter()
+    for part in glob.glob(f"{folder}/parts/*.jsonl"):
+        numbers = [json.loads(line)["split_line"] for line in read(part).splitlines()]
+        for whole, its in zip((faults, counts), told(read(f"{part}.said"), numbers)):
+            whole.update(its)
     return faults, counts
 
 
@@ -41,7 +53,7 @@ def fault_of_parts(folder, log):
         it.write(log)
     os.symlink(PROGRAM, f"{folder}/fdb_audit")
     ran = run(["bash", "-c", COMMAND], cwd=folder)
-    found = told(b"".join(map(read, glob.glob(f"{folder}/parts/*.said"))))
+    found = told_of_parts(folder)
     wanted = told(run([PROGRAM, "--key", "key", "--all"], log).out)
     return None if found == wanted and wanted[0] else f"{found} for {wanted}; {ran.err[-300:]}"
 

@@ -184,7 +184,7 @@ line_more n (x ∷ xs) rise = by (nat_lt x.line n) (x.line == n) refl refl (line
         let up : nat_lt x.line (suc n) ≡ false = grind (arith, nat_tests) in
         rw (up, lt, is) rest
 
-all_below : (c : Case) (n : ℕ) → All (λ (found : Found). found.line < n) (faults_below c n)
+pub all_below : (c : Case) (n : ℕ) → All (λ (found : Found). found.line < n) (faults_below c n)
 all_below c zero = All-nil (λ (found : Found). found.line < 0)
 all_below c (suc n) =
     All-append (λ (found : Found). found.line < suc n) (faults_below c n) (faults_at c n) (λ i d lt. let less = all_below c n i d lt in omega arith)

@@ -48,6 +48,7 @@ pub mod OnceTold
 pub mod GoneOn
 pub mod Renumbered
 pub mod StandByKey
+pub mod Divided
 pub mod GoneOnByKey
 pub mod Named
 pub mod TakenAway

@@ -1,7 +1,7 @@
 -- An audit is the same where clients and keys are numbered otherwise.
-use Rattle.std.proofs.Common.{◌≡◌, ◌∙◌, ℕ, zero, suc, max, ◌+◌, ◌==◌, ◌<◌, ◌≤◌, nat_le, nat_lt, Bool, cond, ◌&&◌, ◌||◌, not, List, [], ◌∷◌, ◌++◌, Option, None, Some, length, map, slice_index, refl, ap, sym, inl, inr, arith}
+use Rattle.std.proofs.Common.{◌≡◌, ◌∙◌, ℕ, zero, suc, max, ◌+◌, ◌==◌, ◌<◌, ◌≤◌, nat_le, nat_lt, Bool, true, false, cond, ◌&&◌, ◌||◌, not, List, [], ◌∷◌, ◌++◌, Option, None, Some, length, map, slice_index, refl, ap, sym, inl, inr, arith}
 use Rattle.std.specs.List.{filter}
-use Rattle.std.proofs.lemmas.Bool.{cases_lt}
+use Rattle.std.proofs.lemmas.Bool.{cases_lt, eqb-true}
 use Rattle.std.proofs.lemmas.Bool.Decides.{nat_tests}
 use Rattle.std.proofs.lemmas.List.{get_or_past, length-map}
 use Rattle.std.proofs.lemmas.List.Elements.{filter_agree}
@@ -10,17 +10,18 @@ use Rattle.fdb_lines.specs.declared.fault.Fault.TheVariants.{Order, Wrong, NotAb
 use Rattle.fdb_lines.specs.declared.fault.Found.{Found}
 use Rattle.fdb_lines.specs.declared.line.Line.{Line}
 use Rattle.fdb_lines.specs.declared.opts.AuditOpts.{AuditOpts}
-use Rattle.fdb_lines.specs.Before.{began, began_of, ended, ended_before, ended_of, one_client}
+use Rattle.fdb_lines.specs.Audit.{case_of}
+use Rattle.fdb_lines.specs.Before.{began, began_of, by_telling, comes_before, ended, ended_before, ended_of, has_heard, heard_by, is_of, one_client}
 use Rattle.fdb_lines.specs.Carried.{with_times}
 use Rattle.fdb_lines.specs.Faults.{greatest_of, is_drawn, is_own, is_raised, is_reported, is_twice, knows, last, some_below, stands}
 use Rattle.fdb_lines.specs.Keys.{faults_at_by_key, faults_below_by_key, faults_by_key, key_at, place_among, places_below, places_of, same_key, told_at}
-use Rattle.fdb_lines.specs.Lines.{Case, client_at, draws, is_commit, is_read, is_report, kind_at, kind_of, line_at, lines_in, may_be_same_client, nobody, reports, shows, version_at, version_of}
+use Rattle.fdb_lines.specs.Lines.{Case, Lines, client_at, draws, is_commit, is_learn, is_read, is_report, kind_at, kind_of, line_at, lines_in, may_be_same_client, nobody, reports, shows, teller_of, version_at, version_of}
 use Rattle.fdb_lines.specs.Listing.{faults_at, found_if}
 use Rattle.fdb_lines.specs.Renumbered.{AreSameButForNumbers}
 use Rattle.fdb_lines.specs.StandByKey.{audited_from}
 use Rattle.fdb_lines.specs.ToldByKey.{audited, audited_to}
 use Rattle.fdb_lines.specs.Watching.{begins_before, is_watched, opts_of}
-use Rattle.fdb_lines.proofs.Carried.{at_part, here}
+use Rattle.fdb_lines.proofs.Carried.{at_part}
 use Rattle.fdb_lines.proofs.Keyed.{has_place, of_key, same_self}
 
 -- ---- tests on numbers below one, and the greatest of some
@@ -57,15 +58,84 @@ record AreAlike (lines others : List Line) : Type 0 where
   clients : (j k : ℕ) → j < length lines → k < length lines
       → one_client (line_at lines j).client (line_at lines k).client ≡ one_client (line_at others j).client (line_at others k).client
 
-module _ (lines others : List Line) (alike : AreAlike lines others) (opts : AuditOpts) where
+-- no line has learnt
+abbrev NoneLearns : List Line → Type 0
+NoneLearns lines = (k : ℕ) → k < length lines → is_learn (kind_of (line_at lines k).call) ≡ false
+
+-- lines as a log
+abbrev log_of : Bool → List Line → Lines
+log_of timed lines = record { timed = timed; lines = lines }
+
+-- ---- without times, where none has learnt, a call comes before the later ones of its client
+
+and_true : (b : Bool) → (b && true) ≡ b
+and_true true = refl
+and_true false = refl
+
+or_nothing : (b other : Bool) → (b || (other && false)) ≡ b
+or_nothing true other = refl
+or_nothing false true = refl
+or_nothing false false = refl
+
+and_nothing : (b : Bool) → false ≡ (b && false)
+and_nothing true = refl
+and_nothing false = refl
+
+heard_alone : (lines : List Line) (n a j : ℕ) → ((k : ℕ) → k < n → is_learn (kind_of (line_at lines k).call) ≡ false)
+    → has_heard lines n a j ≡ (nat_lt j n && is_of a (line_at lines j).client)
+heard_alone lines zero a j none =
+    let low : nat_lt j 0 ≡ false = grind (arith, nat_tests) in
+    sym (ap (λ b. b && is_of a (line_at lines j).client) low)
+heard_alone lines (suc n) a j none =
+    (λ i. heard_alone lines n a j (λ k lt. none k (omega arith)) i || (is_of a (line_at lines n).client && (n == j || (none n (omega arith) i && has_heard lines n (teller_of (line_at lines n).call) j))))
+    ∙ by (n == j) refl
+  where
+    mine : ℕ → Bool
+    mine k = is_of a (line_at lines k).client
+
+    by : (b : Bool) → (n == j) ≡ b → ((nat_lt j n && is_of a (line_at lines j).client) || (is_of a (line_at lines n).client && (n == j || false)))
+        ≡ (nat_lt j (suc n) && is_of a (line_at lines j).client)
+    by true here =
+        let at : n ≡ j = eqb-true n j here in
+        let low : nat_lt j n ≡ false = grind (arith, nat_tests, at) in
+        let up : nat_lt j (suc n) ≡ true = grind (arith, nat_tests, at) in
+        rw (low, up, here) (and_true (is_of a (line_at lines n).client) ∙ ap (λ k. is_of a (line_at lines k).client) at)
+    by false other =
+        let same : nat_lt j (suc n) ≡ nat_lt j n = grind (arith, nat_tests, other) in
+        rw (same, other) (or_nothing (nat_lt j n && is_of a (line_at lines j).client) (is_of a (line_at lines n).client))
+
+told_alone : (lines : List Line) (j k : ℕ) (client : Option ℕ) → k < length lines → NoneLearns lines
+    → heard_by lines k client j ≡ (nat_lt j k && one_client client (line_at lines j).client)
+told_alone lines j k None lk none = and_nothing (nat_lt j k)
+told_alone lines j k (Some a) lk none =
+    heard_alone lines k a j (λ i lt. none i (omega arith)) ∙ ap (λ b. nat_lt j k && b) (is_one (line_at lines j).client)
+  where
+    is_one : (client : Option ℕ) → is_of a client ≡ one_client (Some a) client
+    is_one None = refl
+    is_one (Some b) = refl
+
+before_alike : (timed : Bool) (margin : ℕ) (lines others : List Line) → AreAlike lines others → (timed ≡ false → NoneLearns lines) → (j k : ℕ) → j < length lines → k < length lines
+    → comes_before timed margin lines j k ≡ comes_before timed margin others j k
+before_alike true margin lines others alike none j k lj lk =
+    ap (λ end. ended_before margin (nat_lt j k) (line_at lines j) end (line_at lines k)) (ap ended_of (alike.times j lj))
+    ∙ before_same margin (nat_lt j k) (line_at lines j) (line_at lines k) (line_at others j) (line_at others k) (ended (line_at others j)) (ap began_of (alike.times k lk)) (alike.clients j k lj lk)
+before_alike false margin lines others alike none j k lj lk =
+    let many = alike.many in
+    told_alone lines j k (line_at lines k).client lk (none refl)
+    ∙ (ap (λ b. nat_lt j k && b) (alike.clients k j lk lj)
+    ∙ sym (told_alone others j k (line_at others k).client (omega arith) (λ i lt. ap (λ call. is_learn (kind_of call)) (sym (alike.calls i (omega arith))) ∙ none refl i (omega arith))))
+
+-- ---- what stands at them
+
+module _ (lines others : List Line) (alike : AreAlike lines others) (timed : Bool) (none : timed ≡ false → NoneLearns lines) (opts : AuditOpts) where
   abbrev n : ℕ
   n = length lines
 
   abbrev c : Case
-  c = here lines opts
+  c = case_of (log_of timed lines) opts
 
   abbrev d : Case
-  d = here others opts
+  d = case_of (log_of timed others) opts
 
   kinds : (k : ℕ) → k < n → kind_at c k ≡ kind_at d k
   kinds k lt = ap kind_of (alike.calls k lt)
@@ -74,9 +144,7 @@ module _ (lines others : List Line) (alike : AreAlike lines others) (opts : Audi
   versions k lt = ap version_of (alike.calls k lt)
 
   before : (j k : ℕ) → j < n → k < n → c.before j k ≡ d.before j k
-  before j k lj lk =
-      ap (λ end. ended_before opts.margin (nat_lt j k) (line_at lines j) end (line_at lines k)) (ap ended_of (alike.times j lj))
-      ∙ before_same opts.margin (nat_lt j k) (line_at lines j) (line_at lines k) (line_at others j) (line_at others k) (ended (line_at others j)) (ap began_of (alike.times k lk)) (alike.clients j k lj lk)
+  before = before_alike timed opts.margin lines others alike none
 
   may : (j k : ℕ) → j < n → k < n → may_be_same_client (client_at c j) (client_at c k) ≡ may_be_same_client (client_at d j) (client_at d k)
   may j k lj lk =
@@ -166,9 +234,15 @@ part_alike lines others places alike within = record {
     inside : (k : ℕ) → k < length (lines_in lines places) → k < length places
     inside k lt = omega (arith, length-map places (line_at lines))
 
+none_of_part : (lines : List Line) (places : List ℕ) → ((i : ℕ) → i < length places → slice_index places i < length lines) → NoneLearns lines → NoneLearns (lines_in lines places)
+none_of_part lines places within none k lt =
+    let inside : k < length places = omega (arith, length-map places (line_at lines)) in
+    ap (λ (line : Line). is_learn (kind_of line.call)) (at_part lines places k inside) ∙ none (slice_index places k) (within k inside)
+
 -- ---- logs that are the same but for numbers
 
-module _ (lines others : List Line) (keys other_keys : List (Option ℕ)) (same : AreSameButForNumbers lines keys others other_keys) where
+module _ (lines others : List Line) (keys other_keys : List (Option ℕ)) (same : AreSameButForNumbers lines keys others other_keys)
+    (timed : Bool) (none : timed ≡ false → NoneLearns lines) where
   alike : AreAlike lines others
   alike = record { many = same.calls.as_many; calls = same.calls.calls; times = same.calls.times; clients = same.clients }
 
@@ -182,7 +256,7 @@ module _ (lines others : List Line) (keys other_keys : List (Option ℕ)) (same 
       ∙ ap (places_below other_keys (key_at other_keys k)) (same.calls.keyed ∙ (same.calls.as_many ∙ sym same.calls.others_keyed))
 
   line_alike : (opts : AuditOpts) (k : ℕ) → k < length lines
-      → faults_at_by_key (with_times lines) keys opts k ≡ faults_at_by_key (with_times others) other_keys opts k
+      → faults_at_by_key (log_of timed lines) keys opts k ≡ faults_at_by_key (log_of timed others) other_keys opts k
   line_alike opts k lk =
       let places = places_of keys (key_at keys k) in
       let many = same.calls.keyed in
@@ -191,17 +265,26 @@ module _ (lines others : List Line) (keys other_keys : List (Option ℕ)) (same 
       let there = (of_key keys (key_at keys k) places refl i li).0 in omega arith in
       let inside : place_among keys k < length (lines_in lines places) = (let lt = has.0 in omega (arith, length-map places (line_at lines))) in
       ap (map (told_at k))
-      (faults_alike (lines_in lines places) (lines_in others places) (part_alike lines others places alike within) opts (place_among keys k) inside
-      ∙ (λ i. faults_at (here (lines_in others (all_places k lk i)) opts) (length (places_alike k k lk (omega arith) i))))
+      (faults_alike (lines_in lines places) (lines_in others places) (part_alike lines others places alike within) timed (λ is. none_of_part lines places within (none is)) opts (place_among keys k) inside
+      ∙ (λ i. faults_at (case_of (log_of timed (lines_in others (all_places k lk i))) opts) (length (places_alike k k lk (omega arith) i))))
 
   below_alike : (opts : AuditOpts) (n : ℕ) → n ≤ length lines
-      → faults_below_by_key (with_times lines) keys opts n ≡ faults_below_by_key (with_times others) other_keys opts n
+      → faults_below_by_key (log_of timed lines) keys opts n ≡ faults_below_by_key (log_of timed others) other_keys opts n
   below_alike opts zero le = refl
   below_alike opts (suc n) le = λ i. below_alike opts n (omega arith) i ++ line_alike opts n (omega arith) i
 
+  pub faults_of_both : (opts : AuditOpts) → faults_by_key (log_of timed lines) keys opts ≡ faults_by_key (log_of timed others) other_keys opts
+  faults_of_both opts =
+      below_alike opts (length lines) (omega arith) ∙ ap (faults_below_by_key (log_of timed others) other_keys opts) same.calls.as_many
+
+-- ---- and have times
+
+module _ (lines others : List Line) (keys other_keys : List (Option ℕ)) (same : AreSameButForNumbers lines keys others other_keys) where
   pub found_alike : (opts : AuditOpts) → faults_by_key (with_times lines) keys opts ≡ faults_by_key (with_times others) other_keys opts
-  found_alike opts =
-      below_alike opts (length lines) (omega arith) ∙ ap (faults_below_by_key (with_times others) other_keys opts) same.calls.as_many
+  found_alike opts = faults_of_both lines others keys other_keys same true (λ is. absurd (not_both is)) opts
+    where
+      not_both : true ≡ false → ⊥
+      not_both is = cc
 
   pub audited_alike : (margin : ℕ) → audited margin lines keys ≡ audited margin others other_keys
   audited_alike margin = ap (filter (λ (found : Found). is_watched found.fault)) (found_alike (opts_of margin))

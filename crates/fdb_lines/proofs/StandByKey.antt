@@ -55,13 +55,13 @@ one_if f true n = refl
 one_if f false n = refl
 
 module _ (keys : List (Option ℕ)) (places : List ℕ) (q : Option ℕ) where
-  abbrev is_its : ℕ → Bool
+  abbrev pub is_its : ℕ → Bool
   is_its k = same_key (key_at keys k) q
 
-  abbrev its : List ℕ
+  abbrev pub its : List ℕ
   its = filter is_its places
 
-  abbrev there : List ℕ
+  abbrev pub there : List ℕ
   there = places_of (keys_in keys places) q
 
   below_are : (n : ℕ) → n ≤ length places → map (slice_index places) (places_below (keys_in keys places) q n) ≡ filter is_its (take n places)
@@ -74,15 +74,15 @@ module _ (keys : List (Option ℕ)) (places : List ℕ) (q : Option ℕ) where
       ∙ one_if (slice_index places) (is_its (slice_index places n)) n)
       ∙ (sym (filter_more is_its places n 0 (omega arith)) ∙ ap (λ m. filter is_its (take m places)) (add-one n))))
 
-  many : length (keys_in keys places) ≡ length places
+  pub many : length (keys_in keys places) ≡ length places
   many = length-map places (key_at keys)
 
-  there_are : map (slice_index places) there ≡ its
+  pub there_are : map (slice_index places) there ≡ its
   there_are =
       ap (λ n. map (slice_index places) (places_below (keys_in keys places) q n)) many
       ∙ (below_are (length places) (omega arith) ∙ ap (filter is_its) (take_all (length places) places (omega arith)))
 
-  there_within : (i : ℕ) → i < length there → slice_index there i < length places
+  pub there_within : (i : ℕ) → i < length there → slice_index there i < length places
   there_within i lt = let is = (place_is (keys_in keys places) q (length (keys_in keys places)) i lt).0 in omega (arith, many)
 
   module _ (within : All (λ k. k < length keys) places) where
@@ -99,7 +99,7 @@ module _ (keys : List (Option ℕ)) (places : List ℕ) (q : Option ℕ) where
 
 -- ---- what they tell, told at the places of all
 
-placed_on : (mine numbers : List ℕ) (found : List Found) → All (λ (one : Found). one.line < length numbers) found
+pub placed_on : (mine numbers : List ℕ) (found : List Found) → All (λ (one : Found). one.line < length numbers) found
     → map (placed_found mine) (map (placed_found numbers) found) ≡ map (placed_found (map (slice_index mine) numbers)) found
 placed_on mine numbers found within =
     map-map (placed_found mine) (placed_found numbers) found

@@ -23,4 +23,5 @@ pub mod KeyWatch
 pub mod ToldByKey
 pub mod Renumbered
 pub mod StandByKey
+pub mod Divided
 pub mod private

@@ -15,6 +15,7 @@ ghost use Rattle.fdb_lines.specs.declared.reason.Finding.{Finding};
 ghost use Rattle.fdb_lines.specs.Audit.{AreExplained, case_of};
 ghost use Rattle.fdb_lines.specs.Before.{began};
 ghost use Rattle.fdb_lines.specs.Carried.{with_times, AreLeftBelow, StandFor};
+ghost use Rattle.fdb_lines.specs.Divided.{faults_by_part, LearnsNothing};
 ghost use Rattle.fdb_lines.specs.KeyWatch.{HasSeenByKey};
 ghost use Rattle.fdb_lines.specs.Keys.{case_of_key, faults_by_key, key_at, placed_found};
 ghost use Rattle.fdb_lines.specs.Keys.{places_of, same_key};
@@ -299,4 +300,19 @@ pub fn logs_that_say_the_same_differ_in_numbers_alone()
         → AreNamedApart other_naming others other_keys
         → SayTheSame naming other_naming lines keys others other_keys
         → AreSameButForNumbers lines keys others other_keys }
+{}
+
+/// A log that is divided into parts by its keys has the faults of its parts, each once, and no others,
+/// where the lines of each part are audited as a log of their own, and what is found is told at their
+/// places in the whole log. How clients and keys are numbered in them does not matter, with times or
+/// without.
+pub fn the_faults_of_its_parts_are_those_of_a_log()
+    ensures parts { (log : Lines) (keys : List (Option ℕ)) (opts : AuditOpts)
+        (rule : Option ℕ → ℕ) (parts : ℕ) → length keys ≡ length log.lines
+        → ((key : Option ℕ) → rule key < parts)
+        → IsPermutation (faults_by_part log keys opts rule parts) (faults_by_key log keys opts) }
+    ensures numbers { (log other : Lines) (keys other_keys : List (Option ℕ)) (opts : AuditOpts)
+        → LearnsNothing log → log.timed ≡ other.timed
+        → AreSameButForNumbers log.lines keys other.lines other_keys
+        → faults_by_key log keys opts ≡ faults_by_key other other_keys opts }
 {}

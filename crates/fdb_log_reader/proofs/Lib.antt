@@ -14,3 +14,7 @@ pub mod NamedOnce
 pub mod Behind
 pub mod Alike
 pub mod Apart
+pub mod Braces
+pub mod Placed
+pub mod InParts
+pub mod KeyedLines

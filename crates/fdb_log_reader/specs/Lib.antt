@@ -10,4 +10,6 @@ pub mod Reader
 pub mod ReadLine
 pub mod Named
 pub mod LineReader
+pub mod Split
+pub mod Splitter
 pub mod private

@@ -1,7 +1,9 @@
 -- What a log and its names owe each other, and what a line has not. (this product's own)
 pub mod Codes
+pub mod Counting
 pub mod Feeding
 pub mod Following
+pub mod Placing
 pub mod Texts
 pub mod Usual
 use Rattle.std.specs.Prelude.{◌≡◌, ℕ, ◌≤◌, false, List, All, length, map, Option, IfSome, option_map}

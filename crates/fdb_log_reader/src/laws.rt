@@ -1,9 +1,11 @@
 //! Laws of the definitions. The functions do nothing: each stands for its contract.
 
-ghost use Rattle.std.specs.Prelude.{ℕ, ◌<◌, ◌≡◌, ◌^◌, ◌++◌, ◌∷◌, [], All, IfOk, List, Option, Some};
-ghost use Rattle.std.specs.Prelude.{String, decimal, false, length, map, option_and_then};
-ghost use Rattle.std.specs.Prelude.{string_bytes};
+ghost use Rattle.std.specs.Prelude.{ℕ, ◌+◌, ◌<◌, ◌≡◌, ◌^◌, ◌++◌, ◌∷◌, [], All, IfOk, List};
+ghost use Rattle.std.specs.Prelude.{Ok, Option, Some, String, decimal, false, length, map};
+ghost use Rattle.std.specs.Prelude.{option_and_then, string_bytes};
+ghost use Rattle.std.specs.List.{range_with_len};
 ghost use Rattle.std.specs.declared.alloc.Global.{Global};
+ghost use Rattle.fdb_log_reader.specs.declared.above.Above.{Above};
 ghost use Rattle.fdb_log_reader.specs.declared.line_reader.LineReader.{LineReader};
 ghost use Rattle.fdb_log_reader.specs.LineReader.{AreMore, lines_on};
 ghost use Rattle.fdb_log_reader.specs.Members.{whole};
@@ -11,6 +13,7 @@ ghost use Rattle.fdb_log_reader.specs.Named.{HaveOneNumber, named_if};
 ghost use Rattle.fdb_log_reader.specs.ReadLine.{are_full, lines_read, member_in, names_behind};
 ghost use Rattle.fdb_log_reader.specs.ReadLine.{no_names, text_says, IsNumbered, LineNames};
 ghost use Rattle.fdb_log_reader.specs.Reading.{lines_in, EndsALine};
+ghost use Rattle.fdb_log_reader.specs.Split.{key_of_line, part_of_key, placed_lines, Placed};
 
 /// Behind any lines the keys are still in the member that they were in.
 pub fn keys_stay_in_one_member()
@@ -64,4 +67,23 @@ pub fn digits_are_read_as_their_number()
     ensures { (text : String Global) (number : ℕ) → number < 2 ^ 64
         → string_bytes text ≡ decimal number
         → option_and_then whole (text_says (Some text)) ≡ Some number }
+{}
+
+/// A log that is cut has each of its lines once, in order, under numbers that rise by one, each in
+/// one of the parts: all lines of a key are in the same.
+pub fn each_line_is_of_one_part()
+    ensures lines { (member : List ℕ) (parts : ℕ) (above after : Above) (lines : List (List ℕ))
+        (placed : List Placed) → placed_lines member parts above lines ≡ Ok (placed, after)
+        → map (λ (it : Placed). it.line) placed ≡ lines }
+    ensures numbers { (member : List ℕ) (parts : ℕ) (above after : Above) (lines : List (List ℕ))
+        (placed : List Placed) → placed_lines member parts above lines ≡ Ok (placed, after)
+        → map (λ (it : Placed). it.number) placed
+        ≡ range_with_len (above.count + 1) (length lines) }
+    ensures parts { (member : List ℕ) (parts : ℕ) (above after : Above) (lines : List (List ℕ))
+        (placed : List Placed) → 0 < parts
+        → placed_lines member parts above lines ≡ Ok (placed, after)
+        → All (λ (it : Placed). it.part < parts) placed }
+    ensures keys { (member : List ℕ) (parts : ℕ) (above after : Above) (lines : List (List ℕ))
+        (placed : List Placed) → placed_lines member parts above lines ≡ Ok (placed, after)
+        → All (λ (it : Placed). it.part ≡ part_of_key parts (key_of_line member it.line)) placed }
 {}

@@ -46,7 +46,7 @@ pub(crate) fn value_of(alloc: Global, bytes: &[u8]) -> Result<Value, Why>
 
 /// The number that a text writes: by digits alone, below 2^64. Zeros may stand before them.
 #[tactic(auto, using(crate::proofs::Digits::with_plus, crate::proofs::Digits::without_plus))]
-fn written(text: &str) -> Option<u64>
+pub fn written(text: &str) -> Option<u64>
     ensures { result ≡ written text.now }
 {
     let first = text.as_bytes().first().copied();

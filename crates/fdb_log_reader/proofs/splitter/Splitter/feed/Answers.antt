@@ -1,0 +1,12 @@
+use Rattle.std.proofs.Common.{[], ◌∷◌, ◌++◌, subst, sym}
+use Rattle.std.proofs.lemmas.Result.{err_from_is_err_and}
+use Rattle.fdb_log_reader.proofs.Placed.{all_fed, goes_on, stops}
+use Rattle.fdb_log_reader.proofs.splitter.Splitter.feed.Goals as goal
+
+pub loop-line-preserved : goal.loop-line-preserved
+loop-line-preserved c =
+    let (placed, so) = c.loop-line.invariant in
+    let read = c.in_ok-self.ensures in (
+      placed ++ read.0 ∷ [],
+      goes_on c.args.self c.loop-line.self c.in_ok-self.self c.args.bytes.now c.loop-line.rest.now c.in-Some.line.now c.in-Some.after.now placed so c.in-Some.ensures.0 read,
+    )

@@ -1,0 +1,13 @@
+//! A log that is cut into parts by its keys, each a file of a folder: the program.
+#![tactic(auto)]
+
+mod arguments;
+mod asked;
+mod counts_text;
+mod part_files;
+mod split_program;
+mod splitting;
+
+pub use asked::SplitArguments;
+pub use split_program::{MAX_SPLIT_BYTES, Split, drive};
+pub use splitting::Splitting;

@@ -1,0 +1,187 @@
+"""What a worker does for audit_on_dask: fdb_audit cuts a block of a log, or judges a part."""
+import json
+import os
+import re
+import subprocess
+import tempfile
+from array import array
+from typing import NamedTuple
+
+from distributed import get_worker
+
+# What fdb_audit says of a line that it refuses, and the line's number.
+REFUSED = re.compile(rb"fdb_audit: logs refused: \w+ (\d+)")
+# The number of a line of a part in the whole log, as fdb_audit writes it behind the last member.
+NUMBER = re.compile(rb',"split_line":(\d+)(?=}[ \t\r]*\n)')
+# In a fault, where a line is named by its number, and what is shown of one; a name or a text there.
+NAMED = re.compile(
+    r'"(?:at|first|by|teller|reported|drawn)":{"line":(?P<number>\d+)|(?P<shown>"members":{)'
+)
+NAME = re.compile(r'"(?:[^"\\]|\\.)*":')
+# A line that no log refuses for its own sake, with times and without.
+GOOD = {True: b'{"read":1,"began":0,"ended":0}\n', False: b'{"client":"a","read":1}\n'}
+# What is kept of a line to be refused: one byte more than a line may have.
+MOST_BYTES = 1_048_577
+DONE, LOG_REFUSED, FAULT = 0, 1, 4
+
+
+class Asked(NamedTuple):
+    """How a log is cut and judged."""
+
+    program: str
+    key: str
+    parts: int
+    arguments: tuple[str, ...]
+
+
+class Cut(NamedTuple):
+    """What became of a block: the lines of each part, and the first with times and without.
+
+    Where a line of it is refused, these are of the lines above it, and `refused` is its number.
+    What fdb_audit says where it ends otherwise is in `said`.
+    """
+
+    counts: list[int]
+    timed: int | None = None
+    untimed: int | None = None
+    refused: int | None = None
+    status: int = DONE
+    said: bytes = b""
+
+
+class Judged(NamedTuple):
+    """How an audit of a part ended, its faults, a line each, and its totals."""
+
+    status: int
+    said: bytes
+    faults: bytes
+    totals: bytes
+
+
+def folder():
+    """A folder of a task's own, where its worker has its files."""
+    try:
+        return tempfile.TemporaryDirectory(dir=get_worker().local_directory)
+    except ValueError:
+        return tempfile.TemporaryDirectory()
+
+
+def sizes(block):
+    """How many lines a block has, and how many bytes."""
+    return block.count(b"\n") + (not block.endswith(b"\n") and bool(block)), len(block)
+
+
+def split(block, first, asked, into):
+    """Runs fdb_audit on a block, below so many lines."""
+    words = ["--split", str(asked.parts), "--into", into, "--key", asked.key, "--first", str(first)]
+    return subprocess.run([asked.program, *words], input=block, capture_output=True)
+
+
+def cut(block, first, asked):
+    """Cuts a block below so many lines: what became of it, and the piece of each part."""
+    with folder() as own:
+        into = f"{own}/parts"
+        ran = split(block, first, asked, into)
+        if ran.returncode == DONE:
+            told = json.loads(ran.stdout)
+            names = (f"{into}/{part:04}.jsonl" for part in range(asked.parts))
+            pieces = [read(it) if os.path.exists(it) else b"" for it in names]
+            return Cut(told["parts"], told["timed"], told["untimed"]), pieces
+        refused = REFUSED.match(ran.stderr)
+        if ran.returncode != LOG_REFUSED or not refused:
+            return Cut([], status=ran.returncode, said=ran.stderr), []
+        number = int(refused[1])
+        above, _ = cut(lines_above(block, number - first - 1), first, asked)
+        return above._replace(counts=[], refused=number), []
+
+
+def read(file):
+    with open(file, "rb") as it:
+        return it.read()
+
+
+def lines_above(block, count):
+    """The first so many lines of a block."""
+    end = 0
+    for _ in range(count):
+        end = block.index(b"\n", end) + 1
+    return block[:end]
+
+
+def refusal(block, first, number, timed, asked):
+    """What is said of a line that is refused, by its number, below lines with times or without."""
+    at = len(lines_above(block, number - first - 1))
+    end = block.find(b"\n", at)
+    line = block[at : len(block) if end < 0 else end][:MOST_BYTES]
+    above = GOOD.get(timed, b"")
+    with folder() as own:
+        return split(above + line, number - 1 - bool(above), asked, f"{own}/parts").stderr
+
+
+def other_times(number, timed, asked):
+    """What is said of a line that has times where those above it have none, or the reverse."""
+    with folder() as own:
+        return split(GOOD[timed] + GOOD[not timed], number - 2, asked, f"{own}/parts").stderr
+
+
+def info(made):
+    """What became of a block, without its pieces."""
+    return made[0]
+
+
+def piece(made, part):
+    return made[1][part]
+
+
+def judge(pieces, asked):
+    """Judges a part, which is made of a piece of each block; none where it has no line."""
+    numbers = array("Q")
+    with folder() as own:
+        log, said = f"{own}/part.jsonl", f"{own}/said"
+        with open(log, "wb") as to:
+            for it in pieces:
+                numbers.extend(map(int, NUMBER.findall(it)))
+                to.write(NUMBER.sub(b"", it))
+        if not numbers:
+            return Judged(DONE, b"", b"", b"")
+        words = [log, "--key", asked.key, "--json", *asked.arguments]
+        with open(said, "wb") as out:
+            ran = subprocess.run([asked.program, *words], stdout=out, stderr=subprocess.PIPE)
+        faults, totals = [], []
+        with open(said, encoding="utf-8", newline="\n") as lines:
+            for text in lines:
+                is_fault = text.startswith('{"fault":')
+                (faults if is_fault else totals).append(
+                    renumbered(text, numbers) if is_fault else text
+                )
+    return Judged(ran.returncode, ran.stderr, "".join(faults).encode(), "".join(totals).encode())
+
+
+def renumbered(text, numbers):
+    """A fault, each line of it by its number in the whole log."""
+    made, done, at = [], 0, 0
+    while found := NAMED.search(text, at):
+        at = found.end()
+        if found["shown"]:
+            at = shown_until(text, at)
+        else:
+            made += [text[done : found.start("number")], str(numbers[int(found["number"]) - 1])]
+            done = at
+    return "".join(made) + text[done:]
+
+
+def shown_until(text, at):
+    """Where what is shown of a line ends, which may look like a fault."""
+    while name := NAME.match(text, at):
+        at = json.JSONDecoder().raw_decode(text, name.end())[1] + 1
+    return at
+
+
+def ending(judged):
+    """How an audit of a part ended, with its totals, and how many bytes its faults have."""
+    return judged._replace(faults=b""), len(judged.faults)
+
+
+def faults_from(judged, at, size):
+    """Some bytes of the faults of a part."""
+    return judged.faults[at : at + size]
