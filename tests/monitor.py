@@ -196,7 +196,7 @@ def fault_of_log(log, sent):
     size, late = sum(map(len, wanted)), time.monotonic() + SECONDS
     while (not os.path.exists(log) or os.path.getsize(log) < size) and time.monotonic() < late:
         time.sleep(0.05)
-    found = sorted(read(log).splitlines(keepends=True))
+    found = sorted(read(log).splitlines(keepends=True)) if os.path.exists(log) else []
     return None if found == wanted else f"{len(found)} lines in place of {len(wanted)}"
 
 
@@ -206,36 +206,41 @@ def collected(_program):
     sent = [lines_sent(f"c{it}") for it in range(MACHINES)]
     with tempfile.TemporaryDirectory() as folder:
         log = f"{folder}/calls.jsonl"
-        words = ["sh", "-c", f"exec grep --line-buffered '' >> '{log}'"]
+        words = ["sh", "-c", f"exec grep -a --line-buffered '' >> '{log}'"]
         greps = [subprocess.Popen(words, stdin=subprocess.PIPE, bufsize=0) for _ in sent]
         send_all(sent, [it.stdin.write for it in greps])
         for it in greps:
             it.communicate(timeout=SECONDS)
         yield "grep", fault_of_log(log, sent)
-    if not RSYSLOG:
+    if RSYSLOG:
+        yield "rsyslog", by_rsyslog(sent)
+    else:
         print("(no rsyslog here) ", end="")
-        yield "without rsyslog", None
-        return
+
+
+def by_rsyslog(sent):
+    """How a log differs from what was sent to rsyslog at once, or None."""
     with tempfile.TemporaryDirectory() as folder:
-        log, settings = f"{folder}/calls.jsonl", text_of(f"{FOLDER}/rsyslog.conf")
+        log, links = f"{folder}/calls.jsonl", []
+        settings = text_of(f"{FOLDER}/rsyslog.conf").replace("/var/log/calls.jsonl", log)
+        words = ["setpriv", "--pdeathsig", "KILL", RSYSLOG, "-n", "-f", f"{folder}/rsyslog.conf",
+                 "-i", f"{folder}/pid"]
         for _ in range(TRIES):
             [port] = free_ports(1)
             with open(f"{folder}/rsyslog.conf", "w", encoding="utf-8") as file:
-                file.write(settings.replace("/var/log/calls.jsonl", log).replace("5170", str(port)))
-            words = ["setpriv", "--pdeathsig", "KILL", RSYSLOG, "-n", "-f", file.name, "-i",
-                     f"{folder}/pid"]
+                file.write(settings.replace("5170", str(port)))
             with subprocess.Popen(words, stderr=subprocess.DEVNULL) as started:
-                links = [connected(started, port) for _ in sent]
-                if all(links):
-                    send_all(sent, [it.sendall for it in links])
-                for it in filter(None, links):
-                    it.close()
-                fault = fault_of_log(log, sent) if all(links) else "it did not begin"
-                started.kill()
-            # (another may have taken the port)
-            if all(links):
-                break
-        yield "rsyslog", fault
+                try:
+                    links = [*filter(None, (connected(started, port) for _ in sent))]
+                    # (another may have taken the port)
+                    if len(links) == len(sent):
+                        send_all(sent, [it.sendall for it in links])
+                        return fault_of_log(log, sent)
+                finally:
+                    for it in links:
+                        it.close()
+                    started.kill()
+        return "it did not begin"
 
 
 def connected(started, port):
