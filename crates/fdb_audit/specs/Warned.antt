@@ -1,5 +1,5 @@
 -- What is said on standard error of a log that is followed. (this product's own)
-use Rattle.std.specs.Prelude.{◌≡◌, ℕ, ◌+◌, ◌<◌, ◌≤◌, ◌++◌, All, IfSome, List, [], ◌∷◌, Option, None, Some, Result, Ok, Err, codes, decimal, drop, is_some, length, map, nat_lt, slice_get}
+use Rattle.std.specs.Prelude.{◌≡◌, ℕ, ◌+◌, ◌<◌, ◌≤◌, ◌++◌, All, IfSome, List, [], ◌∷◌, Option, None, Some, Result, Ok, Err, codes, decimal, drop, is_some, length, map, nat_lt, option_map, slice_get, string_bytes}
 use Rattle.std.specs.List.{filter, filter_map, flat_map, range_with_len}
 use Rattle.std.specs.Int.{is_power_of_two}
 use Rattle.fdb_log_reader.specs.declared.error.ReadError.{ReadError}
@@ -8,6 +8,7 @@ use Rattle.fdb_log_reader.specs.declared.error.Why.TheVariants.{Empty, TooLong, 
 use Rattle.fdb_log_reader.specs.declared.member.Member.TheVariants.{Client, Read, Commit, Ask, Report, Learn, Began, Ended}
 use Rattle.fdb_log_reader.specs.ReadLine.{SaidLine}
 use Rattle.fdb_log_reader.specs.Text.{error_text}
+use Rattle.fdb_audit.specs.declared.refused.KeptFault.{KeptFault}
 use Rattle.fdb_audit.specs.declared.refused.KeptRefused.{KeptRefused}
 use Rattle.fdb_audit.specs.declared.refused.LogsRefused.{LogsRefused}
 use Rattle.fdb_audit.specs.declared.refused.LogsRefused.TheVariants.{Early, Kept, Log}
@@ -50,10 +51,18 @@ kept_refusal number None = codes "NotKept " ++ decimal number ++ codes ": no lin
 abbrev pub kept_refused_text : KeptRefused → List ℕ
 kept_refused_text refused = codes "kept lines refused: " ++ kept_refusal refused.line refused.why
 
+-- where they are kept, and by which arguments, if that is said
+abbrev pub kept_in : List ℕ → Option (List ℕ) → List ℕ
+kept_in file None = 10 ∷ codes "fdb_audit: kept in " ++ file
+kept_in file (Some words) = 10 ∷ codes "fdb_audit: kept in " ++ file ++ codes " by " ++ words
+
+abbrev pub kept_fault_text : KeptFault → List ℕ
+kept_fault_text fault = kept_refused_text fault.refused ++ kept_in (string_bytes fault.file) (option_map string_bytes fault.made_by)
+
 abbrev pub refused_text : LogsRefused → List ℕ
 refused_text (Log error) = codes "logs refused: " ++ caused_text error
 refused_text (Early number) = codes "logs refused: Early " ++ decimal number ++ codes ": it began before what had been settled"
-refused_text (Kept refused) = kept_refused_text refused
+refused_text (Kept fault) = kept_fault_text fault
 
 -- ---- what is said of lines
 

@@ -37,6 +37,8 @@ const FOLLOW_HELP: &str = "Watch the log as it grows: lines may begin N behind t
 
 const KEEP_HELP: &str = "Go on from the lines in FILE, and keep there those that yet matter";
 
+const POSITION_HELP: &str = "Keep in FILE, too, what the last line has in this member";
+
 const KEY_HELP: &str = "The member that names a line's key: each key is judged by itself";
 
 const SHOW_HELP: &str = "Members, parted by commas, that are printed with each line that is told";
@@ -52,6 +54,8 @@ pub struct AuditArguments {
     pub wanted: Wanted,
     /// Where the lines are kept of a log that is followed, if they are to be.
     pub keep: Option<String>,
+    /// The member of which the last line's text is kept with them, if one is.
+    pub position: Option<String>,
     /// The member that names a line's key, if each key is to be judged by itself.
     pub key: Option<String>,
     /// The members that are printed beside each call.
@@ -147,7 +151,7 @@ fn members_in(alloc: Global, text: &str) -> Result<Vec<String>, AllocError>
     Ok(members)
 }
 
-/// The command that clap is given: one file, three numbers from 0 to 2^63 - 1, three texts, and
+/// The command that clap is given: one file, three numbers from 0 to 2^63 - 1, four texts, and
 /// five flags.
 pub(crate) fn command<'a>(alloc: Global) -> Result<Command<'a>, AllocError>
     ensures { IfOk result (λ made. app_of made ≡ command) }
@@ -168,6 +172,7 @@ pub(crate) fn command<'a>(alloc: Global) -> Result<Command<'a>, AllocError>
     .arg(number_argument(alloc, "margin", 0, i64::MAX, "N", MARGIN_HELP))?
     .arg(number_argument(alloc, "follow", 0, i64::MAX, "N", FOLLOW_HELP))?
     .arg(text_argument(alloc, "keep", "FILE", KEEP_HELP))?
+    .arg(text_argument(alloc, "position", "MEMBER", POSITION_HELP))?
     .arg(text_argument(alloc, "key", "MEMBER", KEY_HELP))?
     .arg(text_argument(alloc, "show", "MEMBERS", SHOW_HELP))?
     .arg(flag_argument(

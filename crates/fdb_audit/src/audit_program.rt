@@ -69,7 +69,8 @@ impl Program for Audit {
         let follow = number(matches, "follow");
         let wanted = wanted_of(matches);
         let keep = text(matches, "keep");
-        if is_unfit(follow, complete, wanted, keep.is_some()) {
+        let position = text(matches, "position");
+        if is_unfit(follow, complete, wanted, keep, position) {
             return Err(ArgumentsFault::Refused);
         }
         Ok(AuditArguments {
@@ -80,6 +81,7 @@ impl Program for Audit {
             follow,
             wanted,
             keep: owned(alloc, keep)?,
+            position: owned(alloc, position)?,
             key: owned(alloc, text(matches, "key"))?,
             shown: member_names(alloc, text(matches, "show"))?,
             progress: is_given(matches, "progress"),
@@ -184,12 +186,22 @@ impl AuditIntake {
 }
 
 /// Whether a log is to be followed and what needs all of it is asked for; or is not to be followed,
-/// and lines of it are to be kept.
-fn is_unfit(follow: Option<u64>, complete: Option<u64>, wanted: Wanted, keeps: bool) -> bool
+/// and lines of it are to be kept; or none are, and where the last one stands is.
+fn is_unfit(
+    follow: Option<u64>,
+    complete: Option<u64>,
+    wanted: Wanted,
+    keep: Option<&str>,
+    position: Option<&str>,
+) -> bool
     ensures { result ≡ (is_some follow && (is_some complete || wanted.history)
-        || (keeps && not (is_some follow))) }
+        || ((is_some keep.entry && not (is_some follow))
+        || (is_some position.entry && not (is_some keep.entry)))) }
 {
-    follow.is_some() && (complete.is_some() || wanted.history) || (keeps && !follow.is_some())
+    let needs_all = follow.is_some() && (complete.is_some() || wanted.history);
+    let keeps_none = keep.is_some() && follow.is_none();
+    let has_no_place = position.is_some() && keep.is_none();
+    needs_all || (keeps_none || has_no_place)
 }
 
 /// Tells what has become certain of a log that is followed.

@@ -12,21 +12,17 @@ ghost use Rattle.fdb_audit.specs.declared.arguments.AuditArguments.{AuditArgumen
 use crate::arguments::AuditArguments;
 use crate::fault::LogFault;
 use crate::follower::{Followed, Follower, Said, Stopped};
+use crate::kept_file::{Keeper, read_kept};
 use crate::pace::{Pace, SECOND, moment};
 use crate::progress::Reporter;
 use crate::refused::LogsRefused;
 use fdb_command::Failure;
 use std::alloc::{AllocError, Global};
-use std::fs::{File, Files, OpenFile, rename};
-use std::io;
-use std::io::{ErrorKind, Read, Write};
+use std::fs::Files;
 use std::time::Clock;
 
 /// What stops the program.
 type Stop = Failure<LogsRefused, LogFault>;
-
-/// What is behind the name of the file in that of the new one, until that is renamed.
-const NEW: &str = ".new";
 
 /// It settles in a twentieth of the time, where that takes long for each line that came; what takes
 /// less than a twentieth of a second is done at once.
@@ -34,14 +30,6 @@ const SETTLING: Pace = Pace {
     times: 20,
     least: 0,
     ahead: SECOND,
-    due: 0,
-};
-
-/// The file is written in a fiftieth of the time, and at most once a second.
-const KEEPING: Pace = Pace {
-    times: 50,
-    least: SECOND,
-    ahead: 0,
     due: 0,
 };
 
@@ -55,19 +43,6 @@ pub struct FollowedLog {
     settling: Pace,
     /// Whether bytes have come since something was told: where none have, the log has ended.
     has_grown: bool,
-}
-
-/// The file in which lines are kept.
-#[derive(Drop)]
-struct Keeper {
-    file: String,
-    /// The name of the new file.
-    new_file: String,
-    /// How many lines had been taken of what it has.
-    taken: u64,
-    /// How many of them had come when that had settled last.
-    settled: u64,
-    pace: Pace,
 }
 
 impl FollowedLog {
@@ -108,9 +83,10 @@ impl FollowedLog {
             × HasPrinted asked.now (start_of asked.now behind text) log text []) }
         ensures stops { IfErr result (MayStop true) }
     {
+        let mut keeper = Keeper::new(alloc, asked, behind, file)?;
         let text = read_kept(rt, alloc, file)?;
-        let follower = restored(alloc, asked, behind, &text)?;
-        let keeper = Keeper::new(alloc, file)?;
+        let follower = restored(alloc, asked, behind, &keeper, &text)?;
+        keeper.go_on(&text)?;
         Ok(FollowedLog::new(alloc, asked, follower, Some(keeper)))
     }
 
@@ -141,6 +117,9 @@ impl FollowedLog {
             → HasPrinted asked start self.new (before ++ bytes.now) text) }
     {
         self.has_grown = true;
+        if let Some(keeper) = &mut self.keeper {
+            keeper.note_bytes(bytes)?;
+        }
         self.follower.feed(bytes)
     }
 
@@ -214,7 +193,7 @@ impl FollowedLog {
             let Ok(text) = self.follower.kept()? else {
                 return Err(Failure::Writing);
             };
-            keeper.write(rt, &text)?;
+            keeper.write(rt, &text, false)?;
             keeper.note(&self.follower);
             keeper.pace.note(begun, moment(rt));
         }
@@ -268,7 +247,7 @@ impl FollowedLog {
             let Ok(kept) = kept else {
                 return Err(Failure::Writing);
             };
-            keeper.write(rt, &kept)?;
+            keeper.write(rt, &kept, true)?;
         }
         let followed = behind(front, followed)?;
         Ok(followed)
@@ -299,88 +278,12 @@ fn behind(front: Said, followed: Followed) -> Result<Followed, AllocError>
     })
 }
 
-impl Keeper {
-    /// A file of this name, which has not been written.
-    fn new(alloc: Global, file: &str) -> Result<Self, AllocError> {
-        let mut new_file = String::from_str(alloc, file)?;
-        new_file.push_str(NEW)?;
-        Ok(Keeper {
-            file: String::from_str(alloc, file)?,
-            new_file,
-            taken: 0,
-            settled: 0,
-            pace: KEEPING,
-        })
-    }
-
-    /// Whether the file has not all of a log that is followed, and it is time to write it.
-    fn is_due(&self, log: &Follower, now: Option<u64>) -> bool {
-        let has_all = self.taken == log.line_count() && self.settled == log.settled_count();
-        !has_all && self.pace.is_due(now)
-    }
-
-    /// Notes that the file has all of a log that is followed.
-    fn note(&mut self, log: &Follower) {
-        self.taken = log.line_count();
-        self.settled = log.settled_count();
-    }
-
-    /// Writes the file, whole or not at all.
-    fn write<R: Files>(&self, rt: &R, text: &str) -> Result<(), Stop>
-        ensures { IfErr result (λ fault. fault ≡ Failure.Writing) }
-    {
-        match self.replace(rt, text) {
-            Ok(()) => Ok(()),
-            Err(_) => Err(Failure::Writing),
-        }
-    }
-
-    /// Writes a new file, and gives it the name of the file.
-    fn replace<R: Files>(&self, rt: &R, text: &str) -> io::Result<()> {
-        let mut file = File::create(rt, self.new_file.as_str())?;
-        file.write_all(text.as_bytes())?;
-        file.sync_all()?;
-        rename(rt, self.new_file.as_str(), self.file.as_str())
-    }
-}
-
-/// What a file has of the lines that were kept; nothing where there is none.
-fn read_kept<R: Files>(rt: &R, alloc: Global, file: &str) -> Result<Vec<u8>, Stop>
-    ensures { IfErr result (λ fault. (fault ≡ Failure.Reading) ⊎ (fault ≡ Failure.Memory)) }
-{
-    match File::open(rt, file) {
-        Ok(file) => read_whole(alloc, file),
-        Err(error) if error.kind() == ErrorKind::NotFound => Ok(Vec::new(alloc)),
-        Err(error) => Err(unread(error)),
-    }
-}
-
-/// All bytes of a file.
-fn read_whole<F: Read + Drop>(alloc: Global, mut file: F) -> Result<Vec<u8>, Stop>
-    ensures { IfErr result (λ fault. (fault ≡ Failure.Reading) ⊎ (fault ≡ Failure.Memory)) }
-{
-    let mut text = Vec::new(alloc);
-    match file.read_to_end(&mut text) {
-        Ok(_) => Ok(text),
-        Err(error) => Err(unread(error)),
-    }
-}
-
-/// What stops the program where a file could not be read.
-fn unread(error: io::Error) -> Stop
-    ensures { (result ≡ Failure.Reading) ⊎ (result ≡ Failure.Memory) }
-{
-    match error.kind() {
-        ErrorKind::OutOfMemory => Failure::Memory,
-        _ => Failure::Reading,
-    }
-}
-
 /// An audit that goes on from the lines that were kept.
 fn restored(
     alloc: Global,
     asked: &AuditArguments,
     behind: u64,
+    keeper: &Keeper,
     text: &[u8],
 ) -> Result<Follower, Stop>
     ensures followed { IfOk result (λ follower. HasFollowed asked.now
@@ -389,7 +292,7 @@ fn restored(
 {
     match Follower::restore(alloc, asked, behind, text) {
         Ok(Ok(follower)) => Ok(follower),
-        Ok(Err(refused)) => Err(Failure::Refused(LogsRefused::Kept(refused))),
+        Ok(Err(refused)) => Err(keeper.refusal(refused, text)),
         Err(_) => Err(Failure::Memory),
     }
 }

@@ -9,15 +9,25 @@ use std::fmt;
 
 /// Why a log is refused, or what was kept of one; or that not all of it was judged: the text of the
 /// line on standard error, behind the program's name.
-#[derive(Clone, Copy, Debug, PartialEq, Eq)]
+#[derive(Debug, Drop)]
 pub enum LogsRefused {
     /// The first line of the log with which something is wrong, and what.
     Log(ReadError),
     /// The last line of a log that is followed that came early, by its number, counted from 1: what
     /// was told before is not told anew by it, and it may not have been judged.
     Early(u64),
-    /// Why lines that were kept are refused.
-    Kept(KeptRefused),
+    /// Why lines that were kept are refused, and where they are kept.
+    Kept(KeptFault),
+}
+
+/// Why lines that were kept in a file are refused.
+#[derive(Debug, Drop)]
+pub struct KeptFault {
+    pub refused: KeptRefused,
+    /// The name of the file, as it is printed.
+    pub file: String,
+    /// By which arguments they are kept there, as it is printed, if that is said.
+    pub made_by: Option<String>,
 }
 
 /// Why lines that were kept are refused: the first with which something is wrong.
@@ -36,7 +46,7 @@ impl fmt::Display for LogsRefused {
     ghost output = { λ refused. Some (refused_text refused) };
 
     fn fmt<W: fmt::Write>(&self, f: &mut fmt::Formatter<W>) -> fmt::Result {
-        match *self {
+        match self {
             LogsRefused::Log(error) => {
                 let cause = cause_of(error.why);
                 write!(f, "logs refused: {error}: {cause}")
@@ -45,7 +55,23 @@ impl fmt::Display for LogsRefused {
                 f,
                 "logs refused: Early {line}: it began before what had been settled"
             ),
-            LogsRefused::Kept(refused) => write!(f, "{refused}"),
+            LogsRefused::Kept(fault) => write!(f, "{fault}"),
+        }
+    }
+}
+
+impl fmt::Display for KeptFault {
+    ghost use Rattle.std.specs.Prelude.{Some};
+    ghost use Rattle.fdb_audit.specs.Warned.{kept_fault_text};
+
+    ghost output = { λ fault. Some (kept_fault_text fault) };
+
+    fn fmt<W: fmt::Write>(&self, f: &mut fmt::Formatter<W>) -> fmt::Result {
+        let refused = self.refused;
+        let file = &self.file;
+        match &self.made_by {
+            Some(words) => write!(f, "{refused}\nfdb_audit: kept in {file} by {words}"),
+            None => write!(f, "{refused}\nfdb_audit: kept in {file}"),
         }
     }
 }
@@ -73,6 +99,8 @@ impl fmt::Display for KeptRefused {
 }
 
 impl Error for KeptRefused {}
+
+impl Error for KeptFault {}
 
 impl Error for LogsRefused {}
 

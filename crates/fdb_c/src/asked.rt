@@ -61,6 +61,7 @@ pub(crate) fn asked_with(
         follow,
         wanted,
         keep: None,
+        position: None,
         key,
         shown,
         progress: false,

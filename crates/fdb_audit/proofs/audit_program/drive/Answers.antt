@@ -8,7 +8,7 @@ use Rattle.fdb_command.specs.declared.program.Output.{Output}
 use Rattle.fdb_log_reader.specs.declared.error.ReadError.{ReadError}
 use Rattle.fdb_audit.specs.Program.{HasTaken, IsAsked, IsWhole, PrintsBy, RefusesBy, audit, refusal_of, refused_of, started}
 use Rattle.fdb_audit.specs.Progress.{IsPrinted}
-use Rattle.fdb_audit.specs.declared.refused.KeptRefused.{KeptRefused}
+use Rattle.fdb_audit.specs.declared.refused.KeptFault.{KeptFault}
 use Rattle.fdb_audit.specs.declared.arguments.AuditArguments.{AuditArguments}
 use Rattle.fdb_audit.specs.declared.fault.LogFault.{LogFault}
 use Rattle.fdb_audit.specs.declared.audit_program.AuditIntake.{AuditIntake}
@@ -47,7 +47,7 @@ early_error None None number is = absurd (not_both (Early number) is)
 early_error None (Some other) number is = (refl, sym (ap early_of is))
 early_error (Some error) last number is = absurd (false≢true (ap is_some (ap error_of is)))
 
-not_kept : (o : Option ReadError) (last : Option ℕ) (refused : KeptRefused) → Some (Kept refused) ≡ refusal_of o last → ⊥
+not_kept : (o : Option ReadError) (last : Option ℕ) (refused : KeptFault) → Some (Kept refused) ≡ refusal_of o last → ⊥
 not_kept None None refused is = not_both (Kept refused) is
 not_kept None (Some number) refused is = false≢true (ap is_some (ap early_of is))
 not_kept (Some error) last refused is = false≢true (ap is_some (ap error_of is))
