@@ -347,7 +347,8 @@ def one_clock_ahead(_program):
 def goes_on(_program):
     """Behind a quiet time two clients go on at once, and one goes on with its second line."""
     for name, lines in (
-            ("two clients", [*STALE, timed("read", 5, 990, 999, "b"), timed("read", 5, 997, 999, "a")]),
+            ("two clients", [
+                *STALE, timed("read", 5, 990, 999, "b"), timed("read", 5, 997, 999, "a")]),
             ("one client", [
                 timed("commit", 5, 0, 10, "a"), timed("read", 1, 20, 30, "a"),
                 timed("read", 5, 998, 999, "a"), timed("read", 5, 999, 1000, "a")]),
@@ -481,7 +482,8 @@ def kept(_program):
         with open(file, "rb") as log:
             lines = log.read()
         yield "it is a log", fault_of(run([PROGRAM], lines), run([PROGRAM], stale))
-        late = text_of_lines([timed("read", 5, 90, 99, "c"), timed("read", 5, 90, 99, "a")]).encode()
+        late = [timed("read", 5, 90, 99, "c"), timed("read", 5, 90, 99, "a")]
+        late = text_of_lines(late).encode()
         ran = run([PROGRAM, *words, "--keep", file], late)
         yield "it is told later", began_with(ran.out, b"audit fault: Order 2: ")
         for name, given, why in (

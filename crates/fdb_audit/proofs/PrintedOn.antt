@@ -15,10 +15,6 @@ use Rattle.fdb_audit.specs.Following.{IsCounted, Start}
 use Rattle.fdb_audit.specs.Progress.{HasPrinted, IsPart, IsPrinted, IsToldWith, Part, counted_by, progress_text}
 use Rattle.fdb_audit.specs.Watched.{HasFollowed, IsFollowed, lines_asked}
 
--- nothing has been printed
-pub none_printed : (asked : AuditArguments) (start : Start) (bytes : List ℕ) → IsToldWith asked start bytes [] []
-none_printed asked start bytes = ([], refl, refl, λ k d lt. absurd (omega (arith, lt)))
-
 -- with more bytes
 pub printed_still : (asked : AuditArguments) (start : Start) (bytes more told text : List ℕ) → IsToldWith asked start bytes told text → IsToldWith asked start (bytes ++ more) told text
 printed_still asked start bytes more told text (parts, told_is, text_is, all) = (

@@ -117,10 +117,19 @@ impl FollowedLog {
             → HasPrinted asked start self.new (before ++ bytes.now) text) }
     {
         self.has_grown = true;
-        if let Some(keeper) = &mut self.keeper {
-            keeper.note_bytes(bytes)?;
-        }
+        self.note_bytes(bytes)?;
         self.follower.feed(bytes)
+    }
+
+    /// Notes bytes, where what the last line has is to be kept.
+    fn note_bytes(&mut self, bytes: &[u8]) -> Result<(), AllocError>
+        ensures same { (self.new.follower ≡ self.old.follower)
+            × (self.new.reporter ≡ self.old.reporter) }
+    {
+        match &mut self.keeper {
+            Some(keeper) => keeper.note_bytes(bytes),
+            None => Ok(()),
+        }
     }
 
     /// What is to be said before more is read, as [`Follower::tell`] has it, and behind it how far the
