@@ -1,6 +1,6 @@
 -- What is printed of a log that is followed, with one part more.
-use Rattle.std.proofs.Common.{◌≡◌, ◌∙◌, ◌++◌, ◌∷◌, ℕ, Bool, true, List, [], Option, None, Some, IfSome, Result, ap, append-nil, append_assoc, arith, refl, string_bytes, subst, sym}
-use Rattle.std.specs.List.{All, flat_map}
+use Rattle.std.proofs.Common.{◌≡◌, ◌∙◌, ◌++◌, ◌∷◌, ℕ, Bool, true, List, [], Option, None, Some, IfSome, Result, ap, append-nil, append_assoc, subst, sym}
+use Rattle.std.specs.List.{flat_map}
 use Rattle.std.proofs.lemmas.Grind.{flat_map-append}
 use Rattle.std.proofs.lemmas.List.Elements.{All-push}
 use Rattle.fdb_log_reader.specs.declared.error.Why.{Why}

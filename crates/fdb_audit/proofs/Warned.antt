@@ -1,7 +1,7 @@
 -- What is said of lines on standard error, with one line more.
-use Rattle.std.proofs.Common.{◌≡◌, ◌∙◌, ℕ, zero, suc, ◌+◌, ◌-◌, ◌^◌, ◌<◌, ◌≤◌, Bool, true, false, List, [], ◌∷◌, ◌++◌, Option, None, Some, Result, Ok, Err, add-one, add-zero, ap, append-nil, append_assoc, arith, drop, get_or, is_some, length, length-drop, map, min, nat_lt, refl, slice_get, string_bytes, subst, sym}
+use Rattle.std.proofs.Common.{◌≡◌, ◌∙◌, ℕ, zero, suc, ◌+◌, ◌-◌, ◌^◌, ◌<◌, ◌≤◌, Bool, true, false, List, [], ◌∷◌, ◌++◌, Option, None, Some, Result, Ok, Err, add-one, add-zero, ap, append-nil, append_assoc, arith, drop, get_or, is_some, length, length-drop, min, nat_lt, refl, slice_get, string_bytes, subst, sym}
 use Rattle.std.specs.Prelude.{◌&&◌, IfSome, if◌then◌else◌}
-use Rattle.std.specs.List.{All, cons_option, filter, filter_map, flat_map, range_with_len}
+use Rattle.std.specs.List.{cons_option, filter, filter_map, flat_map, range_with_len}
 use Rattle.std.specs.Int.{is_power_of_two}
 use Rattle.std.proofs.lemmas.Bool.{and_from, and_left, and_right, false≢true}
 use Rattle.std.proofs.lemmas.Bool.Decides.{nat_tests}

@@ -1,4 +1,4 @@
-use Rattle.std.proofs.Common.{◌≡◌, ◌∙◌, ◌++◌, ap, string_bytes, subst, sym}
+use Rattle.std.proofs.Common.{◌∙◌, ◌++◌, ap, string_bytes, subst, sym}
 use Rattle.fdb_audit.specs.Progress.{IsToldWith}
 use Rattle.fdb_audit.specs.declared.follower.Said.{Said}
 use Rattle.fdb_audit.specs.declared.progress.Reporter.{Reporter}
