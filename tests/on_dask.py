@@ -179,8 +179,8 @@ def written(folder: str, name: str, lines: bytes) -> str:
     return f"{folder}/{name}"
 
 
-def refused_logs(folder: str) -> Iterator[tuple[str, list[str], bytes]]:
-    """Logs that are refused, some by two lines, as files and as a whole."""
+def other_logs(folder: str) -> Iterator[tuple[str, list[str], bytes]]:
+    """Logs that are refused, some by two lines, and one without faults: as files and as a whole."""
     many = b"".join(f"{line}\n".encode() for line in lines_of(60_000, 5))
     lines = many.splitlines(keepends=True)
     ninth = sum(1 for _ in many[: 8 * BLOCK + BLOCK // 2].splitlines())
@@ -196,6 +196,8 @@ def refused_logs(folder: str) -> Iterator[tuple[str, list[str], bytes]]:
         files = [written(folder, f"{at}", it) for at, it in enumerate((first, second))]
         yield name, files, first + second
     yield "an empty log", [written(folder, "empty", b"")], b""
+    sound = "".join(f'{{"commit":1,"key":{at},"began":1,"ended":2}}\n' for at in range(60)).encode()
+    yield "no fault", [written(folder, "sound", sound)], sound
 
 
 def parts(_program: str) -> Case:
@@ -214,7 +216,7 @@ def parts(_program: str) -> Case:
         ran = told(address, [f"{folder}/*.jsonl"], *words, "--parts", "5")
         killing.join()
         yield "where a worker is killed", fault_of_told(ran, wanted)
-        for name, some, text in refused_logs(folder):
+        for name, some, text in other_logs(folder):
             wanted = run([PROGRAM, "--key", "key", "--json"], text)
             yield name, fault_of_told(told(address, some), wanted)
         lines = [f"{line}\n".encode() for line in lines_of(2_000, 7)]

@@ -96,8 +96,6 @@ class Totals:
         """Yields what is printed, line by line."""
         counts = json.dumps(self.counts, separators=(",", ":"))
         yield f'{{"total":{counts},"arguments":{self.arguments}}}\n'
-        if not sum(self.kinds):
-            return
         yield f"{{{kinds_text(self.kinds)}}}\n"
         for name, row in self.groups[0].most():
             yield f'{{"client":{name or "null"},{kinds_text(row)}}}\n'
