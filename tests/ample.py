@@ -11,6 +11,7 @@ import ample_audits
 import ample_bindings
 import ample_scripts
 import ample_watches
+import split_logs
 from edits import crates
 from harness import ROOT
 
@@ -99,7 +100,7 @@ def tabled():
     by_table = {call for code in tables for it in NAMED.findall(code)
                 for call in re.findall(r"`([\w:]+)`", it)}
     of_python = (*ample_audits.TABLES, *ample_watches.TABLES, *ample_scripts.TABLES,
-                 *ample_bindings.TABLES)
+                 *ample_bindings.TABLES, *split_logs.TABLES)
     by_row = {call for table in of_python for it in table for call in it.calls.split(", ")}
     return by_line | by_table | by_row
 

@@ -7,6 +7,7 @@ import random
 import tempfile
 from typing import Iterator, NamedTuple, Optional
 
+from ample_audits import FEW, Row
 from audit_lines import MOST_BYTES, line_of, refusal
 from audit_logs import PROGRAM, TIMED, UNTIMED, large_log, refused_at, refusals
 from audit_search import random_lines, text_of
@@ -129,6 +130,25 @@ def cut(_program: str) -> Case:
         ran = split(TIMED * 3, 3, "--first", str(at)).ran
         line = f"fdb_audit: logs refused: TooMany {HIGHEST}: more than 4294967295 lines\n".encode()
         yield f"below {at} lines", fault_of(ran, Ran(1, b"", line))
+
+
+def keyed(count: int) -> tuple[list[str], bytes, list[str]]:
+    """So many lines, of which each second has a key of its own."""
+    log = b"".join(b'{"read":1,"began":1,"ended":2%s}\n' % (b',"key":"k%d"' % at * (at % 2))
+                   for at in range(count))
+    return [], log, []
+
+
+SPLITS = (Row("Splitter::new, Splitter::feed, Splitter::finish", keyed, (1, FEW, 65_537)),)
+TABLES = (SPLITS,)
+
+
+def of_lines(_program: str) -> Case:
+    """With ample memory a log is cut, however many lines it has."""
+    for row in SPLITS:
+        for count in row.numbers:
+            _, given, _ = row.made(count)
+            yield f"{count} lines", fault_of_split(split(given, 16), split_as(given, 16))
 
 
 def random_parts(_program: str) -> Case:
