@@ -7,9 +7,10 @@ import tempfile
 from ample_audits import CHEAP, DEAR, FEW, LINES, MARGINS, NUMBERS, PROGRAM, REFUSED, Row
 from ample_audits import all_stale, at_moment, by_model, calls, clients, ends, keyed, line
 from ample_audits import long_names, rising, rows, stale, stale_and_shown, worked
-from follow import lines_kept, warned_of
+from follow import warned_of
 from follow_model import SAID_AHEAD, SAID_LAST, Warned
 from harness import Ran, apart, fault_of, grouped, run
+from kept_logs import lines_kept
 
 # How far behind the newest end lines may begin where none is settled before the end.
 FAR = 2**40

@@ -24,8 +24,6 @@ from shapes import repeated, text_of_lines, timed
 WORKED = f"{ROOT}/tests/follow_worked.txt"
 # How many random logs, and how many simulated clusters of each kind.
 RANDOM, SEEDS = 600, 2
-# How many are stopped and started again, and how many are killed.
-STOPPED, KILLED = 400, 40
 # Seconds between two pieces, how soon a fault is told, and after how many none is told any more.
 PAUSE, SOON, NEVER = 0.0015, 1, 100
 # How many faults are timed.
@@ -316,68 +314,6 @@ def unjudged_is_not_ok():
         yield f"{len(lines) - 2} early lines", fault_of(apart([PROGRAM, *words], pieces), wanted)
 
 
-# ---- clocks that are ahead
-
-
-def one_clock_ahead(_program):
-    """However far the clock of one client is ahead, what others do is told as they go on."""
-    far = 10**9
-    stale = [it for at in range(9) for it in (timed("commit", at + 1, 20 * at, 20 * at + 2, "b"),
-                                              timed("read", at, 20 * at + 5, 20 * at + 6, "c"))]
-    ahead = [timed("read", 9, far + at, far + at + 1, "a") for at in range(9)]
-    for name, lines, found in (
-            ("one line, as the first", [ahead[0], *stale], 1),
-            ("one line, amid others", [*stale[:4], ahead[0], *stale[4:]], 1),
-            ("many in a row", [*stale[:2], *ahead, *stale[2:]], 1),
-            ("in turn with others", [it for its in zip(stale, [*ahead, *ahead]) for it in its], 9)):
-        with Growing("--follow", "5") as growing:
-            for line in lines:
-                growing.write(line)
-            first = growing.told()
-            yield f"{name}, told as it runs", began_with(first, b"audit fault: Order ")
-            growing.started.stdin.close()
-            ran = growing.end()
-        count = ran.err.decode().count("a clock is ahead")
-        wanted = sum(it & it - 1 == 0 for it in range(1, found + 1))
-        is_so = ran.out.count(b"audit fault: Order") == 9 and b"early" not in ran.err
-        fault = None if is_so and count == wanted else f"{ran}"
-        yield name, fault or why_wrong(growing.given, ["--follow", "5"], ran)
-
-
-def goes_on(_program):
-    """Behind a quiet time two clients go on at once, and one goes on with its second line."""
-    for name, lines in (
-            ("two clients", [
-                *STALE, timed("read", 5, 990, 999, "b"), timed("read", 5, 997, 999, "a")]),
-            ("one client", [
-                timed("commit", 5, 0, 10, "a"), timed("read", 1, 20, 30, "a"),
-                timed("read", 5, 998, 999, "a"), timed("read", 5, 999, 1000, "a")]),
-            ("nobody is known", [
-                timed("commit", 5, 0, 10), timed("read", 1, 20, 30),
-                timed("read", 5, 998, 999), timed("read", 5, 999, 1000)])):
-        with Growing("--follow", "5") as growing:
-            growing.write(*lines)
-            yield name, began_with(growing.told(), b"audit fault: Order 2: ")
-            growing.started.stdin.close()
-            ran = growing.end()
-        yield f"{name}, to the end", why_wrong(growing.given, ["--follow", "5"], ran)
-
-
-def ahead_again(_program):
-    """Stopped and started again, one client whose clock is ahead moves nothing either."""
-    ahead = [timed("read", 5, 10**9 + at, 10**9 + at + 1, "a") for at in range(4)]
-    with tempfile.TemporaryDirectory() as folder:
-        words = [PROGRAM, "--follow", "5", "--keep", f"{folder}/kept"]
-        first = run(words, text_of_lines([*STALE, VOUCHED, *ahead]).encode())
-        yield "a fault, and then a clock", began_with(first.out, b"audit fault: Order 2: ")
-        run(words, text_of_lines(ahead).encode())
-        later = [timed("commit", 9, 50, 60, "b"), timed("read", 5, 70, 80, "c"),
-                 timed("read", 9, 90, 99, "b"), timed("read", 9, 90, 99, "c")]
-        ran = run(words, text_of_lines(later).encode())
-        is_so = b"audit fault: Order 13: " in ran.out and b"early line" not in ran.err
-        yield "what comes later", None if is_so else f"{ran}"
-
-
 def warned_of(*warned):
     """What is said on standard error of early lines."""
     return "".join(f"fdb_audit: {it}\n" for it in warned).encode()
@@ -385,125 +321,6 @@ def warned_of(*warned):
 
 def began_with(out, wanted):
     return None if out.startswith(wanted) else f"{out} in place of {wanted}"
-
-
-# ---- what is kept
-
-
-def lines_kept(file):
-    """For how many lines of the log those stand that are kept; for none where there is no file."""
-    if not os.path.exists(file):
-        return 0
-    with open(file, "rb") as kept:
-        rows = list(map(json.loads, kept))
-    numbers = [row["kept_line"] for row in rows]
-    assert numbers == sorted(set(numbers)), f"the numbers {numbers} do not rise"
-    return rows[-1]["kept_lines"] if rows else 0
-
-
-def faults_of(out):
-    """The faults that are told, as texts; a line that was cut short tells none."""
-    its = objects_of(out[:out.rfind(b"\n") + 1])[0]
-    return [printed([it["fault"], it["at"]]) for it in its]
-
-
-def watched_of(words, given):
-    """The faults that the audit of all lines tells, of the kinds that a watch tells."""
-    its = objects_of(run([PROGRAM, *words], given).out)[0]
-    return [printed([it["fault"], it["at"]]) for it in its if it["fault"] in WATCHED]
-
-
-def closed(dice):
-    """The lines of a random log behind which two come that settle all, and words for them."""
-    lines = disordered(grown(dice), dice.choice((0, 0, 2, 10)), dice)
-    most = max(behind_ends(lines))
-    behind = dice.choice((most, most + 1, 2 * most + 3))
-    newest = max(max(line["began"], line["ended"] or 0) for line in lines)
-    if newest + behind + 2 > HIGHEST:
-        return closed(dice)
-    versions = [line[kind] for line in lines for kind in CALLS if kind in line]
-    last = {"read": max(versions), "began": newest + 1, "ended": newest + behind + 2}
-    last = [{**last, "client": it} for it in ("y", "z")]
-    # (a last line without its end is kept, and not told yet)
-    texts = [it.rstrip(b"\n") + b"\n" for it in text_of([*lines, *last], dice).split(b"\n") if it]
-    words = [*random_words(dice), "--json"]
-    return texts, words, [*words, "--follow", str(behind)]
-
-
-def stopped(_program):
-    """Stopped at random lines and started again, it tells what one watch tells, each fault once."""
-    for number in range(STOPPED):
-        dice = random.Random(f"stopped {number}")
-        texts, words, watching = closed(dice)
-        cuts = sorted(dice.randint(0, len(texts)) for _ in range(dice.randint(1, 4)))
-        with tempfile.TemporaryDirectory() as folder:
-            file, told, fault = f"{folder}/kept", [], None
-            for at, to in zip([0, *cuts], [*cuts, len(texts)]):
-                ran = run([PROGRAM, *watching, "--keep", file], b"".join(texts[at:to]))
-                told += faults_of(ran.out)
-                is_so = ran.status in (OK, FAULTY) or to == 0
-                fault = fault or (None if is_so and lines_kept(file) == to else f"{ran} at {to}")
-        wanted = watched_of(words, b"".join(texts))
-        is_so = sorted(told) == sorted(wanted)
-        fault = fault or (None if is_so else f"it tells {told}, and the audit {wanted}")
-        yield f"log {number}", fault and f"{fault}, of {texts} cut at {cuts} with {watching}"
-
-
-def killed(_program):
-    """Killed at random moments, and started again with the lines behind those that it has kept, it
-    tells each fault at least once, and none falsely."""
-    for number in range(KILLED):
-        dice = random.Random(f"killed {number}")
-        texts, words, watching = closed(dice)
-        with tempfile.TemporaryDirectory() as folder:
-            file, told = f"{folder}/kept", set()
-            while lines_kept(file) < len(texts):
-                with Growing(*watching, "--keep", file) as growing:
-                    for text in texts[lines_kept(file):]:
-                        growing.started.stdin.write(text)
-                        time.sleep(dice.choice((0, 0, PAUSE)))
-                        if dice.random() < 1 / len(texts):
-                            growing.started.kill()
-                            break
-                    growing.started.stdin.close()
-                    told.update(faults_of(growing.end().out))
-        wanted = set(watched_of(words, b"".join(texts)))
-        fault = None if told == wanted else f"it tells {told}, and the audit {wanted}"
-        yield f"log {number}", fault and f"{fault}, of {texts} with {watching}"
-
-
-def kept(_program):
-    """What is kept is a log; what is none that was kept, or cannot be read or written, is told."""
-    stale = text_of_lines(STALE).encode()
-    with tempfile.TemporaryDirectory() as folder:
-        file, words = f"{folder}/kept", ["--follow", "25", "--show", "note,kept_line"]
-        ran = run([PROGRAM, *words, "--keep", file], stale)
-        yield "a fault that is open is not told", fault_of(ran, Ran(OK, ran.out, b""))
-        with open(file, "rb") as log:
-            lines = log.read()
-        yield "it is a log", fault_of(run([PROGRAM], lines), run([PROGRAM], stale))
-        late = [timed("read", 5, 90, 99, "c"), timed("read", 5, 90, 99, "a")]
-        late = text_of_lines(late).encode()
-        ran = run([PROGRAM, *words, "--keep", file], late)
-        yield "it is told later", began_with(ran.out, b"audit fault: Order 2: ")
-        for name, given, why in (
-            ("half a line", lines[:-3], "NotJson 2: no JSON"),
-            ("a line of another log", lines + late, "NotKept 3: no line as it is kept"),
-            ("a line twice", lines + lines, "NotKept 3: no line as it is kept"),
-            ("no JSON", b"nil\n", "NotJson 1: no JSON"),
-        ):
-            with open(file, "wb") as log:
-                log.write(given)
-            wanted = Ran(1, b"", f"fdb_audit: kept lines refused: {why}\n".encode())
-            ran = run([PROGRAM, *words, "--keep", file], late)
-            yield name, fault_of(ran, wanted)
-        for name, path, failed in (("a folder", folder, "reading"),
-                                   ("no folder", f"{folder}/none/kept", "writing")):
-            ran = run([PROGRAM, *words, "--keep", path], stale)
-            wanted = Ran(NO_STREAM, b"", f"fdb_audit: {failed} failed\n".encode())
-            yield name, fault_of(ran, wanted)
-    wanted = audit(None).words_refused()
-    yield "of a log that is not followed", fault_of(run([PROGRAM, "--keep", "kept"], LINE), wanted)
 
 
 # ---- what ends it

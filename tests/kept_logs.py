@@ -1,0 +1,210 @@
+"""What fdb_audit keeps with --keep of logs that grow, and how it goes on from that."""
+import json
+import os
+import random
+import tempfile
+import time
+
+from audit_lines import CALLS
+from audit_logs import FAULTY, OK, PROGRAM
+from audit_model import printed
+from audit_search import text_of
+from command_line import LINE, audit
+from follow import (PAUSE, STALE, Growing, began_with, behind_ends, disordered, grown, objects_of,
+                    random_words)
+from follow_model import WATCHED
+from harness import NO_STREAM, Ran, apart, fault_of, run
+from reader import HIGHEST
+from shapes import text_of_lines, timed
+
+# How many logs are stopped and started again, and how many are killed.
+STOPPED, KILLED = 400, 40
+
+
+def lines_kept(file):
+    """For how many lines of the log those stand that are kept; for none where there is no file."""
+    if not os.path.exists(file):
+        return 0
+    with open(file, "rb") as kept:
+        rows = list(map(json.loads, kept))
+    numbers = [row["kept_line"] for row in rows]
+    assert numbers == sorted(set(numbers)), f"the numbers {numbers} do not rise"
+    return rows[-1]["kept_lines"] if rows else 0
+
+
+def faults_of(out):
+    """The faults that are told, as texts; a line that was cut short tells none."""
+    its = objects_of(out[:out.rfind(b"\n") + 1])[0]
+    return [printed([it["fault"], it["at"]]) for it in its]
+
+
+def watched_of(words, given):
+    """The faults that the audit of all lines tells, of the kinds that a watch tells."""
+    its = objects_of(run([PROGRAM, *words], given).out)[0]
+    return [printed([it["fault"], it["at"]]) for it in its if it["fault"] in WATCHED]
+
+
+def closed(dice):
+    """The lines of a random log behind which two come that settle all, and words for them."""
+    lines = disordered(grown(dice), dice.choice((0, 0, 2, 10)), dice)
+    most = max(behind_ends(lines))
+    behind = dice.choice((most, most + 1, 2 * most + 3))
+    newest = max(max(line["began"], line["ended"] or 0) for line in lines)
+    if newest + behind + 2 > HIGHEST:
+        return closed(dice)
+    versions = [line[kind] for line in lines for kind in CALLS if kind in line]
+    last = {"read": max(versions), "began": newest + 1, "ended": newest + behind + 2}
+    last = [{**last, "client": it} for it in ("y", "z")]
+    # (a last line without its end is kept, and not told yet)
+    texts = [it.rstrip(b"\n") + b"\n" for it in text_of([*lines, *last], dice).split(b"\n") if it]
+    words = [*random_words(dice), "--json"]
+    return texts, words, [*words, "--follow", str(behind)]
+
+
+def stopped(_program):
+    """Stopped at random lines and started again, it tells what one watch tells, each fault once."""
+    for number in range(STOPPED):
+        dice = random.Random(f"stopped {number}")
+        texts, words, watching = closed(dice)
+        cuts = sorted(dice.randint(0, len(texts)) for _ in range(dice.randint(1, 4)))
+        with tempfile.TemporaryDirectory() as folder:
+            file, told, fault = f"{folder}/kept", [], None
+            for at, to in zip([0, *cuts], [*cuts, len(texts)]):
+                ran = run([PROGRAM, *watching, "--keep", file], b"".join(texts[at:to]))
+                told += faults_of(ran.out)
+                is_so = ran.status in (OK, FAULTY) or to == 0
+                fault = fault or (None if is_so and lines_kept(file) == to else f"{ran} at {to}")
+        wanted = watched_of(words, b"".join(texts))
+        is_so = sorted(told) == sorted(wanted)
+        fault = fault or (None if is_so else f"it tells {told}, and the audit {wanted}")
+        yield f"log {number}", fault and f"{fault}, of {texts} cut at {cuts} with {watching}"
+
+
+def killed(_program):
+    """Killed at random moments, and started again with the lines behind those that it has kept, it
+    tells each fault at least once, and none falsely."""
+    for number in range(KILLED):
+        dice = random.Random(f"killed {number}")
+        texts, words, watching = closed(dice)
+        with tempfile.TemporaryDirectory() as folder:
+            file, told = f"{folder}/kept", set()
+            while lines_kept(file) < len(texts):
+                with Growing(*watching, "--keep", file) as growing:
+                    for text in texts[lines_kept(file):]:
+                        growing.started.stdin.write(text)
+                        time.sleep(dice.choice((0, 0, PAUSE)))
+                        if dice.random() < 1 / len(texts):
+                            growing.started.kill()
+                            break
+                    growing.started.stdin.close()
+                    told.update(faults_of(growing.end().out))
+        wanted = set(watched_of(words, b"".join(texts)))
+        fault = None if told == wanted else f"it tells {told}, and the audit {wanted}"
+        yield f"log {number}", fault and f"{fault}, of {texts} with {watching}"
+
+
+def kept(_program):
+    """What is kept is a log; what is none that was kept, or cannot be read or written, is told."""
+    stale = text_of_lines(STALE).encode()
+    with tempfile.TemporaryDirectory() as folder:
+        file, words = f"{folder}/kept", ["--follow", "25", "--show", "note,kept_line"]
+        ran = run([PROGRAM, *words, "--keep", file], stale)
+        yield "a fault that is open is not told", fault_of(ran, Ran(OK, ran.out, b""))
+        with open(file, "rb") as log:
+            lines = log.read()
+        yield "it is a log", fault_of(run([PROGRAM], lines), run([PROGRAM], stale))
+        late = [timed("read", 5, 90, 99, "c"), timed("read", 5, 90, 99, "a")]
+        late = text_of_lines(late).encode()
+        ran = run([PROGRAM, *words, "--keep", file], late)
+        yield "it is told later", began_with(ran.out, b"audit fault: Order 2: ")
+        for name, given, why in (
+            ("half a line", lines[:-3], "NotJson 2: no JSON"),
+            ("a line of another log", lines + late, "NotKept 3: no line as it is kept"),
+            ("a line twice", lines + lines, "NotKept 3: no line as it is kept"),
+            ("no JSON", b"nil\n", "NotJson 1: no JSON"),
+        ):
+            with open(file, "wb") as log:
+                log.write(given)
+            by = "" if name == "no JSON" else made_by(*words)
+            ran = run([PROGRAM, *words, "--keep", file], late)
+            yield name, fault_of(ran, not_kept(why, file, by))
+        for name, path, failed in (("a folder", folder, "reading"),
+                                   ("no folder", f"{folder}/none/kept", "writing")):
+            ran = run([PROGRAM, *words, "--keep", path], stale)
+            wanted = Ran(NO_STREAM, b"", f"fdb_audit: {failed} failed\n".encode())
+            yield name, fault_of(ran, wanted)
+    wanted = audit(None).words_refused()
+    yield "of a log that is not followed", fault_of(run([PROGRAM, "--keep", "kept"], LINE), wanted)
+
+
+def made_by(*words, margin=0):
+    """By which arguments lines are kept, as a refusal says it: of `--follow`, and what is shown."""
+    asked = dict(zip(words[::2], words[1::2]))
+    text = f"--follow {asked['--follow']} --margin {margin}"
+    text += f" --key {json.dumps(asked['--key'])}" if "--key" in asked else ""
+    text += "".join(f" --show {json.dumps(it)}" for it in asked.get("--show", "").split(",") if it)
+    text += f" --position {json.dumps(asked['--position'])}" if "--position" in asked else ""
+    return f" by {json.dumps(text)}"
+
+
+def not_kept(why, file, by):
+    """How a watch ends whose file has lines that are refused."""
+    said = f"fdb_audit: kept lines refused: {why}\nfdb_audit: kept in {file}{by}\n"
+    return Ran(1, b"", said.encode())
+
+
+def kept_by(_program):
+    """Lines that were kept by other arguments are refused, and it is said by which they were."""
+    stale, why = text_of_lines(STALE).encode(), "NotKept 1: no line as it is kept"
+    words = ["--follow", "25", "--key", "k", "--show", "note", "--position", "n"]
+    others = (["--follow", "26", *words[2:]], [*words, "--margin", "1"], [*words[:2], *words[4:]],
+              [*words[:3], "other", *words[4:]], [*words[:4], *words[6:]],
+              [*words[:5], "n,note", *words[6:]], words[:6])
+    with tempfile.TemporaryDirectory() as folder:
+        file = f"{folder}/kept"
+        run([PROGRAM, *words, "--keep", file], stale)
+        for other in others:
+            ran = run([PROGRAM, *other, "--keep", file], stale)
+            yield f"{other}", fault_of(ran, not_kept(why, file, made_by(*words)))
+        ran = run([PROGRAM, *words, "--json", "--all", "--keep", file], b"")
+        yield "what is printed may be another", None if b"NotKept" not in ran.err else f"{ran}"
+        with open(file, "rb") as log:
+            rows = [json.loads(it) for it in log]
+        del rows[0]["kept_by"]
+        with open(file, "w", encoding="ascii") as log:
+            log.writelines(f"{json.dumps(it)}\n" for it in rows)
+        ran = run([PROGRAM, *words, "--keep", file], stale)
+        yield "it is not said", fault_of(ran, not_kept(why, file, ""))
+    wanted = audit(None).words_refused()
+    for words in (["--position", "n"], ["--follow", "5", "--position", "n"]):
+        yield f"only {words}", fault_of(run([PROGRAM, *words], LINE), wanted)
+
+
+def placed(_program):
+    """What the last line has in a member is kept, however the log is cut, and where it goes on."""
+    line = lambda at, more: (f'{{"client":"a","commit":{at},"began":{at},"ended":{at}{more}}}\n')
+    some = [line(at, f',"at":{{"n":[{at}]}}') for at in range(1, 4)]
+    half, longer = line(4, ',"at":"4"')[:-1], line(4, ',"note":"%s","at":4' % ("n" * 100_000))
+    for name, texts, wanted in (
+            ("three lines", some, {"n": [3]}), ("none has it", [line(1, "")], None),
+            ("the last has not", [*some, line(9, "")], None),
+            ("the last is refused", [*some, "{\n"], None), ("no end", [*some, half], "4"),
+            ("an end later", [*some, half, "\n"], "4"), ("in pieces", [*some, *half, "\n"], "4"),
+            ("longer than a read", [*some, longer], 4), ("a null", [line(1, ',"at":null')], None),
+            ("a text", [line(1, ',"at":"\\u202e"')], "\u202e")):
+        with tempfile.TemporaryDirectory() as folder:
+            words = [PROGRAM, "--follow", "9", "--position", "at", "--keep", f"{folder}/kept"]
+            apart(words, [it.encode() for it in texts])
+            yield name, place_fault(f"{folder}/kept", wanted)
+            run(words, b"")
+            yield f"{name}, and nothing more", place_fault(f"{folder}/kept", wanted)
+            run(words, line(20, ',"at":20').encode())
+            yield f"{name}, and one more", place_fault(f"{folder}/kept", 20)
+
+
+def place_fault(file, wanted):
+    """What is wrong with where the log stands by a file, or None."""
+    with open(file, "rb") as log:
+        first, *others = map(json.loads, log)
+    is_so = first.get("kept_position") == wanted and not any("kept_position" in it for it in others)
+    return None if is_so else f"{first} in place of {wanted}"
