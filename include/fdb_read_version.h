@@ -688,8 +688,10 @@ uint8_t fdb_watch_push(fdb_watch *watch, const uint8_t *bytes, size_t bytes_leng
  * Says what has become certain since it said so last: each stale read, and each version that was
  * drawn and is not above what its caller knew, once. With `is_idle`, which is always allowed, it
  * looks at once, and else, where more is there to be read, once 8,192 lines came since it last did,
- * and were not refused: at each call that began more than `behind` before the newest end. A line
- * that comes later and began as early came early. It is no refused one; its version counts, but it
+ * and were not refused: at each call that began more than `behind` before the newest end. That is
+ * the newest that is believed: one further ahead of what other clients' lines have is not, so that
+ * one clock that is ahead moves nothing (docs/FORMATS.md). A line that comes later and began as
+ * early came early. It is no refused one; its version counts, but it
  * is judged only if it began at most `behind` before that or, with a `key`, before where its own
  * key settled last: a key of which no line came may stay further behind. What is said, be it
  * nothing, is then the text, and the warnings are those since; what they were before is gone.
@@ -704,7 +706,7 @@ uint8_t fdb_watch_tell(fdb_watch *watch, bool is_idle);
  * Says what is left where the log ends, with half a line that has come last: the text and the
  * warnings are that, as by fdb_watch_tell, and the watch is over. Where no fault was told, the text
  * is `audit ok` and how many lines were not refused, or where lines came early `audit early`, that,
- * and how many of these were judged; with `json` it is empty but for `totals`. `*watch` must be a
+ * and how many of these were judged; and where some were, how many ends were found to be ahead; with `json` it is empty but for `totals`. `*watch` must be a
  * watch.
  *
  * FDB_FAULT where a fault was told, at any time. Else why the last line that was refused was, from
@@ -727,7 +729,7 @@ uint8_t fdb_watch_text(fdb_watch *watch, uint8_t *text, size_t text_length, uint
 
 /* Writes the warnings that came with it, as fdb_watch_text the text: a line for each line that was
  * refused, with its number and why, and for the first, second, fourth, eighth and so on that came
- * early, with its number, by how much, and how many did so far. */
+ * early, or shows that a clock is ahead, with its number, by how much, and how many did so far. */
 uint8_t fdb_watch_warnings(fdb_watch *watch, uint8_t *text, size_t text_length, uint64_t *size);
 
 /* Frees a watch, over or not; the handle is then none. Of FDB_WATCH_NONE nothing is done. */
