@@ -31,7 +31,7 @@ SAID = b"fdb_audit: "
 LINES = {"read": "reads", "commit": "commits", "ask": "asks", "report": "reports"}
 COUNTERS = {"refused": "Lines that were refused.",
             "early": "Lines that began before what had been settled: N is too small for them.",
-            "ahead": "Lines whose end was not believed: a clock is ahead."}
+            "ahead": "Ends that were found to be ahead, and are not believed: a clock is."}
 GAUGES = {"open": "Lines of which not all is told yet.",
           "newest_end": "The newest end that is believed, in the log's unit; 0 where none is.",
           "settled_to": "The moment up to which all is told, in the log's unit."}
@@ -171,8 +171,8 @@ class Counts(Collector):
             self.read_fault(said)
         elif "watched" in said:
             its = part(said, "watched")
-            # (all of them are looked at first)
-            self.watched.update({it: whole(its[it]) for it in self.watched if it in its})
+            # (all are looked at first; what is 0 may be left out)
+            self.watched.update({it: whole(its.get(it, 0)) for it in self.watched})
         # (totals tell again what was told as it came)
 
     def read_fault(self, said: Dict[str, Any]) -> None:
