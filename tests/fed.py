@@ -13,8 +13,8 @@ import time
 
 from audit_logs import FAULTY, PROGRAM
 from exporter import LIBRARY, TOOL as EXPORTER, values_of
-from follow import faults_of, lines_kept, watched_of
 from harness import DONE, EXAMPLES, NO_STREAM, OTHER_ARGUMENTS, SECONDS, read, run
+from kept_logs import faults_of, lines_kept, watched_of
 from shapes import text_of_lines, timed
 
 FEED = f"{EXAMPLES}/watch/feed"
