@@ -192,7 +192,7 @@ def random_watches(_program):
         words += ["--show", dice.choice(("note", "none,note"))] * (dice.random() < 0.3)
         words += ["--follow", str(behind)]
         early = sum(it > behind for it in follow.behind_ends(lines))
-        fault = why_wrong_of_watch(given, words, watched(given, words, dice), early)
+        fault = why_wrong_of_watch(given, words, watched(given, words, dice), early, False)
         yield f"log {number}", fault and f"{fault}, of {given} with {words}"
 
 
