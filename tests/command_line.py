@@ -83,7 +83,7 @@ def audit(_path):
         read(f"{ROOT}/tests/audit_help.txt"),
         read(f"{audit_logs.LOGS}/stale.jsonl"), LINE,
         (b"{", audit_logs.refused_at(1, "NotJson")), many, audit_logs.judged_as,
-        version.encode(),
+        version=version.encode(),
     )
 
 

@@ -128,11 +128,12 @@ class Fed:
         return status
 
     def close(self):
-        """Writes a line behind which all others are told, and stops it once that was read."""
+        """Writes lines behind which all others are told, of two clients since none is believed
+        alone, and stops it once they were read."""
         versions = [value for it in self.lines for kind, value in it.items()
                     if kind in ("commit", "read")]
         end = self.lines[-1]["ended"]
-        self.write(timed("read", max(versions), end + 1, end + BEHIND + 2, "b"))
+        self.write(*(timed("read", max(versions), end + 1, end + BEHIND + 2, it) for it in "yz"))
         late, status = time.monotonic() + SECONDS, None
         while lines_kept(self.kept) < len(self.lines) and time.monotonic() < late:
             if not self.started:
