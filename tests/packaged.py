@@ -30,7 +30,9 @@ DRAWS = "./fdb_audit LOG --json > said; tools/picture LOG said > log.html"
 WATCHES = "tail -F calls.jsonl | ./fdb_audit --follow 5000000 --json"
 TRIED = {DRAWS, WATCHES, "--margin N", "--key MEMBER", "--keep FILE"}
 # A call after which a watch of README.md's log knows that nothing before it may come.
-LATER = b'{"client":"a","commit":300,"began":90000000,"ended":90000001}\n'
+# (of two clients, since a watch believes no clock alone)
+LATER = (b'{"client":"a","commit":300,"began":90000000,"ended":90000001}\n'
+         b'{"client":"b","read":300,"began":90000002,"ended":90000003}\n')
 # What dpkg wants of a folder before it installs into it. (what the package needs is not there)
 STATUS = ("var/lib/dpkg/info", "var/lib/dpkg/updates", "var/lib/dpkg/triggers", "tmp")
 FORCED = ["--force-depends", "--force-not-root", "--force-script-chrootless", "--force-bad-path"]
@@ -154,7 +156,7 @@ def fault_of_watch(command, folder, env):
         try:
             with open(f"{folder}/calls.jsonl", "ab") as calls:
                 calls.write(LATER)
-            told = it.stdout.readline()
+            told = next((line for line in it.stdout if b"watched" not in line), b"")
         finally:
             late.cancel()
             with contextlib.suppress(ProcessLookupError):

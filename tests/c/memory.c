@@ -182,6 +182,8 @@ static uint8_t calls_faults_bear(long allowed) { return audit_bears(allowed, tru
 #define NAME(text) (const uint8_t *)text, strlen(text)
 #define KEYED "{\"client\":\"a\",\"commit\":2,\"began\":1,\"ended\":2,\"k\":\"x\"}\n" \
               "{\"client\":\"b\",\"read\":1,\"began\":3,\"ended\":4,\"k\":\"x\"}\n"
+/* another client's end, by which a watch believes the last one */
+#define VOUCHING "{\"client\":\"c\",\"read\":2,\"began\":4,\"ended\":4,\"k\":\"x\"}\n"
 
 /* Memory that is refused ends an audit by pieces and a watch: they say so, and can be freed. */
 static uint8_t audit_of(long allowed, fdb_audit_options options, const char *key, const char *shown,
@@ -227,7 +229,7 @@ static uint8_t watch_bears(long allowed) {
         assert(status == FDB_MEMORY && watch.at == NULL);
         return status;
     }
-    status = fdb_watch_push(&watch, NAME(KEYED "{}\n"));
+    status = fdb_watch_push(&watch, NAME(KEYED VOUCHING "{}\n"));
     if (status == FDB_OK) status = fdb_watch_tell(&watch, true);
     bool is_told = status == FDB_OK;
     if (is_told) status = fdb_watch_end(&watch, &refused);

@@ -681,8 +681,8 @@ class OfWatches(unittest.TestCase):
         self.assertEqual(watch.end(), Status.OK)
         self.assertEqual(watch.text(), "audit ok lines 4 reads 4 commits 0 asks 0 reports 0 "
                                        "refused 0 early 0 ahead 1\n")
-        self.assertEqual(watch.warnings(), "fdb_audit: a clock is ahead: above line 4 another "
-                         "client's line ended 887 after it; 1 so far: it is not believed\n")
+        self.assertEqual(watch.warnings(), "fdb_audit: a clock is ahead: above line 4 a line of "
+                         "another client ended 887 after it; 1 so far: it is not believed\n")
 
     def followed(self, *pieces, behind):
         """The status, the output and the errors of the program that follows a log of these pieces."""

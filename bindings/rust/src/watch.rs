@@ -48,6 +48,8 @@ pub struct WatchOptions<'a> {
 /// assert_eq!(watch.tell(true)?, "");
 /// assert!(watch.warnings().starts_with("fdb_audit: logs refused: NoCall 2: "));
 /// watch.push(b"{\"client\":\"b\",\"read\":100,\"began\":15,\"ended\":16}\n")?;
+/// // (what ends at 16 is believed where another client says so too)
+/// watch.push(b"{\"client\":\"a\",\"read\":200,\"began\":15,\"ended\":16}\n")?;
 /// assert!(watch.tell(true)?.starts_with("audit fault: Order 3: client \"b\" read 100, but 200 "));
 /// assert_eq!(watch.tell(true)?, "");
 /// assert!(watch.end()?, "a fault was told");
