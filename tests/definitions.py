@@ -5,7 +5,7 @@
 First come the definitions that the headline rests on, in the order in which a reader has to believe
 them: by crate as in crates.txt, by file as in its specs/Lib.antt, and as they stand there. Each has
 the first sentence of its comment, and of a long one what stands before its colon or semicolon; but
-those of a file that docs/FORMATS.md tells in words stand by name alone. Those that only other
+those of a file that docs/SCRIPT.md tells in words stand by name alone. Those that only other
 promises cite are left out.
 """
 import os
@@ -24,7 +24,7 @@ MODULE = re.compile(r"^pub mod (\w+)$", re.MULTILINE)
 # Where a definition comes from, which its file says.
 SOURCE = re.compile(r"\s*\([^()]*(?:FoundationDB|masterserver|GrvProxy|own|1990)[^()]*\)")
 LONG = 12
-# The files of which docs/FORMATS.md tells in words what they say.
+# The files of which docs/SCRIPT.md tells in words what they say.
 TOLD = {
     ("fdb_history", "Text"),
     ("fdb_history", "Faults"),

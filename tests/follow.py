@@ -3,25 +3,29 @@ import json
 import os
 import queue
 import random
+import re
 import subprocess
 import tempfile
 import threading
 import time
 
 import clusters
-from audit_lines import CALLS, MOST_BYTES
+from audit_lines import CALLS, MOST_BYTES, refusal
 from audit_logs import FAULTY, OK, PROGRAM, REFUSED, worked_cases
 from audit_model import TOLD, printed
 from audit_search import random_lines, text_of
 from audit_streams import MUCH, told_of
 from command_line import LINE, TEXTS, WHOLE, audit
-from follow_model import (PROGRESS, SAID_AHEAD, SAID_LAST, WATCHED, Followed, Warned, judged_as,
-                          why_wrong, without_progress)
-from harness import NO_STREAM, ROOT, SECONDS, Ran, apart, fault_of, run, spent
+from documents import BLOCK
+from follow_model import (EARLY_LINE, PROGRESS, SAID_AHEAD, SAID_LAST, WATCHED, Followed, Warned,
+                          judged_as, why_wrong, without_progress)
+from harness import NO_STREAM, ROOT, SECONDS, Ran, apart, fault_of, read, run, spent
 from reader import HIGHEST
 from shapes import repeated, text_of_lines, timed
 
 WORKED = f"{ROOT}/tests/follow_worked.txt"
+# Documents that show what is said of a log, and how many lines of the one there come at first.
+LOG, STATUSES, AT_FIRST = f"{ROOT}/docs/LOG.md", f"{ROOT}/docs/STATUSES.md", 3
 # How many random logs, and how many simulated clusters of each kind.
 RANDOM, SEEDS = 600, 2
 # Seconds between two pieces, how soon a fault is told, and after how many none is told any more.
@@ -291,6 +295,40 @@ def too_early(_program):
                  b"judged 1\n")
         yield "one is counted", began_with(growing.end().out.partition(b"\n")[2], total)
     yield from unjudged_is_not_ok()
+
+
+def shown(_program):
+    """Of the lines that docs/LOG.md shows as early it is told what stands there."""
+    given, warning = log_shown()
+    lines = given.encode().splitlines(keepends=True)
+    pieces = [b"".join(lines[:AT_FIRST]), b"".join(lines[AT_FIRST:])]
+    words = ["--follow", "5", "--all"]
+    ran = apart([PROGRAM, *words], pieces)
+    yield "by the model", why_wrong(given.encode(), words, ran, 2)
+    yield "what is warned", began_with(ran.err, warning.encode())
+    told = re.findall(rb"^audit (?:fault: \w+ \d+|total lines .*)", ran.out, re.MULTILINE)
+    wanted = [b"audit fault: Order 4", b"audit total lines 6 reads 4 commits 2 asks 0 reports 0 "
+              b"refused 0 early 2 judged 1"]
+    yield "what is told", None if told == wanted else f"{told}"
+
+
+def log_shown():
+    """The log of docs/LOG.md of which lines come early, and what it says of the first."""
+    blocks = [block for _, block in BLOCK.findall(read(LOG).decode())]
+    at = next(at for at, it in enumerate(blocks) if EARLY_LINE.fullmatch(it.rstrip("\n")))
+    return next(it for it in reversed(blocks[:at]) if it.startswith("{")), blocks[at]
+
+
+def said_in_documents(_program):
+    """What documents show of standard error is so said."""
+    warnings = EARLY_LINE, re.compile("fdb_audit: " + SAID_AHEAD.replace("{}", r"\d+"))
+    blocks = [block for _, block in BLOCK.findall(read(LOG).decode())]
+    for it in (it.rstrip("\n") for it in blocks if it.startswith("fdb_audit: ")):
+        is_so = any(one.fullmatch(it) for one in warnings)
+        yield it, None if is_so else "it is no warning"
+    for it in (f"logs refused: {refusal(7, 'NotJson')}", "audit fault: Order 2"):
+        is_so = f"`fdb_audit: {it}`" in read(STATUSES).decode()
+        yield it, None if is_so else "docs/STATUSES.md does not say so"
 
 
 def unjudged_is_not_ok():

@@ -47,7 +47,7 @@ def others_end(line, above):
 
 
 def believed(lines, behind):
-    """For each line the newest end that is believed when it comes, as docs/FORMATS.md has it."""
+    """For each line the newest end that is believed when it comes, as docs/LOG.md has it."""
     newest = 0
     for place, line in enumerate(lines):
         yield newest

@@ -4,25 +4,26 @@ import re
 from harness import files_below, text_of
 
 CONSTANT = re.compile(r"^pub const (MAX_\w+|IDLE_BURST|RATE_WINDOW): \w+ = ([\d_]+);", re.MULTILINE)
-FORMATS, README, HEADER = "docs/FORMATS.md", "README.md", "include/fdb_read_version.h"
+SCRIPT, LOG, STATUSES = "docs/SCRIPT.md", "docs/LOG.md", "docs/STATUSES.md"
+README, HEADER = "README.md", "include/fdb_read_version.h"
 # What a document says of limits, with the names of the constants in the code.
 SAID = (
-    (FORMATS, "at most {MAX_SCRIPT_BYTES:,} bytes"),
-    (FORMATS, "more than {MAX_SCRIPT_BYTES:,} bytes come"),
-    (FORMATS, "a whole number, at most {MAX_VERSION}: the first"),
-    (FORMATS, "would be above {MAX_VERSION}"),
-    (FORMATS, "the version is above {MAX_VERSION}"),
-    (FORMATS, "a whole number from 1 to {MAX_CLIENTS}"),
-    (FORMATS, "at most {MAX_ROUNDS:,} rounds, each a list of commands; at most {MAX_COMMANDS:,}"
+    (SCRIPT, "at most {MAX_SCRIPT_BYTES:,} bytes"),
+    (STATUSES, "more than {MAX_SCRIPT_BYTES:,} bytes come"),
+    (SCRIPT, "a whole number, at most {MAX_VERSION}: the first"),
+    (SCRIPT, "would be above {MAX_VERSION}"),
+    (SCRIPT, "the version is above {MAX_VERSION}"),
+    (SCRIPT, "a whole number from 1 to {MAX_CLIENTS}"),
+    (SCRIPT, "at most {MAX_ROUNDS:,} rounds, each a list of commands; at most {MAX_COMMANDS:,}"
               " commands in all"),
-    (FORMATS, "rates: 1 to {MAX_RATE:,}, and 0 to {MAX_RATE:,}"),
-    (FORMATS, "capacity of its queue: 1 to {MAX_ROOM:,}"),
-    (FORMATS, "its windows: 1 to {MAX_ELAPSED:,}"),
-    (FORMATS, "a list of at most {MAX_THROTTLES:,} throttles"),
-    (FORMATS, "A tag is a text of 1 to {MAX_TAG} characters"),
-    (FORMATS, "`tags`: none, and at most {MAX_TAGS};"),
-    (FORMATS, "at least 1 and at most {MAX_STEP:,}"),
-    (FORMATS, "more than {MAX_COUNT:,}, or at batch priority for more than the normal limit plus"
+    (SCRIPT, "1 to {MAX_RATE:,} for `normal`, 0 to {MAX_RATE:,} for `batch`"),
+    (SCRIPT, "may wait in its queue: 1 to {MAX_ROOM:,}"),
+    (SCRIPT, "its windows: 1 to {MAX_ELAPSED:,}"),
+    (SCRIPT, "a list of at most {MAX_THROTTLES:,} throttles"),
+    (SCRIPT, "A tag is a text of 1 to {MAX_TAG} characters"),
+    (SCRIPT, "`tags`: none, and at most {MAX_TAGS};"),
+    (SCRIPT, "at least 1 and at most {MAX_STEP:,}"),
+    (SCRIPT, "more than {MAX_COUNT:,}, or at batch priority for more than the normal limit plus"
               " {IDLE_BURST}"),
     ("docs/DECISIONS.md", "would be above {MAX_VERSION:,} is"),
     (README, "at most {MAX_SCRIPT_BYTES:,} bytes, {MAX_ROUNDS:,} rounds, {MAX_COMMANDS:,} com"),
@@ -30,8 +31,8 @@ SAID = (
     (README, "for a read at most {MAX_TAGS} tags, of at most {MAX_TAG} bytes"),
     (README, "a request for 1 to {MAX_COUNT:,} transactions"),
     (README, "A log for `fdb_audit`: {MAX_LINES:,} lines of {MAX_LINE_BYTES:,} bytes"),
-    (FORMATS, "the line has more than {MAX_LINE_BYTES:,} bytes"),
-    (FORMATS, "there are {MAX_LINES:,} lines above"),
+    (LOG, "the line has more than {MAX_LINE_BYTES:,} bytes"),
+    (LOG, "there are {MAX_LINES:,} lines above"),
     (README, "0 to {MAX_VERSION:,}."),
     (README, "A `RecentChain`: 1 to {MAX_PROXIES} commit proxies."),
     (README, "A `LiveRecord` is opened for 1 to {MAX_REPORTERS} reporters"),

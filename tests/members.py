@@ -1,4 +1,4 @@
-"""The members of a script as docs/FORMATS.md tells them, the reader of scripts, and the tests."""
+"""The members of a script as docs/SCRIPT.md tells them, the reader of scripts, and the tests."""
 import re
 
 import edges
@@ -7,7 +7,7 @@ from harness import files_below, text_of
 NAME = re.compile(r"`([a-z_]+)`")
 # A row of a table that is no head: a name or names in `code`, and the cells behind them.
 ROW = re.compile(r"^(`.*?) \| (.*)$")
-THROTTLE = re.compile(r"A throttle .* It has (.*?), all required")
+THROTTLE = re.compile(r"All of its members are required: (.*), the last two whole numbers")
 # A word of a script in the code that reads it.
 WORD = re.compile(r'"([a-z_]+)"')
 READER = "crates/fdb_script/src/reading"
@@ -16,7 +16,7 @@ PRIORITIES = {"system", "default", "batch"}
 
 def part():
     """The part of the document on what a script is."""
-    text = text_of("docs/FORMATS.md")
+    text = text_of("docs/SCRIPT.md")
     return text.split("\n## The script\n")[1].split("\n### What is refused\n")[0]
 
 
