@@ -5,8 +5,8 @@
 First come the definitions that the headline rests on, in the order in which a reader has to believe
 them: by crate as in crates.txt, by file as in its specs/Lib.antt, and as they stand there. Each has
 the first sentence of its comment, and of a long one what stands before its colon or semicolon; but
-those of a file that docs/SCRIPT.md tells in words stand by name alone. Those that only other
-promises cite are left out.
+those of a file that docs/SCRIPT.md tells in words are only counted. Those that only other promises
+cite are left out.
 """
 import os
 import re
@@ -99,9 +99,10 @@ def lines():
             made += ["", f"### {crate}"]
             crate_before = crate
         if wanted:
-            made += ["", f"**[{file}](../crates/{crate}/specs/{file}.antt)**: {about}", ""]
-            named = [", ".join(f"`{it}`" for it in wanted)]
-            made += named if (crate, file) in TOLD else lines_of(wanted, comments)
+            is_told = (crate, file) in TOLD
+            size = f": {len(wanted)} definitions" if is_told else ""
+            made += ["", f"**[{file}](../crates/{crate}/specs/{file}.antt)**: {about}{size}"]
+            made += [] if is_told else ["", *lines_of(wanted, comments)]
     found = counts()
     size = f"{found['headline']} lines in {found['definitions']} definitions"
     return ["", "## What the headline rests on", "", f"These are {size}.", *made]

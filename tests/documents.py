@@ -25,9 +25,9 @@ PROMISES = "docs/PROMISES.md"
 PROMISED = "Promise | Function: clause"
 OTHERS = ("Promise | Part of `IsRunOf`", "Promise | Clause of `replay`",
           "Wrong implementation | The test")
-# The table of docs/ARCHITECTURE.md that says which file has what, and where files stand by ending.
+# The tables of docs/ARCHITECTURE.md that say which file has what, and where files stand by ending.
 ARCHITECTURE = "docs/ARCHITECTURE.md"
-PLACED = "README.md | Code and definitions | Tests"
+PLACED = re.compile(r"^.* \| Code and definitions \| Tests$", re.MULTILINE)
 FOLDERS = {".rt": "crates/{}/src", ".antt": "crates/{}/specs", ".py": "tests"}
 CODE = re.compile(r"`([^`\n]+)`")
 INNER = re.compile(r"\(([^)]*)\)")
@@ -183,8 +183,9 @@ def declared(code, name):
 
 
 def placed(_program):
-    """Each file of the table of files is there, and has what stands behind it."""
-    for what, *cells in rows_of(ARCHITECTURE, PLACED):
+    """Each file of the tables of files is there, and has what stands behind it."""
+    heads = PLACED.findall(text_of(ARCHITECTURE))
+    for what, *cells in (row for head in heads for row in rows_of(ARCHITECTURE, head)):
         faults = [fault for cell in cells for fault in faults_of_files(cell)]
         yield f"{ARCHITECTURE}: {what}", "; ".join(faults) or None
 

@@ -1,8 +1,8 @@
-"""The list in docs/WRONG_BODIES.md, made from the edits that plant wrong bodies.
+"""The table in docs/WRONG_BODIES.md, made from the edits that plant wrong bodies.
 
     python3 tests/planted.py [--write]
 
-By crate and file: the names of those that the gate tries, and how many others there are.
+By crate: the names of those that the gate tries, by file, and how many others there are.
 """
 import sys
 
@@ -24,20 +24,18 @@ def by_file(crate, folder):
     return found
 
 
-def line_of(file, tried, beside):
-    """What the list has of a file: the names of what the gate tries, and how many others."""
-    return f"{file}: {', '.join([*tried, *([str(len(beside))] if beside else [])])}"
+def cell_of(tried):
+    """What the table has of a crate's edits that the gate tries."""
+    return "; ".join(f"{file}: {', '.join(tried[file])}" for file in sorted(tried))
 
 
 def lines():
-    """The lines of the list: for each crate a paragraph."""
-    made = []
+    """The lines of the table: a row for each crate that has edits."""
+    made = ["", "Crate | Tried by the gate | Others", "---|---|---"]
     for crate in crates():
-        tried, beside = by_file(crate, TRIED), by_file(crate, BESIDE)
-        files = sorted({*tried, *beside})
-        told = [line_of(it, tried.get(it, []), beside.get(it, [])) for it in files]
-        if told:
-            made += ["", f"## {crate}", "", *";\n".join(told).splitlines()]
+        tried, others = by_file(crate, TRIED), len(edits_in(crate, BESIDE)[0])
+        if tried or others:
+            made.append(f"{crate} | {cell_of(tried)} | {others}")
     return made
 
 
