@@ -136,10 +136,10 @@ def believed(_program):
 
 
 def rows_of(document, head):
-    """The rows of the table of a document that begins with this row, as lists of cells."""
-    table = text_of(document).partition(f"\n{head}\n")[2].split("\n\n")[0]
-    rows = [line.strip().strip("|").split("|") for line in table.split("\n")[1:] if line]
-    return [[cell.strip() for cell in row] for row in rows]
+    """The rows of the tables of a document that begin with this row, as lists of cells."""
+    tables = [it.split("\n\n")[0] for it in text_of(document).split(f"\n{head}\n")[1:]]
+    lines = [line for table in tables for line in table.split("\n")[1:] if line]
+    return [[cell.strip() for cell in line.strip().strip("|").split("|")] for line in lines]
 
 
 def clauses(_program):

@@ -2,7 +2,7 @@
 
     python3 tests/planted.py [--write]
 
-By crate: the names of those that the gate tries, by file, and how many others there are.
+By crate: the names of those that the gate tries, by file; and how many others there are.
 """
 import sys
 
@@ -30,13 +30,13 @@ def cell_of(tried):
 
 
 def lines():
-    """The lines of the table: a row for each crate that has edits."""
-    made = ["", "Crate | Tried by the gate | Others", "---|---|---"]
+    """The lines of the table, with a row for each crate of which the gate tries edits."""
+    made, others = ["", "Crate | Tried by the gate", "---|---"], []
     for crate in crates():
-        tried, others = by_file(crate, TRIED), len(edits_in(crate, BESIDE)[0])
-        if tried or others:
-            made.append(f"{crate} | {cell_of(tried)} | {others}")
-    return made
+        tried, beside = by_file(crate, TRIED), len(edits_in(crate, BESIDE)[0])
+        made += [f"{crate} | {cell_of(tried)}"] if tried else []
+        others += [f"{crate} {beside}"] if beside else []
+    return [*made, "", f"Others: {', '.join(others)}."]
 
 
 if __name__ == "__main__":
