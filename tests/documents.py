@@ -37,8 +37,8 @@ LINK = re.compile(r"\]\(([^)\s]+)\)")
 # Where a link may lead to in a document: its headings and its anchors.
 HEADING = re.compile(r"^#+ (.*)$", re.MULTILINE)
 ANCHOR = re.compile(r'<a id="([^"]+)">')
-# What a document says that a crate prints.
-PRINTED = re.compile(r"prints `(\w+: [^`\n]+)`")
+# What a document says that a crate prints, in words; "prints" may be a link.
+PRINTED = re.compile(r"\bprints\b(?:\]\([^)]*\))? `([^`\n]+ [^`\n]+)`")
 
 
 def exists(path):
@@ -233,14 +233,16 @@ def places_of(text):
 
 
 def code(_program):
-    """Rust that a document shows is code of a crate: what it uses line by line, and each part
-    between blank lines whole. What it says that a crate prints stands in that crate's stdout.
+    """Rust that a document shows is code of a crate, and C that of an example: what it uses line by
+    line, and each part between blank lines whole. What it says that a crate prints stands in that
+    crate's stdout.
     """
-    sources = [as_lines(text_of(path)) for it in crates() for path in sources_of(it, "src")]
-    lines = {line for source in sources for line in source.split("\n")}
+    of_crates = [path for it in crates() for path in sources_of(it, "src")]
+    files = {"rust": of_crates, "c": files_below("examples/c", ".c")}
+    sources = {it: [as_lines(text_of(path)) for path in files[it]] for it in files}
     for document, language, shown_code in blocks():
-        for part in shown_code.split("\n\n") if language == "rust" else []:
-            fault = fault_of_code(as_lines(part).strip(), sources, lines)
+        for part in shown_code.split("\n\n") if language in sources else []:
+            fault = fault_of_code(as_lines(part).strip(), sources[language])
             yield f"{document}: {part.strip().splitlines()[0]}", fault
     outputs = filter(exists, (f"crates/{crate}/stdout" for crate in crates()))
     printed = "\n".join(map(text_of, outputs)).splitlines()
@@ -255,13 +257,14 @@ def as_lines(text):
     return "\n".join(line.strip() for line in text.split("\n"))
 
 
-def fault_of_code(text, sources, lines):
-    """Why a part of the code that a document shows is no code of a crate, or None."""
-    if text.startswith(("use ", "ghost use ", "#![tactic")):
+def fault_of_code(text, sources):
+    """Why a part of the code that a document shows is none of these sources, or None."""
+    if text.startswith(("use ", "ghost use ", "#![tactic", "#include ")):
+        lines = {line for source in sources for line in source.split("\n")}
         missing = [line for line in text.split("\n") if line not in lines]
-        return f"no crate has the line: {missing[0]}" if missing else None
+        return f"no source has the line: {missing[0]}" if missing else None
     whole = any(f"\n{text}\n" in f"\n{source}\n" for source in sources)
-    return None if whole else "no crate has these lines, one after another"
+    return None if whole else "no source has these lines, one after another"
 
 
 def runs(program):
