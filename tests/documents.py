@@ -27,7 +27,7 @@ OTHERS = ("Promise | Part of `IsRunOf`", "Promise | Clause of `replay`",
           "Wrong implementation | The test")
 # The tables of docs/ARCHITECTURE.md that say which file has what, and where files stand by ending.
 ARCHITECTURE = "docs/ARCHITECTURE.md"
-PLACED = re.compile(r"^.* \| Code and definitions \| Tests$", re.MULTILINE)
+PLACED = re.compile(r"^.*\|(?:Files|Tests)$", re.MULTILINE)
 FOLDERS = {".rt": "crates/{}/src", ".antt": "crates/{}/specs", ".py": "tests"}
 CODE = re.compile(r"`([^`\n]+)`")
 INNER = re.compile(r"\(([^)]*)\)")
