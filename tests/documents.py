@@ -22,8 +22,8 @@ LOGIC = re.compile(r"\blogic [0-9a-f]+\b")
 COUNTED = "rest on %(headline)d lines of ours"
 PROMISES = "docs/PROMISES.md"
 # The table of a library's promises begins with this row, and those of docs/PROMISES.md with these.
-PROMISED = "Promise | Function: clause"
-OTHERS = ("Promise | Part of `IsRunOf`", "Promise | Clause of `replay`",
+PROMISED = "Promise|Function: clause"
+OTHERS = ("Promise | Part of `IsRunOf`", "Promise | Function: clause",
           "Wrong implementation | The test")
 # The tables of docs/ARCHITECTURE.md that say which file has what, and where files stand by ending.
 ARCHITECTURE = "docs/ARCHITECTURE.md"
