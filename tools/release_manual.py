@@ -1,10 +1,10 @@
 """Makes manual pages, for man, of templates in tools/manual/ and of what the documents say.
 
 A template is a page in the Markdown of the documents, and has what stands there alone. In it
-{{section TITLE}} stands for the section of this heading in README.md or a document of docs/,
-without those below it; {{about}}, {{usage}}, {{options}} and {{statuses}} stand for these parts of
-a program's help, and {{summary}} and {{told}} for what a tool in Python says of itself. So what a
-page and a document both say is made from one text.
+{{section TITLE}} stands for the section of this heading in README.md, examples/README.md or a
+document of docs/, without those below it; {{about}}, {{usage}}, {{options}} and {{statuses}} stand
+for these parts of a program's help, and {{summary}} and {{told}} for what a tool in Python says of
+itself. So what a page and a document both say is made from one text.
 """
 import ast
 import re
@@ -15,6 +15,7 @@ from release_help import help_of
 
 ROOT = Path(__file__).resolve().parent.parent
 TEMPLATES = ROOT / "tools" / "manual"
+DOCUMENTS = [ROOT / "README.md", ROOT / "examples" / "README.md"]
 # What stands in the repository, and what is installed in its place.
 INSTALLED = {
     "./fdb_audit": "fdb_audit", "./fdb_replay": "fdb_replay", "tools/picture": "fdb-audit-picture",
@@ -54,7 +55,7 @@ def installed(text):
 def section(title):
     """What the documents say below this heading, up to the next one."""
     found = []
-    for document in [ROOT / "README.md", *sorted((ROOT / "docs").glob("*.md"))]:
+    for document in [*DOCUMENTS, *sorted((ROOT / "docs").glob("*.md"))]:
         text = document.read_text(encoding="utf-8")
         text = FENCED.sub(lambda it: it[0].replace("#", HASH), text)
         parts = HEADING.split(text)
