@@ -16,9 +16,10 @@ NODE = shutil.which("node")
 BROWSERS = ("chromium", "chromium-browser", "google-chrome", "chrome")
 BROWSER = next(filter(None, map(shutil.which, BROWSERS)), None)
 BROWSER_WORDS = ["--headless", "--no-sandbox", "--disable-gpu"]
-# What the largest log may take: of processor time some ten times what it does, since machines
-# differ; what its page may do until it is drawn; and how many shapes a view of it has.
-CALLS, SECONDS, BYTES, OPENS, SHAPES = 100_000, 20, 25_000_000, 6, 5_000
+# What the largest log may take: of processor time some thirty times what it does, since machines
+# differ and others are busy; so may its page until it is drawn; and how many shapes a view of it
+# has. What goes over all calls for each of them takes hours.
+CALLS, SECONDS, BYTES, OPENS, SHAPES = 100_000, 60, 25_000_000, 60, 5_000
 # How many faults a log has whose clients learn, and what is asked of logs that are made here.
 LEARNS = 8_000
 ASKED_FOR = {"complete": None, "margin": 0, "by_key": False, "members": []}

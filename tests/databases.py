@@ -17,9 +17,9 @@ AS_SAID, OTHERWISE, NOT_HERE = 0, 1, 2
 # What it says where nothing is wrong, but too little came of it.
 TOO_LITTLE = b"too little came in time"
 # How long the clients run at each try: a busy machine may need a second or a third one.
-TRIES = ("1.5", "5", "15")
-# So many seconds at most an ended program is there.
-ENDS = 10
+TRIES = ("1.5", "5", "15", "45")
+# So many seconds at most an ended program is there, on a busy machine.
+ENDS = 60
 # Two programs, a call behind which a signal comes each time, and how they are started.
 SIGNALLED = """
 import os, subprocess, sys

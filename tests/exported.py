@@ -50,16 +50,17 @@ class Burst:
     def through(self, exporter):
         """While faults go through it, it is asked again and again, and what comes out is read."""
         os.close(self.writer)
-        threads = [threading.Thread(target=it, args=[exporter]) for it in (self.hear, self.ask)]
-        for it in threads:
-            it.start()
+        hears, asks = (threading.Thread(target=it, args=[exporter]) for it in (self.hear, self.ask))
+        hears.start()
+        asks.start()
         try:
             yield
         finally:
+            # (who asks one that ends may get no answer)
             self.is_over.set()
+            asks.join(SECONDS)
             self.ended = exporter.end()
-            for it in threads:
-                it.join(SECONDS)
+            hears.join(SECONDS)
 
     def give(self, exporter, text):
         self.sums[0].update(text)

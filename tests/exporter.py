@@ -15,8 +15,6 @@ from pictured_watches import LOG
 
 TOOL = f"{ROOT}/tools/exporter"
 PYTHON, LIBRARY = "/usr/bin/python3", "/usr/lib/python3/dist-packages/prometheus_client"
-# How long an answer may take.
-PATIENCE = 30
 SERVED = re.compile(r"exporter: (http://127\.0\.0\.1:\d+/metrics)\n")
 # What there is before anything is told.
 NOTHING = {
@@ -61,7 +59,7 @@ def text_of(*objects):
 
 def asked(address):
     """What is served, by metric and labels."""
-    with urllib.request.urlopen(address, timeout=PATIENCE) as answer:
+    with urllib.request.urlopen(address, timeout=SECONDS) as answer:
         return values_of(answer.read().decode())
 
 
@@ -232,11 +230,13 @@ def counted(_program):
             before = time.time()
             exporter.give(given)
             is_passed = exporter.has_passed(given)
-            is_so = lambda found: all(found.get(it) == value for it, value in wanted.items())
+            # (of what counts nothing is seen when it was heard)
+            is_heard = lambda found: not given or before <= found[HEARD] <= time.time()
+            is_so = lambda found: is_heard(found) and all(
+                found.get(it) == value for it, value in wanted.items())
             found = exporter.until(is_so)
             fault_found = differing({**dict.fromkeys(dropped), **found}, changed)
-            is_heard = not given or before <= found[HEARD] <= time.time()
-            is_whole = is_passed and is_heard
+            is_whole = is_passed and is_heard(found)
             yield name, fault_found or (None if is_whole else f"{exporter.passed}, {found}")
             ended = exporter.end()
             yield f"{name}, ended", None if ended == (DONE, "") else f"{ended}"

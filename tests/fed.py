@@ -134,12 +134,13 @@ class Fed:
                     if kind in ("commit", "read")]
         end = self.lines[-1]["ended"]
         self.write(*(timed("read", max(versions), end + 1, end + BEHIND + 2, it) for it in "yz"))
-        late, status = time.monotonic() + SECONDS, None
+        late, status, pause = time.monotonic() + SECONDS, None, PAUSE
         while lines_kept(self.kept) < len(self.lines) and time.monotonic() < late:
             if not self.started:
                 self.start()
-            time.sleep(PAUSE)
-            status = self.stop()
+            # (a busy machine may not have begun so soon)
+            time.sleep(pause)
+            status, pause = self.stop(), 2 * pause
         return status
 
     def told(self):

@@ -30,7 +30,7 @@ ANALYZE, RSYSLOG = shutil.which("systemd-analyze"), shutil.which("rsyslogd", pat
 INSTALLED, EXPOSED = "/opt/fdb-read-version", 20
 ALERT = re.compile(r"- alert: (\w+)")
 # How long the whole example runs, in seconds, at each try; what it says, and its picture.
-RUNS_FOR, RIGHT_FOR = ("20", "20", "40"), ("5", "15", "40")
+RUNS_FOR, RIGHT_FOR = ("20", "20", "40", "80"), ("5", "15", "40", "80")
 FIRES = re.compile(rb"after \d+ s StaleRead fires: A read got a version below what was known")
 PICTURE, WIDTH, HEIGHT, MOST_BYTES = f"{ROOT}/{FOLDER}/prometheus.png", 1000, 800, 200_000
 # Machines whose lines come late: how many, how long a call takes, and how late the last one's are.

@@ -11,8 +11,8 @@ from ample_audits import FEW, Row
 from audit_lines import MOST_BYTES, line_of, refusal
 from audit_logs import PROGRAM, TIMED, UNTIMED, large_log, refused_at, refusals
 from audit_search import random_lines, text_of
-from harness import NO_STREAM, OTHER_ARGUMENTS, Ran, done, fault_of, processor_time, read, run
-from harness import spent, under
+from harness import NO_STREAM, OTHER_ARGUMENTS, TRIES, Ran, done, fault_of, processor_time, read
+from harness import run, spent, under
 from reader import HIGHEST, Refused
 
 Case = Iterator[tuple[str, Optional[str]]]
@@ -254,13 +254,17 @@ def costs(_program: str) -> Case:
         with open(longer, "wb") as to:
             to.write(text * 4)
         judged = [PROGRAM, log, "--key", "client", "--summary"]
-        _, most = processor_time(lambda: run(judged))
         words = iter(range(100))
 
         def into() -> list[str]:
             return ["--split", "16", "--key", "client", "--into", f"{folder}/{next(words)}"]
 
-        _, took = processor_time(lambda: run([PROGRAM, log, *into()]), most)
+        # (both are measured again, since others may be busy beside one of them alone)
+        for _ in range(TRIES):
+            _, most = processor_time(lambda: run(judged))
+            _, took = processor_time(lambda: run([PROGRAM, log, *into()]), most)
+            if took <= most:
+                break
         yield "time", None if took <= most else f"{took} s, where an audit takes {most}"
         once, often = (spent([PROGRAM, it, *into()], 600, 1 << 40) for it in (log, longer))
         fault = f"{often.memory} KiB of four logs, {once.memory} of one"
