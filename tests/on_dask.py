@@ -20,19 +20,20 @@ TOOL = f"{ROOT}/tools/audit_on_dask"
 PYTHON = "/usr/bin/python3"
 WORKERS, FILES, LINES = 3, 12, 300_000
 # How long something may take until it is there, in seconds, and between two looks at it.
-WAIT, LOOK = 120, 0.02
+WAIT, LOOK = 300, 0.02
 BLOCK = 1 << 20
 
 
 class Cluster:
     """A scheduler and workers, processes of their own that talk over loopback."""
 
-    def __init__(self, folder: str):
+    def __init__(self, folder: str, count: int, memory: str):
         self.folder, self.file = folder, f"{folder}/scheduler.json"
+        self.count, self.memory = count, memory
         self.processes: list[subprocess.Popen] = []
         self.start("dask_scheduler", "--host", "127.0.0.1", "--port", "0", "--no-show",
                    "--scheduler-file", self.file)
-        for number in range(WORKERS):
+        for number in range(count):
             self.worker(number)
 
     def start(self, module: str, *words: str) -> subprocess.Popen:
@@ -46,7 +47,7 @@ class Cluster:
 
     def worker(self, number: int) -> subprocess.Popen:
         return self.start("dask_worker", "--scheduler-file", self.file, "--nthreads", "1",
-                          "--no-nanny", "--memory-limit", "1GiB", "--host", "127.0.0.1",
+                          "--no-nanny", "--memory-limit", self.memory, "--host", "127.0.0.1",
                           "--local-directory", self.place(number))
 
     def place(self, number: int) -> str:
@@ -57,7 +58,7 @@ class Cluster:
         """The scheduler's address, once it and its workers are there."""
         until(lambda: os.path.exists(self.file), "a scheduler")
         address = json.loads(read(self.file))["address"]
-        for number in range(WORKERS):
+        for number in range(self.count):
             until(lambda: os.path.isdir(self.place(number)), "a worker")
         return address
 
@@ -83,9 +84,9 @@ def until(is_so, what: str) -> None:
 
 
 @contextlib.contextmanager
-def cluster() -> Iterator[tuple[Cluster, str]]:
+def cluster(count: int = WORKERS, memory: str = "1GiB") -> Iterator[tuple[Cluster, str]]:
     with tempfile.TemporaryDirectory(prefix="dask-") as folder:
-        made = Cluster(folder)
+        made = Cluster(folder, count, memory)
         try:
             yield made, made.address()
         finally:
@@ -160,17 +161,26 @@ def parted(out: bytes) -> tuple[bytes, list[tuple]]:
     ]
 
 
-def kills(made: Cluster, number: int) -> threading.Thread:
-    """Ends a worker, as soon as it is at a task, and starts another."""
+@contextlib.contextmanager
+def kills(made: Cluster, number: int) -> Iterator[list[int]]:
+    """Meanwhile ends a worker, as soon as it is at a task, and starts another; gives which."""
+    killed: list[int] = []
+    is_over = threading.Event()
 
     def kill() -> None:
-        until(lambda: made.is_at_work(number), "task of a worker")
-        os.killpg(made.processes[1 + number].pid, signal.SIGKILL)
-        made.worker(WORKERS)
+        until(lambda: made.is_at_work(number) or is_over.is_set(), "task of a worker")
+        if not is_over.is_set():
+            os.killpg(made.processes[1 + number].pid, signal.SIGKILL)
+            killed.append(number)
+            made.worker(made.count)
 
     thread = threading.Thread(target=kill)
     thread.start()
-    return thread
+    try:
+        yield killed
+    finally:
+        is_over.set()
+        thread.join()
 
 
 def written(folder: str, name: str, lines: bytes) -> str:
@@ -200,22 +210,60 @@ def other_logs(folder: str) -> Iterator[tuple[str, list[str], bytes]]:
     yield "no fault", [written(folder, "sound", sound)], sound
 
 
+# What others log in a run of the tool.
+LOGS_BESIDE = f"""
+import logging, runpy
+runpy.run_path({TOOL!r})["quiet"]()
+for name in ("asyncio", "distributed.client", "distributed.core"):
+    logging.getLogger(name).error("Future exception was never retrieved")
+logging.getLogger("distributed.scheduler").error("it fails")
+"""
+
+
+def fault_of_logs() -> Optional[str]:
+    """What is wrong with what is left of what others say on standard error."""
+    path = {**os.environ, "PYTHONPATH": os.path.dirname(TOOL)}
+    ran = run([PYTHON, "-B", "-c", LOGS_BESIDE], env=path)
+    is_so = b"it fails" in ran.err and b"retrieved" not in ran.err
+    return None if is_so else f"{ran}"
+
+
+# Whether a log of 40 KB has few blocks where these may have 40 pieces, and how many lines it has.
+BLOCKS = f"""
+import argparse, dask, runpy, sys
+tool = runpy.run_path({TOOL!r})
+tool["blocks_of"].__globals__["MOST_PIECES"] = 40
+asked = argparse.Namespace(logs=sys.argv[1:], block="1KiB", parts=8)
+blocks = dask.compute(*tool["blocks_of"](asked))
+print(1 < len(blocks) <= 5, sum(it.count(b"x\\n") for it in blocks))
+"""
+
+
+def fault_of_blocks(folder: str) -> Optional[str]:
+    """What is wrong with the blocks of a log of which there would be too many pieces."""
+    path = {**os.environ, "PYTHONPATH": os.path.dirname(TOOL)}
+    ran = run([PYTHON, "-B", "-c", BLOCKS, written(folder, "x", b"x\n" * 20_000)], env=path)
+    return None if ran.out == b"True 20000\n" else f"{ran}"
+
+
 def parts(_program: str) -> Case:
     """On a cluster the same is told as by one audit, whatever dies or is refused."""
     if run([PYTHON, "-c", "import distributed"]).status:
         print("(no python3-distributed here) ", end="")
         yield "without Dask", None
         return
+    yield "what others say beside it", fault_of_logs()
     with tempfile.TemporaryDirectory(prefix="dask-log-") as folder, cluster() as (made, address):
+        yield "blocks of many pieces", fault_of_blocks(folder)
         files, whole = write_log(folder)
         words = ["--margin", "5", "--show", "note,began"]
         wanted = run([PROGRAM, "--key", "key", "--json", *words], whole)
         ran = told(address, files, *words)
         yield f"{LINES} lines in {FILES} files", fault_of_told(ran, wanted)
-        killing = kills(made, 0)
-        ran = told(address, [f"{folder}/*.jsonl"], *words, "--parts", "5")
-        killing.join()
-        yield "where a worker is killed", fault_of_told(ran, wanted)
+        with kills(made, 0) as killed:
+            ran = told(address, [f"{folder}/*.jsonl"], *words, "--parts", "5")
+        fault = fault_of_told(ran, wanted)
+        yield "where a worker is killed", fault if killed else "no worker was seen at a task"
         for name, some, text in other_logs(folder):
             wanted = run([PROGRAM, "--key", "key", "--json"], text)
             yield name, fault_of_told(told(address, some), wanted)
