@@ -5,8 +5,8 @@
 First come the definitions that the headline rests on, in the order in which a reader has to believe
 them: by crate as in crates.txt, by file as in its specs/Lib.antt, and as they stand there. Each has
 the first sentence of its comment, and of a long one what stands before its colon or semicolon; but
-those of a file that docs/SCRIPT.md tells in words are only counted. Those that only other promises
-cite are left out.
+those of a file that docs/SCRIPT.md or docs/PROMISES.md tells in words, or that takes logs apart,
+are only counted. Those that only other promises cite are left out.
 """
 import os
 import re
@@ -24,10 +24,18 @@ MODULE = re.compile(r"^pub mod (\w+)$", re.MULTILINE)
 # Where a definition comes from, which its file says.
 SOURCE = re.compile(r"\s*\([^()]*(?:FoundationDB|masterserver|GrvProxy|own|1990)[^()]*\)")
 LONG = 12
-# The files of which docs/SCRIPT.md tells in words what they say.
+# The files that docs/SCRIPT.md or docs/PROMISES.md tells in words, and those that take logs apart.
 TOLD = {
+    ("fdb_history", "Event"),
+    ("fdb_history", "Log"),
+    ("fdb_history", "Explained"),
+    ("fdb_history", "Added"),
+    ("fdb_history", "Issuing"),
     ("fdb_history", "Text"),
+    ("fdb_history", "Laws"),
     ("fdb_history", "Faults"),
+    ("fdb_history", "Strays"),
+    ("fdb_script", "Answering"),
     ("fdb_script", "Reading"),
     ("fdb_script", "Text"),
 }
