@@ -3,8 +3,8 @@ from typing import NamedTuple, Optional
 
 from reader import HIGHEST, Refused, value_of
 
-# The most bytes of a line.
-MOST_BYTES = 1_048_576
+# The most bytes of a line, and how many more one may have that has its own number.
+MOST_BYTES, NUMBER_BYTES = 1_048_576, 40
 CALLS = ("read", "commit", "ask", "report")
 KINDS = (*CALLS, "learn")
 CAUSES = {
@@ -20,6 +20,7 @@ CAUSES = {
     "BadMember began": "no whole number below 2^64, or none beside ended",
     "BadMember ended": "no whole number below 2^64 and not null, or before began",
     "BadMember key": "no name",
+    "BadMember numbers": "no whole number below 2^64, or not above that of the line before",
 }
 
 
@@ -33,6 +34,7 @@ class Line(NamedTuple):
     ended: Optional[int] = None
     key: Optional[str] = None
     said: dict = {}
+    number: Optional[int] = None
 
 
 def refusal(number, why):
@@ -41,10 +43,10 @@ def refusal(number, why):
     return f"{' '.join(it for it in (word, str(number or ''), member) if it)}: {CAUSES[why]}"
 
 
-def lines_of(given, member=None):
+def lines_of(given, member=None, numbers=None):
     """The lines of a log, or Refused with the first that is refused, and why.
 
-    The member, where one is named, has their keys.
+    The member, where one is named, has their keys, and `numbers` their own numbers.
     """
     texts = given.split(b"\n")
     if not texts[-1]:
@@ -54,7 +56,11 @@ def lines_of(given, member=None):
     lines, names = [], set()
     for number, text in enumerate(texts, 1):
         try:
-            line = line_of(text, names, lines[0].began is not None if lines else None, member)
+            has_times = lines[0].began is not None if lines else None
+            line = line_of(text, names, has_times, member, numbers)
+            if numbers is not None:
+                last = lines[-1].number if lines else -1
+                wrong_if(line.number is None or line.number <= last, "numbers")
         except Refused as why:
             raise Refused(refusal(number, str(why))) from None
         lines.append(line)
@@ -62,9 +68,9 @@ def lines_of(given, member=None):
     return lines
 
 
-def line_of(text, names, has_times, member=None):
+def line_of(text, names, has_times, member=None, numbers=None):
     """A line, below lines with these names that have times or not (None: it is the first)."""
-    if len(text) > MOST_BYTES:
+    if len(text) > MOST_BYTES + NUMBER_BYTES * (numbers is not None):
         raise Refused("TooLong")
     said = value_of(text)
     said = said if type(said) is dict else {}
@@ -84,7 +90,7 @@ def line_of(text, names, has_times, member=None):
         raise Refused("SomeTimes")
     wrong_if(began is not None and kind == "learn", "learn")
     wrong_if(began is None and client is None, "client")
-    return Line(client, kind, value, began, ended, key, said)
+    return Line(client, kind, value, began, ended, key, said, number_in(said.get(numbers)))
 
 
 def times_of(said):

@@ -24,12 +24,14 @@ UNPRINTABLE = re.compile("[\x7f-\x9f\u061c\u200e\u200f\u2028-\u202e\u2066-\u2069
 
 class Options(NamedTuple):
     """What is asked for: START, where the log has all calls; how far clocks may be apart; by which
-    member each key is judged by itself; which are shown; and what is written, and how."""
+    member each key is judged by itself; which are shown, and which has the lines' own numbers; and
+    what is written, and how."""
 
     complete: Optional[int] = None
     margin: int = 0
     key: Optional[str] = None
     show: tuple = ()
+    numbers: Optional[str] = None
     all: bool = False
     totals: bool = False
     json: bool = False
@@ -207,8 +209,13 @@ class Case:
 
     # ---- what is said of it, in sentences
 
+    def own(self, j):
+        """The number by which a line is told: its own, or its place in the log, from 1."""
+        own = self.lines[j].number
+        return self.at[j] + 1 if own is None else own
+
     def number(self, j):
-        return f"line {self.at[j] + 1}"
+        return f"line {self.own(j)}"
 
     def beside(self, line):
         texts = texts_beside(line, self.options)
@@ -259,7 +266,7 @@ class Case:
 
     def line_object(self, j):
         line = self.lines[j]
-        said = {"line": self.at[j] + 1}
+        said = {"line": self.own(j)}
         said |= {"client": line.client} if line.client is not None else {}
         said |= {line.kind: line.value}
         said |= {"began": line.began, "ended": line.ended} if self.has_times else {}
@@ -284,7 +291,7 @@ class Case:
         """All lines that may be written of a fault."""
         if self.json:
             return [printed(self.fault_object(fault, k, it)) for it in self.reasons(fault, k)]
-        return [f"audit fault: {fault} {self.at[k] + 1}: {self.sentence(fault, k, it)}"
+        return [f"audit fault: {fault} {self.own(k)}: {self.sentence(fault, k, it)}"
                 for it in self.reasons(fault, k)]
 
     # ---- an order that explains lines without a fault
@@ -473,8 +480,8 @@ def options_of(words):
             break
         if word in ("--complete", "--margin"):
             found[word[2:]] = int(next(words))
-        elif word == "--key":
-            found["key"] = next(words)
+        elif word in ("--key", "--numbers"):
+            found[word[2:]] = next(words)
         elif word == "--show":
             found["show"] = tuple(next(words).split(","))
         elif word.startswith("--"):
@@ -487,7 +494,7 @@ def options_of(words):
 def judged(given, options=Options()):
     """How the program ends with these bytes: status, standard output, standard error."""
     try:
-        log = Log(lines_of(given, options.key), options)
+        log = Log(lines_of(given, options.key, options.numbers), options)
     except Refused as why:
         return 1, b"", f"fdb_audit: logs refused: {why}\n".encode()
     faults = log.faults()
@@ -496,4 +503,4 @@ def judged(given, options=Options()):
     if not faults:
         return 0, out, b""
     case, fault, k = faults[0]
-    return 4, out, f"fdb_audit: audit fault: {fault} {case.at[k] + 1}\n".encode()
+    return 4, out, f"fdb_audit: audit fault: {fault} {case.own(k)}\n".encode()

@@ -27,7 +27,7 @@ def why_wrong(given, words, ran, **changed):
     found = fault_of(ran, Ran(status, None, err))
     if found:
         return found
-    log = Log(lines_of(given, options.key), options)
+    log = Log(lines_of(given, options.key, options.numbers), options)
     said = ran.out.decode().split("\n")
     if said.pop():
         return "the last line has no end"

@@ -1,7 +1,6 @@
 """The commands of examples/README.md by which the parts of a log are judged apart, key by key."""
 import collections
 import glob
-import json
 import os
 import random
 import re
@@ -14,8 +13,7 @@ from documents import BLOCK
 from harness import read, run, text_of
 
 COMMAND = next(it for _, it in BLOCK.findall(text_of("examples/README.md")) if "parallel" in it)
-# The numbers of lines, which are those of a part, and counts.
-NUMBER = re.compile(rb"\b(Order|Wrong|NotAbove|Twice|Stray|line) (\d+)")
+# Counts.
 COUNT = re.compile(rb"(\w+) (\d+)")
 
 
@@ -25,24 +23,22 @@ def random_log(dice, count=400):
     return log_of([line for lines in drawn if "began" in lines[0] for line in lines])
 
 
-def told(said, numbers=None):
+def told(said):
     """The faults, each with its reason, by the numbers of their lines; and the counts, added up."""
-    named = lambda it: b"%s %d" % (it[1], numbers[int(it[2]) - 1] if numbers else int(it[2]))
     faults, counts = collections.Counter(), collections.Counter()
     for line in said.splitlines():
         if line.startswith(b"audit fault: "):
-            faults[NUMBER.sub(named, line)] += 1
+            faults[line] += 1
         else:
             counts.update({word: int(count) for word, count in COUNT.findall(line)})
     return faults, counts
 
 
 def told_of_parts(folder):
-    """The same of all parts, by the numbers of their lines in the whole log."""
+    """The same of all parts."""
     faults, counts = collections.Counter(), collections.Counter()
     for part in glob.glob(f"{folder}/parts/*.jsonl"):
-        numbers = [json.loads(line)["split_line"] for line in read(part).splitlines()]
-        for whole, its in zip((faults, counts), told(read(f"{part}.said"), numbers)):
+        for whole, its in zip((faults, counts), told(read(f"{part}.said"))):
             whole.update(its)
     return faults, counts
 

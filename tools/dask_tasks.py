@@ -4,20 +4,14 @@ import os
 import re
 import subprocess
 import tempfile
-from array import array
 from typing import NamedTuple
 
 from distributed import get_worker
 
 # What fdb_audit says of a line that it refuses, and the line's number.
 REFUSED = re.compile(rb"fdb_audit: logs refused: \w+ (\d+)")
-# The number of a line of a part in the whole log, as fdb_audit writes it behind the last member.
-NUMBER = re.compile(rb',"split_line":(\d+)(?=}[ \t\r]*\n)')
-# In a fault, where a line is named by its number, and what is shown of one; a name or a text there.
-NAMED = re.compile(
-    r'"(?:at|first|by|teller|reported|drawn)":{"line":(?P<number>\d+)|(?P<shown>"members":{)'
-)
-NAME = re.compile(r'"(?:[^"\\]|\\.)*":')
+# The member of a line of a part that has its number in the whole log.
+NUMBER = "split_line"
 # A line that no log refuses for its own sake, with times and without.
 GOOD = {True: b'{"read":1,"began":0,"ended":0}\n', False: b'{"client":"a","read":1}\n'}
 # What is kept of a line to be refused: one byte more than a line may have.
@@ -135,46 +129,20 @@ def piece(made, part):
 
 def judge(pieces, asked):
     """Judges a part, which is made of a piece of each block; none where it has no line."""
-    numbers = array("Q")
     with folder() as own:
         log, said = f"{own}/part.jsonl", f"{own}/said"
         with open(log, "wb") as to:
-            for it in pieces:
-                numbers.extend(map(int, NUMBER.findall(it)))
-                to.write(NUMBER.sub(b"", it))
-        if not numbers:
+            to.writelines(pieces)
+        if not os.path.getsize(log):
             return Judged(DONE, b"", b"", b"")
-        words = [log, "--key", asked.key, "--json", *asked.arguments]
+        words = [log, "--key", asked.key, "--json", "--numbers", NUMBER, *asked.arguments]
         with open(said, "wb") as out:
             ran = subprocess.run([asked.program, *words], stdout=out, stderr=subprocess.PIPE)
         faults, totals = [], []
-        with open(said, encoding="utf-8", newline="\n") as lines:
+        with open(said, "rb") as lines:
             for text in lines:
-                is_fault = text.startswith('{"fault":')
-                (faults if is_fault else totals).append(
-                    renumbered(text, numbers) if is_fault else text
-                )
-    return Judged(ran.returncode, ran.stderr, "".join(faults).encode(), "".join(totals).encode())
-
-
-def renumbered(text, numbers):
-    """A fault, each line of it by its number in the whole log."""
-    made, done, at = [], 0, 0
-    while found := NAMED.search(text, at):
-        at = found.end()
-        if found["shown"]:
-            at = shown_until(text, at)
-        else:
-            made += [text[done : found.start("number")], str(numbers[int(found["number"]) - 1])]
-            done = at
-    return "".join(made) + text[done:]
-
-
-def shown_until(text, at):
-    """Where what is shown of a line ends, which may look like a fault."""
-    while name := NAME.match(text, at):
-        at = json.JSONDecoder().raw_decode(text, name.end())[1] + 1
-    return at
+                (faults if text.startswith(b'{"fault":') else totals).append(text)
+    return Judged(ran.returncode, ran.stderr, b"".join(faults), b"".join(totals))
 
 
 def ending(judged):

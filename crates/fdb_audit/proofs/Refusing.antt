@@ -8,9 +8,8 @@ use Rattle.fdb_command.specs.declared.failure.Failure.{Failure}
 use Rattle.fdb_command.specs.declared.failure.Failure.TheVariants as fault
 use Rattle.fdb_log_reader.specs.declared.error.ReadError.{ReadError}
 use Rattle.fdb_log_reader.specs.declared.error.Why.{Why}
-use Rattle.fdb_log_reader.specs.declared.error.Why.TheVariants.{Empty, TooLong, TooMany, NotJson, NoCall, TwoCalls, SomeTimes, BadMember, BadKey, Memory}
-use Rattle.fdb_log_reader.specs.Reading.{reading_with}
-use Rattle.fdb_audit.specs.Program.{audit, key_asked, shown_asked, IsAsked, RefusesBy}
+use Rattle.fdb_log_reader.specs.declared.error.Why.TheVariants.{Empty, TooLong, TooMany, NotJson, NoCall, TwoCalls, SomeTimes, BadMember, BadKey, BadNumber, Memory}
+use Rattle.fdb_audit.specs.Program.{audit, IsAsked, RefusesBy, reading_asked}
 use Rattle.fdb_audit.specs.declared.arguments.AuditArguments.{AuditArguments}
 use Rattle.fdb_audit.specs.declared.fault.LogFault.{LogFault}
 use Rattle.fdb_audit.specs.declared.refused.LogsRefused.{LogsRefused}
@@ -35,9 +34,10 @@ is_memory TwoCalls = inr (other TwoCalls refl)
 is_memory SomeTimes = inr (other SomeTimes refl)
 is_memory (BadMember member) = inr (other (BadMember member) refl)
 is_memory BadKey = inr (other BadKey refl)
+is_memory BadNumber = inr (other BadNumber refl)
 
 pub stops : (arguments : List Text) (asked : AuditArguments) (bytes : List ℕ) (error : ReadError) (made : Failure LogsRefused LogFault) → IsAsked arguments asked
-    → asked.follow ≡ None → (error.why ≡ Memory) ⊎ (reading_with (key_asked asked) (shown_asked asked) bytes ≡ Err error)
+    → asked.follow ≡ None → (error.why ≡ Memory) ⊎ (reading_asked asked bytes ≡ Err error)
     → (error.why ≡ Memory → made ≡ fault.Memory) → (error.why ≢ Memory → made ≡ fault.Refused (Log error)) → Stops audit arguments bytes made
 stops arguments asked bytes error made is whole reads memory refused =
     elim (is_memory error.why) [

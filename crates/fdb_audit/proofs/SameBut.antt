@@ -37,7 +37,7 @@ key_is (one ∷ said) (suc k) = key_is said k
 
 -- ---- what the numbers of some names stand for
 
-abbrev naming_of : LineNames → Naming
+abbrev pub naming_of : LineNames → Naming
 naming_of names = record {
   client = λ n. unwrap_or (slice_get names.clients n) [];
   key = λ n. unwrap_or (option_and_then (λ keys. slice_get keys.names n) names.keys) [];
@@ -48,11 +48,11 @@ there names n lt =
     let is = slice_get-get_or names n [] lt in
     is ∙ sym (ap (λ (one : Option (List ℕ)). Some (unwrap_or one [])) is)
 
-client_as : (names : LineNames) (client : Option ℕ) → IfSome client (λ n. n < length names.clients) → client_named names client ≡ option_map (naming_of names).client client
+pub client_as : (names : LineNames) (client : Option ℕ) → IfSome client (λ n. n < length names.clients) → client_named names client ≡ option_map (naming_of names).client client
 client_as names None within = refl
 client_as names (Some n) within = there names.clients n within
 
-key_as : (keys : Option MemberNames) (key : Option ℕ) → IfSome key (λ n. IsSomeAnd keys (λ keys. n < length keys.names))
+pub key_as : (keys : Option MemberNames) (key : Option ℕ) → IfSome key (λ n. IsSomeAnd keys (λ keys. n < length keys.names))
     → option_and_then (λ keys. option_and_then (slice_get keys.names) key) keys ≡ option_map (λ n. unwrap_or (option_and_then (λ keys. slice_get keys.names n) keys) []) key
 key_as None None within = refl
 key_as None (Some n) within = absurd within
@@ -61,7 +61,7 @@ key_as (Some keys) (Some n) within = there keys.names n within
 
 -- ---- names that stand once are apart
 
-apart : (names : List (List ℕ)) → StandOnce names → (a b : Option ℕ) → IfSome a (λ n. n < length names) → IfSome b (λ n. n < length names)
+pub apart : (names : List (List ℕ)) → StandOnce names → (a b : Option ℕ) → IfSome a (λ n. n < length names) → IfSome b (λ n. n < length names)
     → option_and_then (slice_get names) a ≡ option_and_then (slice_get names) b → a ≡ b
 apart names once None None within too same = refl
 apart names once None (Some n) within too same = absurd (none-some (get_or names n []) (same ∙ slice_get-get_or names n [] too))
@@ -70,7 +70,7 @@ apart names once (Some n) (Some m) within too same =
     let is = slice_get-get_or names m [] too in
     ap (λ (k : ℕ). Some k) (once n m (get_or names m []) (same ∙ is) is)
 
-keys_apart : (keys : Option MemberNames) → IfSome keys (λ keys. StandOnce keys.names) → (a b : Option ℕ)
+pub keys_apart : (keys : Option MemberNames) → IfSome keys (λ keys. StandOnce keys.names) → (a b : Option ℕ)
     → IfSome a (λ n. IsSomeAnd keys (λ keys. n < length keys.names)) → IfSome b (λ n. IsSomeAnd keys (λ keys. n < length keys.names))
     → option_and_then (λ keys. option_and_then (slice_get keys.names) a) keys ≡ option_and_then (λ keys. option_and_then (slice_get keys.names) b) keys → a ≡ b
 keys_apart None once None None within too same = refl

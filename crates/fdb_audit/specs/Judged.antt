@@ -11,9 +11,9 @@ use Rattle.fdb_lines.specs.Audit.{case_of}
 use Rattle.fdb_lines.specs.Judged.{faults_in, AreAll, AreExplainedIn, AreOrders, HasLateIn, HasReasonIn, IsSummary}
 use Rattle.fdb_lines.specs.Lines.{Lines}
 use Rattle.fdb_lines.specs.OrderSteps.{IsOrderOf}
-use Rattle.fdb_log_reader.specs.Columns.{ArePrinted, HasCells, KeyColumn, ShownColumn}
+use Rattle.fdb_log_reader.specs.Columns.{ArePrinted, HasCells, KeyColumn, NumberColumn, ShownColumn}
 use Rattle.fdb_log_reader.specs.Printed.{printed}
-use Rattle.fdb_log_reader.specs.Reading.{Reading, reading_with}
+use Rattle.fdb_log_reader.specs.Reading.{Reading, reading_in}
 use Rattle.fdb_audit.specs.Groups.{groupings, AreMostOfEach}
 use Rattle.fdb_audit.specs.Figures.{figures_words, opts_figures, summary_figures}
 use Rattle.fdb_audit.specs.Objects.{fault_object, step_object, text_or_null, total_object}
@@ -139,20 +139,21 @@ AreBeside [] (it ∷ more) = ⊥
 AreBeside (column ∷ columns) [] = ⊥
 AreBeside (column ∷ columns) (it ∷ more) = IsBeside column it × AreBeside columns more
 
+-- by which numbers lines are printed: by their own, where they have such
+abbrev pub own_numbers : Option NumberColumn → List ℕ
+own_numbers None = []
+own_numbers (Some column) = column.numbers
+
 -- what is printed of a log that was read: its clients are JSON strings, safe on a terminal and within a line
 abbrev pub print_of : Reading → List Beside → PrintedLog
-print_of reading shown = record { lines = reading.log.lines; names = map printed reading.names; numbers = []; beside = keys_beside reading.keys ++ shown }
+print_of reading shown = record { lines = reading.log.lines; names = map printed reading.names; numbers = own_numbers reading.numbers; beside = keys_beside reading.keys ++ shown }
 
 abbrev pub IsTextOfReading : Reading → AuditOpts → Wanted → Option Found → List ℕ → Type 0
 IsTextOfReading reading opts wanted first text =
     (shown : List Beside) × AreBeside reading.shown shown
     × IsTextOf reading.log (print_of reading shown) (keys_of_lines reading.keys) opts wanted first text
 
--- These bytes stand for a log, with the keys that a member has, if they are asked for, and with others that are shown, and
--- this is what is found and printed.
-abbrev pub IsJudgementBy : Option (List ℕ) → List (List ℕ) → List ℕ → AuditOpts → Wanted → Option Found → List ℕ → Type 0
-IsJudgementBy key shown bytes opts wanted first text =
-    (reading : Reading) × (reading_with key shown bytes ≡ Ok reading) × IsTextOfReading reading opts wanted first text
-
+-- these bytes stand for a log, and this is what is found and printed
 abbrev pub IsJudgement : List ℕ → AuditOpts → Wanted → Option Found → List ℕ → Type 0
-IsJudgement bytes opts wanted first text = IsJudgementBy None [] bytes opts wanted first text
+IsJudgement bytes opts wanted first text =
+    (reading : Reading) × (reading_in bytes ≡ Ok reading) × IsTextOfReading reading opts wanted first text

@@ -13,5 +13,6 @@ pub mod Watched
 pub mod Progress
 pub mod Kept
 pub mod Pieces
+pub mod Joined
 pub mod Program
 pub mod private

@@ -1,5 +1,5 @@
 -- What the program promises of itself. (this product's own)
-use Rattle.std.specs.Prelude.{◌≡◌, ◌≢◌, ℕ, ◌++◌, ◌||◌, ◌&&◌, ◌==◌, not, true, Bool, List, [], ◌∷◌, Option, None, Some, Err, codes, is_some, map, option_map, pos, string_bytes, unwrap_or, if◌then◌else◌}
+use Rattle.std.specs.Prelude.{◌≡◌, ◌≢◌, ℕ, ◌++◌, ◌||◌, ◌&&◌, ◌==◌, not, true, Bool, List, [], ◌∷◌, Option, None, Some, Err, codes, is_some, map, option_map, pos, string_bytes, unwrap_or, Ok, Result, if◌then◌else◌}
 use Rattle.std.specs.List.{slice_split}
 use Rattle.std.specs.Option.{option_or}
 use Rattle.std.specs.Str.Parse.{digits_value, without_leading_plus}
@@ -11,8 +11,8 @@ use Rattle.fdb_log_reader.specs.declared.error.ReadError.{ReadError}
 use Rattle.fdb_log_reader.specs.declared.error.Why.TheVariants.{Memory}
 use Rattle.fdb_log_reader.specs.declared.reader.LogReader.{LogReader}
 use Rattle.fdb_log_reader.specs.Reader.{reads_on}
-use Rattle.fdb_log_reader.specs.Reading.{reading_with}
-use Rattle.fdb_audit.specs.Judged.{IsJudgementBy}
+use Rattle.fdb_log_reader.specs.Reading.{Reading, reading_with}
+use Rattle.fdb_audit.specs.Judged.{IsTextOfReading, own_numbers}
 use Rattle.fdb_audit.specs.Text.{fault_of}
 use Rattle.fdb_audit.specs.declared.arguments.AuditArguments.{AuditArguments}
 use Rattle.fdb_audit.specs.declared.fault.LogFault.{LogFault}
@@ -32,14 +32,14 @@ use Rattle.fdb_audit.specs.Watched.{lines_asked}
 abbrev pub text_rule : Text → Rule
 text_rule name = record (new_rule name) { long = Some name; value_names = 1 }
 
--- LOGS, --version, --complete START, --margin N, --follow N, --keep FILE, --position MEMBER, --key MEMBER, --show MEMBER,MEMBER, --all, --summary, --json, --history and --progress
+-- LOGS, --version, --complete START, --margin N, --follow N, --keep FILE, --position MEMBER, --key MEMBER, --show MEMBER,MEMBER, --numbers MEMBER, --all, --summary, --json, --history and --progress
 abbrev pub command : App
 command = versioned_command_of (codes "fdb_audit")
     (file_rule
     ∷ number_rule (codes "complete") (pos 0) (pos 9223372036854775807)
     ∷ number_rule (codes "margin") (pos 0) (pos 9223372036854775807)
     ∷ number_rule (codes "follow") (pos 0) (pos 9223372036854775807)
-    ∷ text_rule (codes "keep") ∷ text_rule (codes "position") ∷ text_rule (codes "key") ∷ text_rule (codes "show") ∷ flag_rule (codes "all") ∷ flag_rule (codes "summary") ∷ flag_rule (codes "json") ∷ flag_rule (codes "history") ∷ flag_rule (codes "progress") ∷ [])
+    ∷ text_rule (codes "keep") ∷ text_rule (codes "position") ∷ text_rule (codes "key") ∷ text_rule (codes "show") ∷ text_rule (codes "numbers") ∷ flag_rule (codes "all") ∷ flag_rule (codes "summary") ∷ flag_rule (codes "json") ∷ flag_rule (codes "history") ∷ flag_rule (codes "progress") ∷ [])
 
 -- the number that an argument gives, if it is given
 abbrev pub number_named : Text → List Text → Option ℕ
@@ -74,6 +74,7 @@ pub record IsAsked (arguments : List Text) (asked : AuditArguments) : Type 0 whe
   pub position : option_map string_bytes asked.position ≡ first_of (codes "position") (matches_of command arguments)
   pub key : option_map string_bytes asked.key ≡ first_of (codes "key") (matches_of command arguments)
   pub shown : map string_bytes asked.shown.items ≡ members_named (first_of (codes "show") (matches_of command arguments))
+  pub numbers : option_map string_bytes asked.numbers ≡ first_of (codes "numbers") (matches_of command arguments)
   pub progress : asked.progress ≡ is_given (codes "progress") arguments
 
 -- a log is audited as a whole, and not followed as it grows
@@ -88,15 +89,21 @@ key_asked asked = option_map string_bytes asked.key
 abbrev pub shown_asked : AuditArguments → List (List ℕ)
 shown_asked asked = map string_bytes asked.shown.items
 
+-- what a log stands for as it is asked for: with the member of the lines' own numbers, if they have such
+abbrev pub reading_asked : AuditArguments → List ℕ → Result Reading ReadError
+reading_asked asked bytes = reading_with (key_asked asked) (shown_asked asked) (option_map string_bytes asked.numbers) bytes
+
 -- the reader has read these bytes: it reads on with whatever text comes after them
 abbrev pub HasRead : AuditArguments → LogReader → List ℕ → Type 0
-HasRead asked reader bytes = (text : List ℕ) → reads_on reader text ≡ reading_with (key_asked asked) (shown_asked asked) (bytes ++ text)
+HasRead asked reader bytes = (text : List ℕ) → reads_on reader text ≡ reading_asked asked (bytes ++ text)
 
--- what an audit prints of these bytes, and what it tells of: the first fault, by the number of its line
+-- what an audit prints of these bytes, and what it tells of: the first fault, by the number of its line, its own where lines
+-- have such
 abbrev pub Prints : AuditArguments → List ℕ → List ℕ → Option LogFault → Type 0
 Prints asked bytes text found =
-    (first : Option Found) × (found ≡ option_map (fault_of []) first)
-    × IsJudgementBy (key_asked asked) (shown_asked asked) bytes asked.opts asked.wanted first text
+    (reading : Reading) × (reading_asked asked bytes ≡ Ok reading)
+    × (first : Option Found) × (found ≡ option_map (fault_of (own_numbers reading.numbers)) first)
+    × IsTextOfReading reading asked.opts asked.wanted first text
 
 -- From where a log is followed on: by what was kept of it, where the arguments say that and where it is kept, as a text that is
 -- read in front of what comes; and else from its beginning.
@@ -132,7 +139,7 @@ PrintsBy (Some behind) asked bytes text found refused =
 
 -- why it is refused, or why a part of it is, or that not all of it was judged; or what was kept is
 abbrev pub RefusesBy : Option ℕ → AuditArguments → List ℕ → LogsRefused → Type 0
-RefusesBy None asked bytes (Log error) = (error.why ≢ Memory) × (reading_with (key_asked asked) (shown_asked asked) bytes ≡ Err error)
+RefusesBy None asked bytes (Log error) = (error.why ≢ Memory) × (reading_asked asked bytes ≡ Err error)
 RefusesBy None asked bytes (Early number) = ⊥
 RefusesBy None asked bytes (Of_kept refused) = ⊥
 RefusesBy (Some behind) asked bytes (Log error) =
@@ -143,7 +150,7 @@ RefusesBy (Some behind) asked bytes (Early number) =
     × IsPrinted asked (started asked behind kept) (not (is_some asked.keep)) (kept ++ bytes) text found (Some number)
 RefusesBy (Some behind) asked bytes (Of_kept refused) = is_some asked.keep ≡ true
 
--- Neither --complete nor --history suits --follow, --keep suits nothing else, and --position suits --keep alone. It prints what an audit of the log finds that the bytes stand for,
+-- Neither --complete nor --history suits --follow, --keep suits nothing else, --position suits --keep alone, and --numbers suits neither --follow nor --history. It prints what an audit of the log finds that the bytes stand for,
 -- and refuses what stands for none; that memory was refused says nothing of the bytes. Whatever it finds, it prints. Of
 -- a log that is followed it says on standard error which lines it leaves out.
 abbrev pub audit : Promise AuditArguments AuditIntake LogsRefused LogFault
@@ -153,7 +160,9 @@ audit = record {
   suits = λ arguments. not (is_some (number_named (codes "follow") arguments)
       && (is_some (number_named (codes "complete") arguments) || is_given (codes "history") arguments)
       || ((is_some (first_of (codes "keep") (matches_of command arguments)) && not (is_some (number_named (codes "follow") arguments)))
-      || (is_some (first_of (codes "position") (matches_of command arguments)) && not (is_some (first_of (codes "keep") (matches_of command arguments))))));
+      || ((is_some (first_of (codes "position") (matches_of command arguments)) && not (is_some (first_of (codes "keep") (matches_of command arguments))))
+      || (is_some (first_of (codes "numbers") (matches_of command arguments))
+      && (is_some (number_named (codes "follow") arguments) || is_given (codes "history") arguments)))));
   asks = IsAsked;
   tells = λ arguments. is_set (codes "progress") command arguments;
   warns = λ arguments. is_some (number_named (codes "follow") arguments);

@@ -4,7 +4,7 @@ use Rattle.std.specs.List.{filter, filter_map, flat_map, range_with_len}
 use Rattle.std.specs.Int.{is_power_of_two}
 use Rattle.fdb_log_reader.specs.declared.error.ReadError.{ReadError}
 use Rattle.fdb_log_reader.specs.declared.error.Why.{Why}
-use Rattle.fdb_log_reader.specs.declared.error.Why.TheVariants.{Empty, TooLong, TooMany, NotJson, NoCall, TwoCalls, SomeTimes, BadMember, BadKey, Memory}
+use Rattle.fdb_log_reader.specs.declared.error.Why.TheVariants.{Empty, TooLong, TooMany, NotJson, NoCall, TwoCalls, SomeTimes, BadMember, BadKey, BadNumber, Memory}
 use Rattle.fdb_log_reader.specs.declared.member.Member.TheVariants.{Client, Read, Commit, Ask, Report, Learn, Began, Ended}
 use Rattle.fdb_log_reader.specs.ReadLine.{SaidLine}
 use Rattle.fdb_log_reader.specs.Text.{error_text}
@@ -39,6 +39,7 @@ cause_text (BadMember Learn) = codes "no client of a line above, or beside times
 cause_text (BadMember Began) = codes "no whole number below 2^64, or none beside ended"
 cause_text (BadMember Ended) = codes "no whole number below 2^64 and not null, or before began"
 cause_text BadKey = codes "no name"
+cause_text BadNumber = codes "no whole number below 2^64, or not above that of the line before"
 cause_text Memory = codes "out of memory"
 
 abbrev pub caused_text : ReadError → List ℕ

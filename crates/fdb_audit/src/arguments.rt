@@ -43,6 +43,8 @@ const KEY_HELP: &str = "The member that names a line's key: each key is judged b
 
 const SHOW_HELP: &str = "Members, parted by commas, that are printed with each line that is told";
 
+const NUMBERS_HELP: &str = "The member that has a line's own number: lines are told by it";
+
 /// What the flags say: `opts` by `--complete` and `--margin`, `wanted` by `--history`, `--all`,
 /// `--summary` and `--json`.
 #[derive(Debug, Drop)]
@@ -60,6 +62,8 @@ pub struct AuditArguments {
     pub key: Option<String>,
     /// The members that are printed beside each call.
     pub shown: Vec<String>,
+    /// The member that has the numbers of lines, if they have their own.
+    pub numbers: Option<String>,
     /// Whether `--progress` is given: then standard error tells how far the log has been read.
     pub progress: bool,
 }
@@ -151,7 +155,7 @@ fn members_in(alloc: Global, text: &str) -> Result<Vec<String>, AllocError>
     Ok(members)
 }
 
-/// The command that clap is given: one file, three numbers from 0 to 2^63 - 1, four texts, and
+/// The command that clap is given: one file, three numbers from 0 to 2^63 - 1, five texts, and
 /// five flags.
 pub(crate) fn command<'a>(alloc: Global) -> Result<Command<'a>, AllocError>
     ensures { IfOk result (λ made. app_of made ≡ command) }
@@ -175,6 +179,7 @@ pub(crate) fn command<'a>(alloc: Global) -> Result<Command<'a>, AllocError>
     .arg(text_argument(alloc, "position", "MEMBER", POSITION_HELP))?
     .arg(text_argument(alloc, "key", "MEMBER", KEY_HELP))?
     .arg(text_argument(alloc, "show", "MEMBERS", SHOW_HELP))?
+    .arg(text_argument(alloc, "numbers", "MEMBER", NUMBERS_HELP))?
     .arg(flag_argument(
         alloc,
         "all",

@@ -15,7 +15,7 @@ use crate::arguments::{AuditArguments, command, member_names, owned, text, wante
 use crate::fault::{LogFault, told};
 use crate::followed_log::FollowedLog;
 use crate::follower::{Followed, Said};
-use crate::judged::{Judgement, Wanted, judge_named_by};
+use crate::judged::{Judgement, Wanted, judge_named_by, own_numbers};
 use crate::refused::LogsRefused;
 use clap::{ArgMatches, Command};
 use fdb_command::{ArgumentsFault, Failure, Output, Program, Told, is_given, number};
@@ -70,7 +70,8 @@ impl Program for Audit {
         let wanted = wanted_of(matches);
         let keep = text(matches, "keep");
         let position = text(matches, "position");
-        if is_unfit(follow, complete, wanted, keep, position) {
+        let numbers = text(matches, "numbers");
+        if is_unfit(follow, complete, wanted, keep, position, numbers) {
             return Err(ArgumentsFault::Refused);
         }
         Ok(AuditArguments {
@@ -84,6 +85,7 @@ impl Program for Audit {
             position: owned(alloc, position)?,
             key: owned(alloc, text(matches, "key"))?,
             shown: member_names(alloc, text(matches, "show"))?,
+            numbers: owned(alloc, numbers)?,
             progress: is_given(matches, "progress"),
         })
     }
@@ -100,8 +102,9 @@ impl Program for Audit {
                 Ok(AuditIntake::Followed(log))
             }
             None => {
-                let key = asked.key.as_deref();
-                Ok(AuditIntake::Whole(LogReader::with_columns(alloc, key, &asked.shown)?))
+                let (key, numbers) = (asked.key.as_deref(), asked.numbers.as_deref());
+                let reader = LogReader::with_columns(alloc, key, &asked.shown, numbers)?;
+                Ok(AuditIntake::Whole(reader))
             }
         }
     }
@@ -186,22 +189,26 @@ impl AuditIntake {
 }
 
 /// Whether a log is to be followed and what needs all of it is asked for; or is not to be followed,
-/// and lines of it are to be kept; or none are, and where the last one stands is.
+/// and lines of it are to be kept; or none are, and where the last one stands is; or lines have
+/// their own numbers where it is followed, or an order is to be told.
 fn is_unfit(
     follow: Option<u64>,
     complete: Option<u64>,
     wanted: Wanted,
     keep: Option<&str>,
     position: Option<&str>,
+    numbers: Option<&str>,
 ) -> bool
     ensures { result ≡ (is_some follow && (is_some complete || wanted.history)
         || ((is_some keep.entry && not (is_some follow))
-        || (is_some position.entry && not (is_some keep.entry)))) }
+        || ((is_some position.entry && not (is_some keep.entry))
+        || (is_some numbers.entry && (is_some follow || wanted.history))))) }
 {
     let needs_all = follow.is_some() && (complete.is_some() || wanted.history);
     let keeps_none = keep.is_some() && follow.is_none();
     let has_no_place = position.is_some() && keep.is_none();
-    needs_all || (keeps_none || has_no_place)
+    let has_no_number = numbers.is_some() && (follow.is_some() || wanted.history);
+    needs_all || (keeps_none || (has_no_place || has_no_number))
 }
 
 /// Tells what has become certain of a log that is followed.
@@ -283,7 +290,7 @@ fn judged<R: Threads + Sync>(
         Ok(Judgement { fault, text }) => Ok(Output {
             text: text.into_bytes(),
             warnings: Vec::new(alloc),
-            found: told(fault),
+            found: told(own_numbers(&named), fault),
             refused: None,
         }),
         Err(_) => Err(Failure::Memory),

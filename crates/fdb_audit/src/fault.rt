@@ -1,7 +1,7 @@
 //! A fault, by the number of the line at which it stands.
 
-ghost use Rattle.std.specs.Prelude.{◌≡◌, [], option_map};
-ghost use Rattle.fdb_audit.specs.Text.{fault_of};
+ghost use Rattle.std.specs.Prelude.{◌≡◌, option_map};
+ghost use Rattle.fdb_audit.specs.Text.{fault_of, number_at};
 
 use fdb_lines::{Fault, Found};
 use std::fmt;
@@ -31,24 +31,21 @@ impl fmt::Display for LogFault {
     }
 }
 
-/// The fault of a log that has all lines that were read.
-impl From<Found> for LogFault {
-    ghost use Rattle.std.specs.Prelude.{◌≡◌, []};
-    ghost use Rattle.fdb_audit.specs.Text.{fault_of};
-
-    ghost from_gives = { λ found fault. fault ≡ fault_of [] found };
-
-    fn from(found: Found) -> Self {
-        LogFault {
-            fault: found.fault,
-            number: found.line as u64 + 1,
-        }
-    }
+/// The number of the line at a place: by these numbers, or else the place, counted from 1.
+pub(crate) fn number_at(numbers: &[u64], place: u32) -> u64
+    ensures { result ≡ number_at numbers.now place }
+{
+    let number = numbers.get(place as usize);
+    number.copied().unwrap_or(place as u64 + 1)
 }
 
-/// The first fault of a log that has all lines that were read, if there is one.
-pub(crate) fn told(first: Option<Found>) -> Option<LogFault>
-    ensures { result ≡ option_map (fault_of []) first }
+/// The first fault of a log, by the number of its line, if there is one.
+pub(crate) fn told(numbers: &[u64], first: Option<Found>) -> Option<LogFault>
+    ensures { result ≡ option_map (fault_of numbers.now) first }
 {
-    first.map(LogFault::from)
+    let found = first?;
+    Some(LogFault {
+        fault: found.fault,
+        number: number_at(numbers, found.line),
+    })
 }

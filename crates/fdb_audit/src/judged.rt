@@ -8,7 +8,8 @@ ghost use Rattle.fdb_lines.specs.Judged.{IsFirstFound, IsSummary};
 ghost use Rattle.fdb_lines.specs.Log.{lines_of};
 ghost use Rattle.fdb_log_reader.specs.Reading.{reading_in, reading_of, ReadsAs};
 ghost use Rattle.fdb_audit.specs.Judged.{IsJudgement, IsText, IsTextOf};
-ghost use Rattle.fdb_audit.specs.Judged.{keys_of_lines, HasOwnKeys, IsTextOfReading};
+ghost use Rattle.fdb_audit.specs.Judged.{keys_of_lines, own_numbers, HasOwnKeys};
+ghost use Rattle.fdb_audit.specs.Judged.{IsTextOfReading};
 ghost use Rattle.fdb_audit.specs.private.{keys_in, log_in, shown_in, HasKeys};
 
 use crate::asked::Asked;
@@ -179,7 +180,8 @@ fn read(alloc: Global, bytes: &[u8]) -> Result<NamedLog, ReadError>
 
 /// Audits a log that was read: by key, where the keys of its lines were kept, as a
 /// [`fdb_log_reader::LogReader`] keeps one for each line. Clients and keys are printed as JSON strings,
-/// and what is shown of lines as JSON. It fails only where memory is refused.
+/// what is shown of lines as JSON, and lines
+/// by their own numbers, where they have such. It fails only where memory is refused.
 ///
 /// `n log n` in how many lines there are, and linear in what is printed.
 pub fn judge_named<'x>(
@@ -196,7 +198,7 @@ pub fn judge_named<'x>(
     let printer = Printer {
         log: &named.log,
         names: ClientNames::OfLog(&named.names),
-        numbers: &[],
+        numbers: own_numbers(named),
         beside: &beside,
     };
     let asked = Asked {
@@ -223,7 +225,7 @@ pub(crate) fn judge_named_by<'x, R: Threads + Sync>(
     let printer = Printer {
         log: &named.log,
         names: ClientNames::OfLog(&named.names),
-        numbers: &[],
+        numbers: own_numbers(named),
         beside: &beside,
     };
     let asked = Asked {
@@ -241,5 +243,15 @@ fn numbers_of(named: &NamedLog) -> Option<&[Option<u32>]>
     match &named.keys {
         Some(keys) => Some(keys.numbers()),
         None => None,
+    }
+}
+
+/// The lines' own numbers; none where they have none.
+pub(crate) fn own_numbers(named: &NamedLog) -> &[u64]
+    ensures { result.now ≡ own_numbers (reading_of named.now).numbers }
+{
+    match &named.numbers {
+        Some(own) => own.numbers(),
+        None => &[],
     }
 }

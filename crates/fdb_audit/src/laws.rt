@@ -1,13 +1,17 @@
 //! Laws of the definitions. The functions do nothing: each stands for its contract.
 
-ghost use Rattle.std.specs.Prelude.{ℕ, ◌≡◌, ◌++◌, IsPermutation, List, Option, map, option_map};
-ghost use Rattle.std.specs.Prelude.{string_bytes, true};
+ghost use Rattle.std.specs.Prelude.{ℕ, ◌≡◌, ◌++◌, All, IsPermutation, List, Option, map};
+ghost use Rattle.std.specs.Prelude.{option_map, string_bytes, true};
+ghost use Rattle.std.specs.List.{flat_map};
 ghost use Rattle.fdb_lines.specs.declared.fault.Found.{Found};
+ghost use Rattle.fdb_lines.specs.declared.opts.AuditOpts.{AuditOpts};
 ghost use Rattle.fdb_lines.specs.Keys.{placed_found};
 ghost use Rattle.fdb_audit.specs.declared.arguments.AuditArguments.{AuditArguments};
 ghost use Rattle.fdb_audit.specs.declared.fault.LogFault.{LogFault};
 ghost use Rattle.fdb_audit.specs.declared.taking.Taking.{Taking};
 ghost use Rattle.fdb_audit.specs.Following.{early_at, lines_since, told_in_all, Start};
+ghost use Rattle.fdb_log_reader.specs.Reading.{Reading};
+ghost use Rattle.fdb_audit.specs.Joined.{faults_by_number, ArePartsOf, WasReadByKey};
 ghost use Rattle.fdb_audit.specs.Kept.{start_of, IsStopped, Keeps};
 ghost use Rattle.fdb_audit.specs.Pieces.{all_bytes, audited_in, places_beyond, AreWatched};
 ghost use Rattle.fdb_audit.specs.Pieces.{MayGoOn, Piece};
@@ -15,13 +19,13 @@ ghost use Rattle.fdb_audit.specs.Taken.{AreTaken};
 ghost use Rattle.fdb_audit.specs.Watched.{lines_asked, names_asked, IsFollowed};
 
 use fdb_lines::laws::{
-    logs_that_say_the_same_differ_in_numbers_alone, what_a_watch_keeps_stands_for_all,
-    who_goes_on_from_what_a_watch_kept_tells_the_rest,
+    logs_that_say_the_same_differ_in_numbers_alone, the_faults_of_its_parts_are_those_of_a_log,
+    what_a_watch_keeps_stands_for_all, who_goes_on_from_what_a_watch_kept_tells_the_rest,
 };
 use fdb_log_reader::laws::{
     each_name_has_one_number, keys_stay_in_one_member, names_keep_their_numbers,
     numbers_are_those_of_names, what_follows_an_ended_line_is_apart,
-    what_lines_say_is_theirs_alone,
+    what_is_read_by_key_is_numbered_by_names, what_lines_say_is_theirs_alone,
 };
 
 /// What a watch kept says of itself, where no line came early: that none did of the lines it kept. And
@@ -87,4 +91,17 @@ pub fn a_log_watched_in_pieces_is_told_as_by_one_watch()
     what_follows_an_ended_line_is_apart();
     what_lines_say_is_theirs_alone();
     who_goes_on_from_what_a_watch_kept_tells_the_rest();
+}
+
+/// A log that is divided into parts by its keys, each read and audited as a log of its own, has the
+/// faults of its parts, each by the number of its line, once, and no others.
+pub fn the_faults_of_parts_by_number_are_those_of_the_log()
+    ensures { (opts : AuditOpts) (rule : Option (List ℕ) → ℕ) (whole : Reading)
+        (parts : List Reading) → WasReadByKey whole → All WasReadByKey parts
+        → ArePartsOf rule whole parts
+        → IsPermutation (flat_map (faults_by_number opts) parts) (faults_by_number opts whole) }
+{
+    logs_that_say_the_same_differ_in_numbers_alone();
+    the_faults_of_its_parts_are_those_of_a_log();
+    what_is_read_by_key_is_numbered_by_names();
 }

@@ -9,7 +9,7 @@ ghost use Rattle.fdb_audit.specs.private.{shown_in};
 
 use crate::beside::Column;
 use crate::client_names::ClientNames;
-use crate::fault::LogFault;
+use crate::fault::{LogFault, number_at};
 use fdb_lines::{Found, Line, Log, Operation};
 use std::alloc::AllocError;
 use std::fmt::Write;
@@ -46,8 +46,7 @@ impl Printer<'_> {
     pub(crate) fn number(self, place: u32) -> u64
         ensures { result ≡ number_at (shown_in self.entry).numbers place }
     {
-        let number = self.numbers.get(place as usize);
-        number.copied().unwrap_or(place as u64 + 1)
+        number_at(self.numbers, place)
     }
 
     /// A fault, by the number of its line.

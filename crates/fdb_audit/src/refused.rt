@@ -126,6 +126,7 @@ fn cause_of(why: Why) -> &'static str
             "no whole number below 2^64 and not null, or before began"
         }
         Why::BadKey => "no name",
+        Why::BadNumber => "no whole number below 2^64, or not above that of the line before",
         Why::Memory => "out of memory",
     }
 }

@@ -151,6 +151,7 @@ status_of why.TwoCalls = FDB_TWO_CALLS
 status_of why.SomeTimes = FDB_SOME_TIMES
 status_of (why.BadMember _) = FDB_BAD_MEMBER
 status_of why.BadKey = FDB_BAD_MEMBER
+status_of why.BadNumber = FDB_BAD_MEMBER
 status_of why.Memory = FDB_MEMORY
 
 abbrev pub number_of : Member → ℕ

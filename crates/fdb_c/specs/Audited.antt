@@ -1,5 +1,5 @@
 -- What an audit is that takes a log piece by piece, and what it finds. (this product's own)
-use Rattle.std.specs.Prelude.{◌≡◌, ℕ, ◌++◌, Bool, true, false, List, [], Option, Some, Result, Ok, Err}
+use Rattle.std.specs.Prelude.{◌≡◌, ℕ, ◌++◌, Bool, true, false, List, [], Option, None, Some, Result, Ok, Err}
 use Rattle.fdb_lines.specs.declared.fault.Found.{Found}
 use Rattle.fdb_log_reader.specs.Reader.{reads_on}
 use Rattle.fdb_log_reader.specs.Reading.{Reading, reading_with}
@@ -37,7 +37,7 @@ pub record IsFoundOf (reading : Reading) (asked : Asked) (first : Option Found) 
 
 -- what a text stands for, with the keys and the members that are asked for
 abbrev pub reading_by : Asked → List ℕ → Result Reading ReadError
-reading_by asked bytes = reading_with asked.key asked.shown bytes
+reading_by asked bytes = reading_with asked.key asked.shown None bytes
 
 -- The audit is over, and has found something.
 abbrev pub IsEnded : AuditState → AuditState → Type 0

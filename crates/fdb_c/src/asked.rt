@@ -64,6 +64,7 @@ pub(crate) fn asked_with(
         position: None,
         key,
         shown,
+        numbers: None,
         progress: false,
     })
 }

@@ -134,7 +134,7 @@ fn status_of(why: Why) -> u8
         Why::NoCall => FDB_NO_CALL,
         Why::TwoCalls => FDB_TWO_CALLS,
         Why::SomeTimes => FDB_SOME_TIMES,
-        Why::BadMember(_) | Why::BadKey => FDB_BAD_MEMBER,
+        Why::BadMember(_) | Why::BadKey | Why::BadNumber => FDB_BAD_MEMBER,
         Why::Memory => FDB_MEMORY,
     }
 }

@@ -119,7 +119,7 @@ impl Audited {
             key,
             shown,
         )?;
-        let reader = LogReader::with_columns(alloc, asked.key.as_deref(), &asked.shown)?;
+        let reader = LogReader::with_columns(alloc, asked.key.as_deref(), &asked.shown, None)?;
         Ok(Audited {
             asked,
             reader: Some(reader),

@@ -48,7 +48,7 @@ once_from shown names (line ∷ lines) once =
     let read = line_read shown names line in
     once_from shown (names_after names read) lines (once_after names read (adds shown names line) once)
 
-once_none : StandOnce []
+pub once_none : StandOnce []
 once_none = λ i j name one two. absurd (none-some name one)
 
 none_once : (key : Option (List ℕ)) → HaveOneNumber (no_names key)

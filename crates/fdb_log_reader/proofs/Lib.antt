@@ -18,3 +18,4 @@ pub mod Braces
 pub mod Placed
 pub mod InParts
 pub mod KeyedLines
+pub mod ReadByKey

@@ -47,7 +47,7 @@ once_more names name new once i j other one two = by (at_push names name i other
     by (inr (last, same)) (inl (lt, is)) = absurd (apart j lt is same)
     by (inr (last, same)) (inr (last_too, same_too)) = last ∙ sym last_too
 
-once_with : (names : List (List ℕ)) (client : Option (List ℕ)) → StandOnce names → StandOnce (with_client names client)
+pub once_with : (names : List (List ℕ)) (client : Option (List ℕ)) → StandOnce names → StandOnce (with_client names client)
 once_with names None once = once
 once_with names (Some name) once = by (number_in names name) refl
   where
@@ -64,7 +64,7 @@ once_named names parts once = record { clients = once_with names.clients parts.c
 
 -- ---- the name of a number that a name has
 
-abbrev Has : List (List ℕ) → List ℕ → Type 0
+abbrev pub Has : List (List ℕ) → List ℕ → Type 0
 Has names name = (i : ℕ) × (number_in names name ≡ Some i) × (slice_get names i ≡ Some name)
 
 stands_there : (names : List (List ℕ)) (name : List ℕ) (b : Bool) → nat_lt (position_or_len (bytes_eq name) names) (length names) ≡ b
@@ -86,7 +86,7 @@ has_number names name some =
     let b = nat_lt place (length names) in
     (place, number_is b place some, stands_there names name b refl some)
 
-has_own : (names : List (List ℕ)) (name : List ℕ) → Has (with_name names name) name
+pub has_own : (names : List (List ℕ)) (name : List ℕ) → Has (with_name names name) name
 has_own names name = has_number (with_name names name) name (by (number_in names name) refl)
   where
     by : (found : Option ℕ) → number_in names name ≡ found → is_some (number_in (if is_some found then names else names ++ name ∷ []) name) ≡ true

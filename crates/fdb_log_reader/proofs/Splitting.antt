@@ -7,8 +7,8 @@ use Rattle.std.proofs.lemmas.List.Splits.{length-slice_split, slice_split-cons_n
 use Rattle.std.specs.List.{onto_first, slice_split}
 use Rattle.fdb_log_reader.specs.private.{IsOneLine}
 use Rattle.fdb_log_reader.specs.declared.error.Why.TheVariants.{TooLong}
-use Rattle.fdb_log_reader.specs.declared.reader.TheConstants.{MAX_LINE_BYTES}
 use Rattle.fdb_log_reader.specs.declared.reader.LogReader.{LogReader}
+use Rattle.fdb_log_reader.specs.Columns.{most_bytes}
 use Rattle.fdb_log_reader.specs.Reader.{reads_on}
 use Rattle.fdb_log_reader.specs.Reading.{Reading, is_line_feed, lines_in, or_refused, reading_of, with_line, with_lines, without_empty_end}
 
@@ -64,18 +64,18 @@ front_stays [] text one = (parts text).2
 front_stays (b ∷ front) text one =
     slice_split-cons_no is_line_feed b (front ++ text) (one 0 b (omega arith)) ∙ ap (onto_first b) (front_stays front text (λ k d lt. one (suc k) d (omega arith)))
 
-long_first : (reading : Reading) (line : List ℕ) (more : List (List ℕ)) → MAX_LINE_BYTES < length line
+long_first : (reading : Reading) (line : List ℕ) (more : List (List ℕ)) → most_bytes reading.numbers < length line
     → with_lines reading (without_empty_end (line ∷ more)) ≡ Err (record { line = length reading.log.lines + 1; why = TooLong })
 long_first reading line [] long =
     let some : (length line == 0) ≡ false = grind (arith, nat_tests) in
-    let is : nat_lt MAX_LINE_BYTES (length line) ≡ true = grind (arith, nat_tests) in
+    let is : nat_lt (most_bytes reading.numbers) (length line) ≡ true = grind (arith, nat_tests) in
     rw (some, is)
 long_first reading line (next ∷ more) long =
-    let is : nat_lt MAX_LINE_BYTES (length line) ≡ true = grind (arith, nat_tests) in
+    let is : nat_lt (most_bytes reading.numbers) (length line) ≡ true = grind (arith, nat_tests) in
     rw is
 
 -- a line that is too long is refused before it has ended
-pub too_long : (reader : LogReader) (more text : List ℕ) → IsOneLine more → MAX_LINE_BYTES < length reader.front.items + length more
+pub too_long : (reader : LogReader) (more text : List ℕ) → IsOneLine more → most_bytes (reading_of reader.named).numbers < length reader.front.items + length more
     → reads_on reader (more ++ text) ≡ Err (record { line = length (reading_of reader.named).log.lines + 1; why = TooLong })
 too_long reader more text one long =
     let front = reader.front.items ++ more in

@@ -1,5 +1,5 @@
 -- A line in the usual form is read as the value that its members tell.
-use Rattle.std.proofs.Common.{◌≡◌, ℕ, ◌<◌, ◌≤◌, true, false, List, [], ◌∷◌, ◌++◌, Some, None, Option, IfSome, MatchResult, OnOk, ◌⊎◌, Result, Ok, Err, option_map, option_and_then, decimal, length, nat_le, nat_lt, ◌==◌, if◌then◌else◌, refl, subst, sym, ap, ap₂, map, ◌∙◌, arith, append_assoc, append-nil}
+use Rattle.std.proofs.Common.{◌≡◌, ℕ, ◌<◌, ◌≤◌, true, false, List, [], ◌∷◌, ◌++◌, Some, None, Option, IfSome, MatchResult, OnOk, ◌⊎◌, inl, inr, Result, Ok, Err, option_map, option_and_then, decimal, length, nat_le, nat_lt, ◌==◌, if◌then◌else◌, refl, subst, sym, ap, ap₂, map, ◌∙◌, arith, append_assoc, append-nil}
 use Rattle.std.proofs.lemmas.Slice.Eq.{bytes_eq-Decides}
 use Rattle.std.proofs.lemmas.Bool.{false≢true}
 use Rattle.std.proofs.lemmas.Bool.Decides.{nat_tests}
@@ -27,13 +27,12 @@ use Rattle.fdb_log_reader.specs.declared.usual.Told.{Told}
 use Rattle.fdb_log_reader.specs.declared.usual.Told.TheVariants.{Number, Text, Null}
 use Rattle.fdb_log_reader.specs.declared.usual.Usual.{Usual}
 use Rattle.fdb_lines.specs.declared.log.TheConstants.{MAX_LINES}
-use Rattle.fdb_log_reader.specs.declared.reader.TheConstants.{MAX_LINE_BYTES}
 use Rattle.fdb_log_reader.specs.Members.{and_then, call_of, client_of, name_of, times_of}
-use Rattle.fdb_log_reader.specs.Columns.{ShownColumn, all_shown, key_in, shown_of, with_key}
+use Rattle.fdb_log_reader.specs.Columns.{NumberColumn, ShownColumn, all_shown, key_in, most_bytes, numbered_on, shown_of, with_key}
 use Rattle.fdb_log_reader.specs.declared.shown.Shown.{Shown}
 use Rattle.fdb_log_reader.specs.Numbers.{client_in, with_client}
 use Rattle.fdb_log_reader.specs.Parts.{SaidParts, key_said, parts_said}
-use Rattle.fdb_log_reader.specs.Reading.{Reading, or_not_json, pushed, reading_of, value_of, with_line, with_said, with_value}
+use Rattle.fdb_log_reader.specs.Reading.{Reading, or_not_json, pushed, reading_of, value_of, with_line, with_own_number, with_said, with_value}
 use Rattle.fdb_log_reader.specs.declared.named_log.NamedLog.{NamedLog}
 use Rattle.fdb_log_reader.specs.private.{shows}
 use Rattle.fdb_log_reader.specs.private.Usual.{IsReadAs, IsSmall, IsTold, Reads, Says, SaysFurther, SaysMember, StandsFor, beside_of, says_of, told_data, told_json, told_text, with_told}
@@ -273,7 +272,7 @@ beside_same reading says beside said same hidden =
     and_then parts (λ parts.
     let names = with_client reading.names parts.client in
     and_then (pushed reading.log (record { client = client_in names parts.client; call = parts.call; times = parts.times })) (λ log.
-    Ok (record { log = log; names = names; keys = option_map (λ column. with_key column parts.key) reading.keys; shown = shown }))))
+    Ok (record { log = log; names = names; keys = option_map (λ column. with_key column parts.key) reading.keys; numbers = reading.numbers; shown = shown }))))
     (parts_same reading.names (option_map (λ column. column.member) reading.keys) says beside said same) shown
 
 pub stands : (bytes : List ℕ) (further : Option (List ℕ)) (line : Usual) → IsUtf8 bytes → IsReadAs bytes further line → StandsFor bytes further line
@@ -299,13 +298,27 @@ shown_nothing (Err why) old new read beside hidden same is = is
 
 -- what has been read with such a line more, where the further member has the keys, and nothing is shown
 pub with_usual : (reading : Reading) (bytes : List ℕ) (further : Option (List ℕ)) (line : Usual) → further ≡ option_map (λ column. column.member) reading.keys → reading.shown ≡ []
-    → length bytes ≤ MAX_LINE_BYTES → length reading.log.lines < MAX_LINES → StandsFor bytes further line
-    → with_line reading bytes ≡ with_said reading (says_of line) (beside_of line)
+    → length bytes ≤ most_bytes reading.numbers → length reading.log.lines < MAX_LINES → (is : StandsFor bytes further line)
+    → with_line reading bytes ≡ and_then (with_said reading (says_of line) (beside_of line)) (with_own_number (λ name. get name is.0))
 with_usual reading bytes further line keyed_by hidden short few is =
-    let short_enough : nat_lt MAX_LINE_BYTES (length bytes) ≡ false = grind (arith, nat_tests) in
+    let short_enough : nat_lt (most_bytes reading.numbers) (length bytes) ≡ false = grind (arith, nat_tests) in
     let few_enough : nat_le MAX_LINES (length reading.log.lines) ≡ false = grind (arith, nat_tests) in
     ap (λ b. if b then Err TooLong else (if nat_le MAX_LINES (length reading.log.lines) then Err TooMany else and_then (value_of bytes) (with_value reading))) short_enough
     ∙ ap (λ b. if b then Err TooMany else and_then (value_of bytes) (with_value reading)) few_enough
     ∙ ap (λ value. and_then value (with_value reading)) is.1
-    ∙ (ap (λ says. with_said reading says (λ name. get name is.0)) is.2
-    ∙ beside_same reading (says_of line) (λ name. get name is.0) (beside_of line) (subst (λ name. IfSome name (λ name. get name is.0 ≡ beside_of line name)) keyed_by is.3) hidden)
+    ∙ (ap (λ says. and_then (with_said reading says (λ name. get name is.0)) (with_own_number (λ name. get name is.0))) is.2
+    ∙ ap (λ said. and_then said (with_own_number (λ name. get name is.0))) (beside_same reading (says_of line) (λ name. get name is.0) (beside_of line) (subst (λ name. IfSome name (λ name. get name is.0 ≡ beside_of line name)) keyed_by is.3) hidden))
+
+-- what has been read with the own number of the line, which comes last
+abbrev pub numbered_read : Reading → Option NumberColumn → Reading
+numbered_read reading numbers = record { log = reading.log; names = reading.names; keys = reading.keys; numbers = numbers; shown = reading.shown }
+
+pub with_number : {T : Type 0} (result : Result T Why) (between new : Reading) (said : List ℕ → Option Data) (read : Result Reading Why)
+    → read ≡ and_then (Ok between) (with_own_number said) → new ≡ numbered_read between new.numbers
+    → MatchResult result (λ _. numbered_on said between.numbers ≡ Ok new.numbers) (λ why. (why ≡ Memory) ⊎ (numbered_on said between.numbers ≡ Err why))
+    → MatchResult result (λ _. read ≡ Ok new) (λ why. (why ≡ Memory) ⊎ (read ≡ Err why))
+with_number (Ok done) between new said read last same is =
+    last ∙ (ap (λ (numbers : Result (Option NumberColumn) Why). and_then numbers (λ numbers. Ok (numbered_read between numbers))) is ∙ ap (λ (it : Reading). Ok it) (sym same))
+with_number (Err why) between new said read last same (inl memory) = inl memory
+with_number (Err why) between new said read last same (inr refused) =
+    inr (last ∙ ap (λ (numbers : Result (Option NumberColumn) Why). and_then numbers (λ numbers. Ok (numbered_read between numbers))) refused)

@@ -1,15 +1,18 @@
 -- Members that are kept beside the calls, a cell for each line. (this product's own)
-use Rattle.std.specs.Prelude.{◌≡◌, ℕ, List, [], ◌∷◌, ◌++◌, length, map, slice_get, string_bytes, Option, None, Some, IfSome, option_and_then, option_map, Result, Ok}
+use Rattle.std.specs.Prelude.{◌≡◌, ℕ, ◌+◌, ◌-◌, Bool, true, nat_lt, List, [], ◌∷◌, ◌++◌, length, map, slice_get, string_bytes, Option, None, Some, IfSome, option_and_then, option_map, Result, Ok, Err, if◌then◌else◌}
 use Rattle.std.specs.Option.{ok_or, option_flatten}
 use Rattle.json.specs.Strict.{AreDistinct}
 use Rattle.serde_json.specs.Data.{Data}
 use Rattle.serde_json.specs.Read.{read}
 use Rattle.fdb_lines.specs.Lines.{Lines}
 use Rattle.fdb_log_reader.specs.declared.error.Why.{Why}
-use Rattle.fdb_log_reader.specs.declared.error.Why.TheVariants.{BadKey}
+use Rattle.fdb_log_reader.specs.declared.error.Why.TheVariants.{BadKey, BadNumber}
 use Rattle.fdb_log_reader.specs.declared.keys.Keys.{Keys}
+use Rattle.fdb_log_reader.specs.declared.own_numbers.OwnNumbers.{OwnNumbers}
+use Rattle.fdb_log_reader.specs.declared.own_numbers.TheConstants.{NUMBER_BYTES}
+use Rattle.fdb_log_reader.specs.declared.reader.TheConstants.{MAX_LINE_BYTES}
 use Rattle.fdb_log_reader.specs.declared.shown.Shown.{Shown}
-use Rattle.fdb_log_reader.specs.Members.{as_name}
+use Rattle.fdb_log_reader.specs.Members.{and_then, as_count, as_name}
 use Rattle.fdb_log_reader.specs.Names.{names_of}
 use Rattle.fdb_log_reader.specs.Numbers.{client_in, with_client, AreWithin}
 use Rattle.fdb_log_reader.specs.Printed.{shown_text, IsWritten}
@@ -88,6 +91,44 @@ pub record ArePrinted (values : List (Option Data)) (texts : List (List ℕ)) (n
   pub distinct : AreDistinct json
   pub within : AreWithin json numbers
   pub says : (line : ℕ) → IsText (option_flatten (slice_get values line)) (text_at json numbers line)
+
+-- ---- the own numbers of lines
+
+-- the member that has them, and the number of each line
+pub record NumberColumn : Type 0 where
+  pub member : List ℕ
+  pub numbers : List ℕ
+
+-- what they are kept as
+abbrev pub numbers_in : OwnNumbers → NumberColumn
+numbers_in own = record { member = string_bytes own.member; numbers = own.numbers.items }
+
+-- of no line
+abbrev pub no_numbers : List ℕ → NumberColumn
+no_numbers member = record { member = member; numbers = [] }
+
+-- a number is above the last one, if there is one
+abbrev pub is_above : Option ℕ → ℕ → Bool
+is_above None number = true
+is_above (Some last) number = nat_lt last number
+
+-- with the number of a line more, which has to have one above that of the line before
+abbrev pub numbered_as : NumberColumn → Option ℕ → Result NumberColumn Why
+numbered_as column None = Err BadNumber
+numbered_as column (Some number) =
+    if is_above (slice_get column.numbers (length column.numbers - 1)) number
+    then Ok (record { member = column.member; numbers = column.numbers ++ number ∷ [] }) else Err BadNumber
+
+-- with that which a line more says, where lines have numbers
+abbrev pub numbered_on : (List ℕ → Option Data) → Option NumberColumn → Result (Option NumberColumn) Why
+numbered_on beside None = Ok None
+numbered_on beside (Some column) =
+    and_then (numbered_as column (option_and_then as_count (beside column.member))) (λ more. Ok (Some more))
+
+-- the most bytes of a line: beside its own number it has as many as without
+abbrev pub most_bytes : Option NumberColumn → ℕ
+most_bytes None = MAX_LINE_BYTES
+most_bytes (Some column) = MAX_LINE_BYTES + NUMBER_BYTES
 
 -- ---- for each line a cell
 

@@ -9,6 +9,7 @@ pub mod Text
 pub mod Reader
 pub mod ReadLine
 pub mod Named
+pub mod ByKey
 pub mod LineReader
 pub mod Split
 pub mod Splitter

@@ -17,8 +17,7 @@ use Rattle.fdb_log_reader.specs.declared.error.Why.TheVariants.{Empty, TooLong, 
 use Rattle.fdb_log_reader.specs.declared.member.Member.{Member}
 use Rattle.fdb_log_reader.specs.declared.member.Member.TheVariants.{Client, Learn}
 use Rattle.fdb_log_reader.specs.declared.named_log.NamedLog.{NamedLog}
-use Rattle.fdb_log_reader.specs.declared.reader.TheConstants.{MAX_LINE_BYTES}
-use Rattle.fdb_log_reader.specs.Columns.{KeyColumn, ShownColumn, all_shown, column_of, no_keys, nothing_shown, shown_of, with_key}
+use Rattle.fdb_log_reader.specs.Columns.{KeyColumn, NumberColumn, ShownColumn, all_shown, column_of, most_bytes, no_keys, no_numbers, nothing_shown, numbered_on, numbers_in, shown_of, with_key}
 use Rattle.fdb_log_reader.specs.Members.{and_then, member_of}
 use Rattle.fdb_log_reader.specs.Names.{names_of}
 use Rattle.fdb_log_reader.specs.Numbers.{client_in, with_client}
@@ -44,12 +43,13 @@ EndsALine text = length (lines_in (text ++ 32 ∷ [])) ≡ length (lines_in text
 
 -- ---- what has been read with a line more, or why that is refused
 
--- what has been read: the lines of a log, the names of its clients, the lines' keys if they are kept, and what is shown
--- beside them
+-- what has been read: the lines of a log, the names of its clients, the lines' keys if they are kept, their own numbers if
+-- they have such, and what is shown beside them
 pub record Reading : Type 0 where
   pub log : Lines
   pub names : List (List ℕ)
   pub keys : Option KeyColumn
+  pub numbers : Option NumberColumn
   pub shown : List ShownColumn
 
 -- why a line is refused that the log does not take
@@ -72,16 +72,23 @@ abbrev pub with_parts : Reading → (List ℕ → Option Data) → SaidParts →
 with_parts reading beside parts =
     let names = with_client reading.names parts.client in
     and_then (pushed reading.log (record { client = client_in names parts.client; call = parts.call; times = parts.times })) (λ log.
-    Ok (record { log = log; names = names; keys = option_map (λ column. with_key column parts.key) reading.keys; shown = all_shown beside reading.shown }))
+    Ok (record { log = log; names = names; keys = option_map (λ column. with_key column parts.key) reading.keys; numbers = reading.numbers; shown = all_shown beside reading.shown }))
 
 -- by what its members say, and those beside them
 abbrev pub with_said : Reading → (Member → Option Data) → (List ℕ → Option Data) → Result Reading Why
 with_said reading says beside =
     and_then (parts_said reading.names (option_map (λ column. column.member) reading.keys) says beside) (with_parts reading beside)
 
--- and by its JSON value
+-- and with its own number, where lines have such
+abbrev pub with_own_number : (List ℕ → Option Data) → Reading → Result Reading Why
+with_own_number beside reading =
+    and_then (numbered_on beside reading.numbers) (λ numbers.
+    Ok (record { log = reading.log; names = reading.names; keys = reading.keys; numbers = numbers; shown = reading.shown }))
+
+-- by its JSON value
 abbrev pub with_value : Reading → Data → Result Reading Why
-with_value reading value = with_said reading (member_of value) (λ name. get name value)
+with_value reading value =
+    and_then (with_said reading (member_of value) (λ name. get name value)) (with_own_number (λ name. get name value))
 
 abbrev pub or_not_json : Option Data → Result Data Why
 or_not_json None = Err NotJson
@@ -94,7 +101,7 @@ value_of bytes = or_not_json (if is_utf8 bytes then read bytes else None)
 -- what has been read with a line more, by its bytes
 abbrev pub with_line : Reading → List ℕ → Result Reading Why
 with_line reading bytes =
-    if nat_lt MAX_LINE_BYTES (length bytes) then Err TooLong
+    if nat_lt (most_bytes reading.numbers) (length bytes) then Err TooLong
     else (if nat_le MAX_LINES (length reading.log.lines) then Err TooMany
     else and_then (value_of bytes) (with_value reading))
 
@@ -115,22 +122,23 @@ with_lines reading [] = at_end reading
 with_lines reading (line ∷ lines) =
     or_refused (length reading.log.lines + 1) (with_line reading line) (λ more. with_lines more lines)
 
--- of nothing, where a member has the keys, if they are kept, and these columns are shown
-abbrev pub nothing : Option (List ℕ) → List ShownColumn → Reading
-nothing key shown = record { log = record { timed = false; lines = [] }; names = []; keys = option_map no_keys key; shown = shown }
+-- of nothing, where a member has the keys, if they are kept, one has the numbers of lines, if they have their own, and these
+-- columns are shown
+abbrev pub nothing : Option (List ℕ) → Option (List ℕ) → List ShownColumn → Reading
+nothing key number shown = record { log = record { timed = false; lines = [] }; names = []; keys = option_map no_keys key; numbers = option_map no_numbers number; shown = shown }
 
 -- what a text stands for, of which the members of these names are shown: what is read of all its lines, of which it
 -- needs one, or the first that is refused
-abbrev pub reading_with : Option (List ℕ) → List (List ℕ) → List ℕ → Result Reading ReadError
-reading_with key shown bytes = with_lines (nothing key (map nothing_shown shown)) (lines_in bytes)
+abbrev pub reading_with : (key : Option (List ℕ)) → (shown : List (List ℕ)) → (number : Option (List ℕ)) → List ℕ → Result Reading ReadError
+reading_with key shown number bytes = with_lines (nothing key number (map nothing_shown shown)) (lines_in bytes)
 
 -- and where none are kept
 abbrev pub reading_in : List ℕ → Result Reading ReadError
-reading_in bytes = reading_with None [] bytes
+reading_in bytes = reading_with None [] None bytes
 
 -- what a log with names stands for
 abbrev pub reading_of : NamedLog → Reading
-reading_of named = record { log = lines_of named.log; names = names_of named.names; keys = option_map column_of named.keys; shown = map shown_of named.shown.items }
+reading_of named = record { log = lines_of named.log; names = names_of named.names; keys = option_map column_of named.keys; numbers = option_map numbers_in named.numbers; shown = map shown_of named.shown.items }
 
 -- the result stands for this, unless memory was refused
 abbrev pub StandsFor : Result NamedLog ReadError → Result Reading ReadError → Type 0

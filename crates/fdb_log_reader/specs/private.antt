@@ -37,7 +37,7 @@ HasRoom named = HasPlaces named × HaveCells (length (lines_of named.log).lines)
 
 -- what has been read, with these columns shown
 abbrev pub shows : List ShownColumn → Reading → Reading
-shows columns reading = record { log = reading.log; names = reading.names; keys = reading.keys; shown = columns }
+shows columns reading = record { log = reading.log; names = reading.names; keys = reading.keys; numbers = reading.numbers; shown = columns }
 
 -- no member nests deeper than a JSON text may that is read
 abbrev pub IsFlat : (List ℕ → Option Data) → Type 0

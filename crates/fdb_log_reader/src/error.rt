@@ -29,6 +29,8 @@ pub enum Why {
     BadMember(Member),
     /// Keys are kept, and the member that names its key is no name.
     BadKey,
+    /// Lines have their own numbers, and this one has none above that of the line before.
+    BadNumber,
     /// Memory was refused, which says nothing of the line.
     Memory,
 }
@@ -87,6 +89,7 @@ impl fmt::Display for ReadError {
             Why::SomeTimes => write!(f, "SomeTimes {line}"),
             Why::BadMember(member) => write!(f, "BadMember {line} {member}"),
             Why::BadKey => write!(f, "BadMember {line} key"),
+            Why::BadNumber => write!(f, "BadMember {line} numbers"),
             Why::Memory => write!(f, "out of memory"),
         }
     }

@@ -7,12 +7,14 @@ ghost use Rattle.std.specs.List.{range_with_len};
 ghost use Rattle.std.specs.declared.alloc.Global.{Global};
 ghost use Rattle.fdb_log_reader.specs.declared.above.Above.{Above};
 ghost use Rattle.fdb_log_reader.specs.declared.line_reader.LineReader.{LineReader};
+ghost use Rattle.fdb_log_reader.specs.ByKey.{IsReadByKey};
+ghost use Rattle.fdb_log_reader.specs.Columns.{KeyColumn};
 ghost use Rattle.fdb_log_reader.specs.LineReader.{AreMore, lines_on};
 ghost use Rattle.fdb_log_reader.specs.Members.{whole};
 ghost use Rattle.fdb_log_reader.specs.Named.{HaveOneNumber, named_if};
 ghost use Rattle.fdb_log_reader.specs.ReadLine.{are_full, lines_read, member_in, names_behind};
 ghost use Rattle.fdb_log_reader.specs.ReadLine.{no_names, text_says, IsNumbered, LineNames};
-ghost use Rattle.fdb_log_reader.specs.Reading.{lines_in, EndsALine};
+ghost use Rattle.fdb_log_reader.specs.Reading.{lines_in, reading_with, EndsALine, Reading};
 ghost use Rattle.fdb_log_reader.specs.Split.{key_of_line, part_of_key, placed_lines, Placed};
 
 /// Behind any lines the keys are still in the member that they were in.
@@ -86,4 +88,13 @@ pub fn each_line_is_of_one_part()
     ensures keys { (member : List ℕ) (parts : ℕ) (above after : Above) (lines : List (List ℕ))
         (placed : List Placed) → placed_lines member parts above lines ≡ Ok (placed, after)
         → All (λ (it : Placed). it.part ≡ part_of_key parts (key_of_line member it.line)) placed }
+{}
+
+/// What is read with the keys of its lines has a line, has clients and keys by the numbers of their
+/// names, each name once, times on all lines or on none, and no line that has learnt.
+pub fn what_is_read_by_key_is_numbered_by_names()
+    ensures { (member : List ℕ) (shown : List (List ℕ)) (number : Option (List ℕ))
+        (bytes : List ℕ) (reading : Reading)
+        → reading_with (Some member) shown number bytes ≡ Ok reading
+        → (keys : KeyColumn) × IsReadByKey reading keys × (0 < length reading.log.lines) }
 {}

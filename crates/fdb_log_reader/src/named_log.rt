@@ -3,12 +3,13 @@
 ghost use Rattle.std.specs.Prelude.{◌≡◌, ◌⊎◌, ◌+◌, ◌≤◌, ◌<◌, ℕ, List, Option, Err, Ok};
 ghost use Rattle.std.specs.Prelude.{IfOk, IfSome, OnOk, MatchResult, length, option_map};
 ghost use Rattle.serde_json.specs.Data.{Data};
-ghost use Rattle.fdb_log_reader.specs.Columns.{all_shown, column_of, with_key};
+ghost use Rattle.fdb_log_reader.specs.Columns.{all_shown, column_of, most_bytes, numbered_on};
+ghost use Rattle.fdb_log_reader.specs.Columns.{numbers_in, with_key};
 ghost use Rattle.fdb_log_reader.specs.Names.{names_of};
 ghost use Rattle.fdb_log_reader.specs.Numbers.{client_in, with_client};
 ghost use Rattle.fdb_log_reader.specs.Parts.{parts_of};
-ghost use Rattle.fdb_log_reader.specs.Reading.{reading_of, with_line, with_parts, with_said};
-ghost use Rattle.fdb_log_reader.specs.Reading.{with_value};
+ghost use Rattle.fdb_log_reader.specs.Reading.{reading_of, value_of, with_line, with_parts};
+ghost use Rattle.fdb_log_reader.specs.Reading.{with_said, with_value};
 ghost use Rattle.fdb_log_reader.specs.private.{HasPlaces, HasRoom, IsFlat, shows};
 ghost use Rattle.serde_json.specs.Find.{get};
 ghost use Rattle.serde_json.specs.View.{view};
@@ -16,9 +17,9 @@ ghost use Rattle.serde_json.specs.View.{view};
 use crate::error::Why;
 use crate::keys::Keys;
 use crate::names::Names;
-use crate::parsing::value_of;
+use crate::own_numbers::OwnNumbers;
+use crate::parsing::{count_beside, value_of};
 use crate::parts::{Parts, parts_of};
-use crate::reader::MAX_LINE_BYTES;
 use crate::said::Said;
 use crate::showing::add_shown;
 use crate::shown::Shown;
@@ -36,6 +37,8 @@ pub struct NamedLog {
     pub names: Names,
     /// The keys of its lines, if they are kept.
     pub keys: Option<Keys>,
+    /// Their own numbers, if they have such.
+    pub numbers: Option<OwnNumbers>,
     /// What is shown beside them.
     pub shown: Vec<Shown>,
 }
@@ -44,7 +47,7 @@ pub struct NamedLog {
 #[tactic(auto, using(crate::proofs::ShownTexts::flat_value))]
 pub(crate) fn add_line(named: &mut NamedLog, alloc: Global, bytes: &[u8]) -> Result<(), Why>
     requires has_room { HasRoom named.old }
-    requires short { length bytes.now ≤ MAX_LINE_BYTES }
+    requires short { length bytes.now ≤ most_bytes (reading_of named.old).numbers }
     ensures has_room { OnOk result (HasRoom named.new) }
     ensures read { MatchResult result
         (λ _. with_line (reading_of named.old) bytes.now ≡ Ok (reading_of named.new))
@@ -56,7 +59,8 @@ pub(crate) fn add_line(named: &mut NamedLog, alloc: Global, bytes: &[u8]) -> Res
     if named.shown.is_empty()
         && let Some(line) = usual_of(bytes, key_member(&named.keys))
     {
-        return add_said(named, alloc, &line);
+        add_said(named, alloc, &line)?;
+        return add_number_of(&mut named.numbers, alloc, bytes);
     }
     let value = value_of(alloc, bytes)?;
     add_value(named, alloc, &value)
@@ -86,7 +90,47 @@ fn add_value(named: &mut NamedLog, alloc: Global, value: &Value) -> Result<(), W
 {
     add_said(named, alloc, value)?;
     add_shown(&mut named.shown, alloc, value)?;
-    Ok(())
+    add_number(&mut named.numbers, value)
+}
+
+/// Adds the own number of a line, by its bytes, where lines have such.
+fn add_number_of(
+    numbers: &mut Option<OwnNumbers>,
+    alloc: Global,
+    bytes: &[u8],
+) -> Result<(), Why>
+    ensures { (value : Data) → value_of bytes.now ≡ Ok value → MatchResult result
+        (λ _. numbered_on (λ name. get name value) (option_map numbers_in numbers.old)
+        ≡ Ok (option_map numbers_in numbers.new))
+        (λ why. (why ≡ Why.Memory) ⊎ (numbered_on (λ name. get name value)
+        (option_map numbers_in numbers.old) ≡ Err why)) }
+{
+    let Some(own) = numbers else {
+        return Ok(());
+    };
+    if let Some(line) = usual_of(bytes, Some(own.member())) {
+        let number = count_beside(&line, own.member());
+        return own.add(number);
+    }
+    let value = value_of(alloc, bytes)?;
+    add_number(numbers, &value)
+}
+
+/// The same by its JSON value.
+fn add_number(numbers: &mut Option<OwnNumbers>, value: &Value) -> Result<(), Why>
+    ensures { MatchResult result
+        (λ _. numbered_on (λ name. get name (view value.now)) (option_map numbers_in numbers.old)
+        ≡ Ok (option_map numbers_in numbers.new))
+        (λ why. (why ≡ Why.Memory) ⊎ (numbered_on (λ name. get name (view value.now))
+        (option_map numbers_in numbers.old) ≡ Err why)) }
+{
+    match numbers {
+        Some(own) => {
+            let number = count_beside(value, own.member());
+            own.add(number)
+        }
+        None => Ok(()),
+    }
 }
 
 /// Adds a line, by what its members say, but not what is shown of it. After an error the log is not

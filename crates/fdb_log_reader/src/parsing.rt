@@ -67,6 +67,17 @@ fn count_in<S: Said>(line: &S, member: Member) -> Option<u64>
     }
 }
 
+/// The same that a further member says.
+#[tactic(auto, using(crate::proofs::Digits::count_said))]
+pub(crate) fn count_beside<S: Said>(line: &S, member: &str) -> Option<u64>
+    ensures { result ≡ option_and_then as_count (S.says_beside line.now member.now) }
+{
+    match line.text_beside(member) {
+        Some(text) => written(text),
+        None => line.number_beside(member),
+    }
+}
+
 /// A name that a member says: a text, or a whole number, whose digits go to the buffer.
 #[tactic(auto, using(crate::proofs::Digits::name_said))]
 fn name_in<'a, S: Said>(line: &'a S, member: Member, digits: &'a mut Buffer) -> Option<&'a str>

@@ -3,7 +3,8 @@
 ghost use Rattle.std.specs.Prelude.{◌≡◌, ◌⊎◌, ◌++◌, ◌∷◌, ◌+◌, ◌≤◌, ℕ, List, [], Err, IfOk};
 ghost use Rattle.std.specs.Prelude.{IfSome, MatchOption, MatchResult, length, map, option_map};
 ghost use Rattle.std.specs.Prelude.{string_bytes};
-ghost use Rattle.fdb_log_reader.specs.Columns.{HasCells, column_of, no_keys, shown_of};
+ghost use Rattle.fdb_log_reader.specs.Columns.{HasCells, column_of, most_bytes, no_keys};
+ghost use Rattle.fdb_log_reader.specs.Columns.{no_numbers, numbers_in, shown_of};
 ghost use Rattle.fdb_log_reader.specs.Reading.{ReadsAs, StandsFor, lines_in, nothing, reading_in};
 ghost use Rattle.fdb_log_reader.specs.Reading.{reading_of, reading_with, with_lines};
 ghost use Rattle.fdb_log_reader.specs.private.{HasRoom, HaveCells, IsOneLine};
@@ -13,6 +14,7 @@ use crate::error::{ReadError, Why};
 use crate::keys::Keys;
 use crate::named_log::{NamedLog, add_line};
 use crate::names::Names;
+use crate::own_numbers::{OwnNumbers, most_bytes};
 use crate::showing::no_columns;
 use crate::shown::Shown;
 use fdb_lines::Log;
@@ -30,7 +32,7 @@ pub struct LogReader {
     front: Vec<u8>,
     ghost has_room: { HasRoom named } by { Prim.hlevel props },
     ghost one_line: { IsOneLine front.items },
-    ghost short: { length front.items ≤ 1048576 },
+    ghost short: { length front.items ≤ most_bytes (option_map numbers_in named.numbers) },
 }
 
 impl LogReader {
@@ -41,33 +43,48 @@ impl LogReader {
     pub fn new(alloc: Global) -> Self
         ensures { (text : List ℕ) → reads_on result text ≡ reading_in text }
     {
-        LogReader::beginning(alloc, None, Vec::new(alloc))
+        LogReader::beginning(alloc, None, None, Vec::new(alloc))
     }
 
-    /// The same, where the member of a name has the keys of lines, if they are to be kept, and
-    /// others are to be shown. It fails only where memory is refused.
+    /// The same, where the member of a name has the keys of lines, if they are to be kept, others are
+    /// to be shown, and one has the numbers of lines, if they have their own. It fails only where
+    /// memory is refused.
     pub fn with_columns(
         alloc: Global,
         key: Option<&str>,
         shown: &[String],
+        numbers: Option<&str>,
     ) -> Result<Self, AllocError>
         ensures { IfOk result (λ reader. (text : List ℕ) → reads_on reader text ≡ reading_with
-            (option_map (λ key. key.now) key.entry) (map string_bytes shown.now) text) }
+            (option_map (λ key. key.now) key.entry) (map string_bytes shown.now)
+            (option_map (λ member. member.now) numbers.entry) text) }
     {
         let keys = match key {
             Some(member) => Some(Keys::new(alloc, String::from_str(alloc, member)?)),
             None => None,
         };
+        let numbers = match numbers {
+            Some(member) => Some(OwnNumbers::new(alloc, String::from_str(alloc, member)?)),
+            None => None,
+        };
         let shown = no_columns(alloc, shown)?;
-        Ok(LogReader::beginning(alloc, keys, shown))
+        Ok(LogReader::beginning(alloc, keys, numbers, shown))
     }
 
     /// A log of which nothing has been read, with these columns.
-    fn beginning(alloc: Global, keys: Option<Keys>, shown: Vec<Shown>) -> Self
+    fn beginning(
+        alloc: Global,
+        keys: Option<Keys>,
+        numbers: Option<OwnNumbers>,
+        shown: Vec<Shown>,
+    ) -> Self
         requires keys { IfSome keys (λ keys. column_of keys ≡ no_keys (column_of keys).member) }
+        requires numbers { IfSome numbers
+            (λ own. numbers_in own ≡ no_numbers (numbers_in own).member) }
         requires shown { HaveCells 0 (map shown_of shown.items) }
         ensures { (text : List ℕ) → reads_on result text ≡ with_lines (nothing
-            (option_map (λ keys. (column_of keys).member) keys) (map shown_of shown.items))
+            (option_map (λ keys. (column_of keys).member) keys)
+            (option_map (λ own. (numbers_in own).member) numbers) (map shown_of shown.items))
             (lines_in text) }
     {
         LogReader {
@@ -76,6 +93,7 @@ impl LogReader {
                 log: Log::new(alloc),
                 names: Names::new(alloc),
                 keys,
+                numbers,
                 shown,
             },
             front: Vec::new(alloc),
@@ -141,7 +159,7 @@ impl LogReader {
         requires { IsOneLine line.now }
         ensures { FeedsLine self line.now result }
     {
-        if self.front.is_empty() && line.len() <= MAX_LINE_BYTES {
+        if self.front.is_empty() && line.len() <= most_bytes(&self.named.numbers) {
             self.add_whole(line)
         } else {
             self.keep(line)?.end_line()
@@ -152,7 +170,7 @@ impl LogReader {
     #[tactic(auto, using(crate::proofs::Splitting::whole_line))]
     fn add_whole(self, line: &[u8]) -> Result<Self, ReadError>
         requires line { IsOneLine line.now }
-        requires short { length line.now ≤ MAX_LINE_BYTES }
+        requires short { length line.now ≤ most_bytes (reading_of self.named).numbers }
         requires none { self.front.items ≡ [] }
         ensures { FeedsLine self line.now result }
     {
@@ -178,7 +196,7 @@ impl LogReader {
         requires { IsOneLine bytes.now }
         ensures { Feeds self bytes.now result }
     {
-        if bytes.len() > MAX_LINE_BYTES - self.front.len() {
+        if bytes.len() > most_bytes(&self.named.numbers) - self.front.len() {
             return Err(self.error(Why::TooLong));
         }
         match self.front.extend_from_slice(bytes) {

@@ -9,7 +9,7 @@ use Rattle.fdb_command.specs.declared.failure.Failure.TheVariants as fault
 use Rattle.fdb_command.specs.declared.program.Output.{Output}
 use Rattle.fdb_log_reader.specs.declared.error.ReadError.{ReadError}
 use Rattle.fdb_log_reader.specs.declared.error.Why.{Why}
-use Rattle.fdb_log_reader.specs.declared.error.Why.TheVariants.{Empty, TooLong, TooMany, NotJson, NoCall, TwoCalls, SomeTimes, BadMember, BadKey, Memory}
+use Rattle.fdb_log_reader.specs.declared.error.Why.TheVariants.{Empty, TooLong, TooMany, NotJson, NoCall, TwoCalls, SomeTimes, BadMember, BadKey, BadNumber, Memory}
 use Rattle.fdb_audit.specs.declared.refused.LogsRefused.{LogsRefused}
 use Rattle.fdb_audit.specs.declared.refused.LogsRefused.TheVariants.{Log}
 use Rattle.fdb_split.specs.Program.{HasCut, IsAsked, Prints, cut, first_named, parts_named, split, suits, text_named}
@@ -33,6 +33,7 @@ is_memory TwoCalls = inr (other TwoCalls refl)
 is_memory SomeTimes = inr (other SomeTimes refl)
 is_memory (BadMember member) = inr (other (BadMember member) refl)
 is_memory BadKey = inr (other BadKey refl)
+is_memory BadNumber = inr (other BadNumber refl)
 
 pub stops : (arguments : List Text) (asked : SplitArguments) (bytes : List ℕ) (error : ReadError) (made : Failure LogsRefused Infallible) → IsAsked arguments asked
     → (error.why ≡ Memory) ⊎ (cut asked bytes ≡ Err error)

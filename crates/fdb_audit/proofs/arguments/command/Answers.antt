@@ -14,9 +14,10 @@ returns c =
     let six = c.in_ok-arg-6.ensures.shape c.text_argument-2.ensures.own ∙ ap₂ with_rule five c.text_argument-2.ensures.rule in
     let seven = c.in_ok-arg-7.ensures.shape c.text_argument-3.ensures.own ∙ ap₂ with_rule six c.text_argument-3.ensures.rule in
     let eight = c.in_ok-arg-8.ensures.shape c.text_argument-4.ensures.own ∙ ap₂ with_rule seven c.text_argument-4.ensures.rule in
-    let nine = c.in_ok-arg-9.ensures.shape c.flag_argument.ensures.own ∙ ap₂ with_rule eight c.flag_argument.ensures.rule in
-    let ten = c.in_ok-arg-10.ensures.shape c.flag_argument-2.ensures.own ∙ ap₂ with_rule nine c.flag_argument-2.ensures.rule in
-    let eleven = c.in_ok-arg-11.ensures.shape c.flag_argument-3.ensures.own ∙ ap₂ with_rule ten c.flag_argument-3.ensures.rule in
-    let twelve = c.in_ok-arg-12.ensures.shape c.flag_argument-4.ensures.own ∙ ap₂ with_rule eleven c.flag_argument-4.ensures.rule in
-    IfOk-weaker c.arg-13.result _ (λ made. app_of made ≡ command_read)
-    (λ made added. added.shape c.flag_argument-5.ensures.own ∙ ap₂ with_rule twelve c.flag_argument-5.ensures.rule) c.arg-13.ensures
+    let nine = c.in_ok-arg-9.ensures.shape c.text_argument-5.ensures.own ∙ ap₂ with_rule eight c.text_argument-5.ensures.rule in
+    let ten = c.in_ok-arg-10.ensures.shape c.flag_argument.ensures.own ∙ ap₂ with_rule nine c.flag_argument.ensures.rule in
+    let eleven = c.in_ok-arg-11.ensures.shape c.flag_argument-2.ensures.own ∙ ap₂ with_rule ten c.flag_argument-2.ensures.rule in
+    let twelve = c.in_ok-arg-12.ensures.shape c.flag_argument-3.ensures.own ∙ ap₂ with_rule eleven c.flag_argument-3.ensures.rule in
+    let thirteen = c.in_ok-arg-13.ensures.shape c.flag_argument-4.ensures.own ∙ ap₂ with_rule twelve c.flag_argument-4.ensures.rule in
+    IfOk-weaker c.arg-14.result _ (λ made. app_of made ≡ command_read)
+    (λ made added. added.shape c.flag_argument-5.ensures.own ∙ ap₂ with_rule thirteen c.flag_argument-5.ensures.rule) c.arg-14.ensures

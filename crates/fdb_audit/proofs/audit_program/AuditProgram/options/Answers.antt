@@ -12,10 +12,12 @@ returns-then-is_unfit-clause-refused c = λ arguments matches refused.
     let history = (c.wanted_of-wanted.ensures arguments matches).history in
     let keeps = sym (is_some_map _ c.text-keep.result) ∙ ap is_some (c.text-keep.ensures command arguments matches) in
     let places = sym (is_some_map _ c.text-position.result) ∙ ap is_some (c.text-position.ensures command arguments matches) in
+    let numbered = sym (is_some_map _ c.text-numbers.result) ∙ ap is_some (c.text-numbers.ensures command arguments matches) in
     let both = ap₂ (λ a b. a && b) (ap is_some follow) (ap₂ (λ a b. a || b) (ap is_some complete) history) in
     let whole = ap₂ (λ a b. a && not b) keeps (ap is_some follow) in
     let placed = ap₂ (λ a b. a && not b) places keeps in
-    ap not (sym (ap₂ (λ a b. a || b) both (ap₂ (λ a b. a || b) whole placed)) ∙ (sym c.is_unfit.ensures ∙ c.if-is_unfit.true))
+    let alone = ap₂ (λ a b. a && b) numbered (ap₂ (λ a b. a || b) (ap is_some follow) history) in
+    ap not (sym (ap₂ (λ a b. a || b) both (ap₂ (λ a b. a || b) whole (ap₂ (λ a b. a || b) placed alone))) ∙ (sym c.is_unfit.ensures ∙ c.if-is_unfit.true))
 
 pub returns-clause-said : goal.returns-clause-said
 returns-clause-said c = λ arguments matches. record {
@@ -28,5 +30,6 @@ returns-clause-said c = λ arguments matches. record {
   position = c.in_ok-owned-2.ensures ∙ c.text-position.ensures command arguments matches;
   key = c.in_ok-owned-3.ensures ∙ c.text.ensures command arguments matches;
   shown = c.in_ok-member_names.ensures ∙ ap members_named (c.text-2.ensures command arguments matches);
+  numbers = c.in_ok-owned-4.ensures ∙ c.text-numbers.ensures command arguments matches;
   progress = c.is_given.ensures command arguments matches (refl, refl, refl);
 }

@@ -1,6 +1,5 @@
 use Rattle.std.proofs.Common.{◌∙◌, ◌++◌, ap, append_assoc, inl, inr, subst, sym}
-use Rattle.fdb_log_reader.specs.Reading.{reading_with}
-use Rattle.fdb_audit.specs.Program.{key_asked, shown_asked, HasTaken, started}
+use Rattle.fdb_audit.specs.Program.{HasTaken, reading_asked, started}
 use Rattle.fdb_audit.specs.declared.audit_program.AuditIntake.{AuditIntake}
 use Rattle.fdb_audit.specs.Progress.{HasPrinted}
 use Rattle.fdb_audit.proofs.Refusing.{stops}
@@ -10,7 +9,7 @@ pub returns-in-Ok-clause-taken : goal.returns-in-Ok-clause-taken
 returns-in-Ok-clause-taken c = λ options before told has.
     let whole = subst (λ (it : AuditIntake). HasTaken options it before told) c.in-Whole.is has in
     let bytes = c.args.bytes.now in
-    (whole.0, λ text. c.in-Ok.ensures text ∙ (whole.1 (bytes ++ text) ∙ ap (reading_with (key_asked options) (shown_asked options)) (sym (append_assoc before bytes text))), whole.2)
+    (whole.0, λ text. c.in-Ok.ensures text ∙ (whole.1 (bytes ++ text) ∙ ap (reading_asked options) (sym (append_assoc before bytes text))), whole.2)
 
 pub returns-in-Err-clause-stops : goal.returns-in-Err-clause-stops
 returns-in-Err-clause-stops c = λ arguments options before told after is has.

@@ -1,0 +1,46 @@
+-- A log whose parts are audited by themselves. (this product's own)
+use Rattle.std.specs.Prelude.{◌≡◌, ℕ, ◌<◌, ◌==◌, List, [], Option, Some, Ok, length, map, option_and_then, option_map, slice_index, slice_index_or}
+use Rattle.fdb_lines.specs.declared.opts.AuditOpts.{AuditOpts}
+use Rattle.fdb_lines.specs.Carried.{places_where}
+use Rattle.fdb_lines.specs.Judged.{faults_in}
+use Rattle.fdb_lines.specs.Keys.{key_at}
+use Rattle.fdb_lines.specs.Lines.{line_at}
+use Rattle.fdb_log_reader.specs.Columns.{KeyColumn}
+use Rattle.fdb_log_reader.specs.Named.{Named, named}
+use Rattle.fdb_log_reader.specs.ReadLine.{LineNames}
+use Rattle.fdb_log_reader.specs.Reading.{Reading, reading_with}
+use Rattle.fdb_audit.specs.Judged.{keys_of_lines, own_numbers}
+use Rattle.fdb_audit.specs.Text.{fault_of, number_at}
+use Rattle.fdb_audit.specs.declared.fault.LogFault.{LogFault}
+
+-- some text was read so, with the keys of its lines
+abbrev pub WasReadByKey : Reading → Type 0
+WasReadByKey reading =
+    (member : List ℕ) × (shown : List (List ℕ)) × (number : Option (List ℕ)) × (bytes : List ℕ) × (reading_with (Some member) shown number bytes ≡ Ok reading)
+
+-- what an audit by key finds, each fault by the number of its line
+abbrev pub faults_by_number : AuditOpts → Reading → List LogFault
+faults_by_number opts reading = map (fault_of (own_numbers reading.numbers)) (faults_in reading.log (keys_of_lines reading.keys) opts)
+
+-- the names of clients and keys
+abbrev pub names_read : Reading → LineNames
+names_read reading = record { clients = reading.names; keys = option_map (λ (column : KeyColumn). record { member = column.member; names = column.keys }) reading.keys }
+
+-- what a line says, whatever numbers its client and its key have
+abbrev pub named_line : Reading → ℕ → Named
+named_line reading k = named (names_read reading) (line_at reading.log.lines k) (option_and_then (λ (column : KeyColumn). key_at column.numbers k) reading.keys)
+
+-- Lines are those of a log at some places: they say the same, line by line, and are told by the same numbers.
+pub record IsPartOf (whole part : Reading) (places : List ℕ) : Type 0 where
+  pub as_many : length part.log.lines ≡ length places
+  pub says : (j : ℕ) → j < length places → named_line part j ≡ named_line whole (slice_index places j)
+  pub numbers : (j : ℕ) → j < length places → number_at (own_numbers part.numbers) j ≡ number_at (own_numbers whole.numbers) (slice_index places j)
+
+-- the places of the lines of a part, in order, where a rule says by its key of which part a line is
+abbrev pub places_of_part : (Option (List ℕ) → ℕ) → Reading → ℕ → List ℕ
+places_of_part rule whole part = places_where (λ k. rule (named_line whole k).key == part) (length whole.log.lines)
+
+-- A log is divided into parts by the keys of its lines.
+pub record ArePartsOf (rule : Option (List ℕ) → ℕ) (whole : Reading) (parts : List Reading) : Type 0 where
+  pub all : (k : ℕ) → k < length whole.log.lines → rule (named_line whole k).key < length parts
+  pub each : (i : ℕ) (d : Reading) → i < length parts → IsPartOf whole (slice_index_or parts i d) (places_of_part rule whole i)
