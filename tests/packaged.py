@@ -194,11 +194,24 @@ def of_dpkg(_program):
     changes = gzip.decompress(read(f"{unpacked()}/{DOCUMENTS}/changelog.gz")).decode()
     commit = text_of_record("commit")
     yield "its changelog", None if commit in changes else f"{commit} is not in {changes}"
+    yield "licenses of what is linked", fault_of_licenses()
     if here("lintian"):
         words = ["lintian", "--allow-root", "--no-tag-display-limit", file_of(".deb")]
         said = run(words, seconds=MANY_SECONDS).out.decode()
         errors = [it for it in said.splitlines() if it.startswith("E: ")]
         yield "lintian", "; ".join(errors) or None
+
+
+def fault_of_licenses():
+    """What lacks of the licenses of the kit's libraries, of which clap stands on one, or None."""
+    text = gzip.decompress(read(f"{unpacked()}/{DOCUMENTS}/linked-libraries.gz")).decode()
+    heads = re.findall(r"^---- (.*)$", text, re.MULTILINE)
+    licensed = {name for it in heads for name in it.split(", ")}
+    is_so = {"clap", "strsim", "serde_json", "crossbeam_channel"} <= licensed
+    is_so = is_so and "Apache License" in text and "Permission is hereby granted" in text
+    is_so = is_so and "anyhow" not in text.split()
+    own = read(f"{unpacked()}/{DOCUMENTS}/copyright").decode()
+    return None if is_so and "linked-libraries.gz" in own else f"of {heads}"
 
 
 def text_of_record(name):

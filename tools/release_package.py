@@ -11,6 +11,7 @@ from email.utils import format_datetime
 from pathlib import Path
 
 import release_completion
+import release_licenses
 import release_manual
 from release_manual import INSTALLED, ROOT, installed
 
@@ -24,7 +25,7 @@ SHARED, ARCHIVES = f"{OUT}/{LIBRARY}.so.0", [f"{OUT}/{LIBRARY}.a", f"{OUT}/libli
 LIBRARIES, SHARE = "usr/lib/x86_64-linux-gnu", f"usr/share/{PACKAGE}"
 DOCUMENTS = f"usr/share/doc/{PACKAGE}"
 # What makes a release; a cargo that is older packs no crate that needs another of its workspace.
-NEEDED = ("git", "cargo", "ar", "strip", "dpkg-deb", "dpkg-shlibdeps", "dpkg-gencontrol")
+NEEDED = ("git", "cargo", "rt", "ar", "strip", "dpkg-deb", "dpkg-shlibdeps", "dpkg-gencontrol")
 OLDEST_CARGO = (1, 90)
 PYTHON, DEBIAN_PYTHON = "#!/usr/bin/env python3\n", "#!/usr/bin/python3\n"
 
@@ -142,7 +143,7 @@ def add_library(tree, version, room):
 
 
 def add_documents(tree, changelog):
-    """README.md, docs/ and examples/ as they are, and what Debian wants: license and changelog."""
+    """README.md, docs/ and examples/ as they are, and what Debian wants: licenses and changelog."""
     names = said("git", "-C", str(ROOT), "ls-files", "-z", "README.md", "docs", "examples")
     for name in names.rstrip("\0").split("\0"):
         file = ROOT / name
@@ -152,6 +153,8 @@ def add_documents(tree, changelog):
                        ("lintian-overrides", f"usr/share/lintian/overrides/{PACKAGE}")):
         tree.write(path, (ROOT / "debian" / name).read_bytes())
     tree.write(f"{DOCUMENTS}/changelog.gz", packed(changelog))
+    linked = release_licenses.licenses(Path(said("rt", "doc").strip()).parent)
+    tree.write(f"{DOCUMENTS}/linked-libraries.gz", packed(linked))
 
 
 def changelog_of(version, gate, moment):
