@@ -4,11 +4,13 @@ The rows are as those of audits of whole logs.
 """
 import tempfile
 
-from ample_audits import CHEAP, DEAR, FEW, LINES, MARGINS, NUMBERS, PROGRAM, REFUSED, Row
-from ample_audits import all_stale, at_moment, by_model, calls, clients, ends, keyed, line
-from ample_audits import long_names, rising, rows, stale, stale_and_shown, worked
+import follow_model
+from ample_audits import CHEAP, DEAR, FAULTY, FEW, LINES, MARGINS, MOST, NUMBERS, PROGRAM
+from ample_audits import REFUSED, Row, all_stale, at_moment, by_model, calls, clients, ends
+from ample_audits import keyed, line, long_names, rising, rows, stale, stale_and_shown, total
+from ample_audits import worked
 from follow import warned_of
-from follow_model import SAID_AHEAD, SAID_LAST, Warned
+from follow_model import ROOM, SAID_AHEAD, SAID_LAST, Warned
 from harness import Ran, apart, fault_of, grouped, run
 from kept_logs import lines_kept
 
@@ -63,7 +65,69 @@ def told_and_shown(count):
     """Stale reads, each of which shows another text."""
     words, log, said = stale_and_shown(count)
     said[count] = f"audit total {watched(count + 1, reads=count, commits=1)}"
+    if count > ROOM:
+        said[count + 3:] = [f"{it} more" for it in said[count + 3:]]
     return ["--follow", "0", *words], log, said
+
+
+def of_groups(count):
+    """Stale reads, each of another client that shows another text, and two more below them.
+
+    One is of the first client and its text, and one of no client, which shows none.
+    """
+    shown = lambda at: f',"x":[{at}]'
+    log = line(0, "commit", 5) + "".join(
+        line(at, "read", 0, f"b{at}", shown(at)) for at in range(1, count + 1))
+    log += line(count + 1, "read", 0, "b1", shown(1))
+    none = line(count + 2, "read", 0).replace('"client":"a",', "")
+    words = ["--follow", "0", "--show", "x", "--summary"]
+    return words, log + none, watched(count + 3, reads=count + 2, commits=1)
+
+
+def ranked(count, first, none, named):
+    """The groups with most of these faults: the first, that of none, and those in order."""
+    return [first, none, *(named(at) for at in range(2, min(count, ROOM) + 1))][:MOST]
+
+
+def told_of_groups(count):
+    """Such reads, of which those of the first clients and texts are counted by these."""
+    words, log, said = of_groups(count)
+    more = " more" * (count > ROOM)
+    said = [f"audit total {said}", total("Order", count + 2)]
+    for whose, none in (('client "b{}" ', "no client "), ('"x":[{}] ', 'no "x" ')):
+        said += [f"{it}{more}" for it in ranked(
+            count, total("Order", 2, whose.format(1)), total("Order", 1, none),
+            lambda at, whose=whose: total("Order", 1, whose.format(at)))]
+    return words, log, said
+
+
+def told_of_groups_in_json(count):
+    """The same as objects."""
+    words, log, said = of_groups(count)
+    more = ',"more":true' * (count > ROOM)
+    of = lambda times, more="": (
+        f'"faults":{times},"Order":{times},"Wrong":0,"NotAbove":0,"Twice":0,"Stray":0{more}}}')
+    numbers = said.split()
+    counts = ",".join(f'"{name}":{n}' for name, n in zip(numbers[::2], numbers[1::2]))
+    said = [f'{{"total":{{{counts}}},"arguments":{{"follow":0,"margin":0,"by_key":false,'
+            '"members":["x"]}}', f"{{{of(count + 2)}"]
+    for whose in ('"client":{}', '"members":{{"x":{}}}'):
+        text = '"b{}"' if whose[1] == "c" else "[{}]"
+        group = lambda name, times, whose=whose: f"{{{whose.format(name)},{of(times, more)}"
+        said += ranked(count, group(text.format(1), 2), group("null", 1),
+                       lambda at, group=group, text=text: group(text.format(at), 1))
+    return [*words, "--json"], log, said
+
+
+def told_of_keys(count):
+    """A stale read of each key: those of the first keys are counted by these."""
+    log = "".join(line(2 * at, "commit", 5, more=keyed(at))
+                  + line(2 * at + 1, "read", 0, "b", keyed(at)) for at in range(count))
+    more = " more" * (count > ROOM)
+    said = [f"audit total {watched(2 * count, reads=count, commits=count)}",
+            total("Order", count), total("Order", count, 'client "b" ')]
+    said += [total("Order", 1, f'"k":"{at}" ') + more for at in range(min(count, ROOM))[:MOST]]
+    return ["--follow", "0", "--key", "k", "--summary"], log, said
 
 
 def told_of_long_names(size):
@@ -112,6 +176,13 @@ WATCHES = (
     Row(FOLLOWED, told_at, NUMBERS),
     Row(FOLLOWED, settled_at, NUMBERS),
 )
+# The first fault of each of these rows is that of line 2.
+GROUPS = (1, FEW, ROOM - 1, ROOM, ROOM + 1)
+GROUPED = (
+    Row(f"{FOLLOWED}, shown_text", told_of_groups, LINES),
+    Row(f"{FOLLOWED}, shown_text", told_of_groups_in_json, GROUPS),
+    Row(f"{FOLLOWED}, printed_name", told_of_keys, GROUPS),
+)
 
 
 def all_refused(count):
@@ -140,6 +211,24 @@ def of_lines(_program):
 def of_lines_by_model(_program):
     """So does the audit's model."""
     yield from by_model(WATCHES)
+
+
+def of_first(said):
+    """How a watch ends that says this of faults of which the first is that of line 2."""
+    out = "".join(f"{it}\n" for it in said).encode()
+    return Ran(FAULTY, out, b"fdb_audit: audit fault: Order 2\n")
+
+
+def of_totals(_program):
+    """The totals of a watch are by as many clients, texts and keys as there is room for."""
+    for name, _, words, log, said in rows(GROUPED):
+        yield name, fault_of(run([PROGRAM, *words], log.encode()), of_first(said))
+
+
+def of_totals_by_model(_program):
+    """So are the model's, where there are few."""
+    for name, _, words, log, said in rows(GROUPED, few=True):
+        yield name, fault_of(follow_model.judged_as(log.encode(), words), of_first(said))
 
 
 def of_refused_lines(_program):
@@ -223,7 +312,7 @@ AGAIN = (
     Row(KEPT, kept_by_key, (1, FEW, 65_537)),
     Row(KEPT, kept_behind_refused, LINES),
 )
-TABLES = (WATCHES, WARNED, EARLY, AGAIN)
+TABLES = (WATCHES, GROUPED, WARNED, EARLY, AGAIN)
 
 
 def of_early_lines(_program):

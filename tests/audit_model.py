@@ -406,20 +406,30 @@ class Log:
         first = [(it[0], None) for it in [owner(self.lines[0])]]
         ranked = dict.fromkeys([*first, *map(owner, self.ranking(at, found))])
         numbers = {it: at for at, it in enumerate(ranked)}
-        of = defaultdict(list)
-        for case, fault, k in found:
-            of[owner(case.lines[k])].append(fault)
+        of, is_more = self.of_groups([(owner(case.lines[k]), fault) for case, fault, k in found])
         ranked = sorted(of, key=lambda it: (-len(of[it]), numbers[it]))
-        return [self.group(*it, tally(of[it])) for it in ranked[:MOST]]
+        return [self.group(*it, tally(of[it]), is_more) for it in ranked[:MOST]]
 
-    def group(self, member, text, counts):
-        """The line of a client (of no member), or of a text, or of those without."""
+    def of_groups(self, faults):
+        """The faults of each owner, and whether there are more: a whole audit counts all."""
+        of = defaultdict(list)
+        for owner, fault in faults:
+            of[owner].append(fault)
+        return of, False
+
+    def group(self, member, text, counts, is_more=False):
+        """The line of a client (of no member), or of a text, or of those without.
+
+        At the end it may say that there are more than are counted.
+        """
         if self.options.json:
             named = {member or "client": None if text is None else json.loads(text)}
-            return printed({**({"members": named} if member is not None else named), **counts})
+            more = {"more": True} if is_more else {}
+            named = named if member is None else {"members": named}
+            return printed({**named, **counts, **more})
         name, parting = ("client", " ") if member is None else (printed(member), ":")
         whose = f"no {name}" if text is None else f"{name}{parting}{text}"
-        return f"audit total {whose} {worded(counts)}"
+        return f"audit total {whose} {worded(counts)}{' more' * is_more}"
 
     def listed(self):
         """The faults that are listed."""

@@ -13,6 +13,8 @@ from reader import Refused
 
 # The kinds of faults that are told.
 WATCHED = ("Order", "NotAbove")
+# Of how many clients, keys or texts a watch counts the faults.
+ROOM = 65_536
 # How the object begins that tells how far a log was followed, and the words.
 PROGRESS, PROGRESS_WORDS = b'{"watched":{', b"fdb_audit: watched "
 # How many lines began before what was settled, and how many of these were judged, as it is printed.
@@ -143,6 +145,14 @@ class Followed(Log):
     def ranking(self, at, found):
         """Of keys and shown texts nothing is kept but those of faults, as they are told."""
         return [case.lines[k] for case, _, k in found] if at else self.lines
+
+    def of_groups(self, faults):
+        """Those of as many clients, keys or texts as there is room for: the first that come."""
+        of, is_more = super().of_groups(faults)
+        beyond = [owner for owner in of if owner[1] is not None][ROOM:]
+        for owner in beyond:
+            del of[owner]
+        return of, bool(beyond)
 
     def ended(self, said, first):
         """How the program ends that told these lines, and this fault first, if any."""

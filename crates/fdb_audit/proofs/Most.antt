@@ -5,7 +5,7 @@ use Rattle.std.proofs.lemmas.Bool.Decides.{nat_tests}
 use Rattle.std.proofs.lemmas.List.Elements.{All-cons, All-map, All-nil, Contains-get_or, recursion_from_All}
 use Rattle.std.proofs.lemmas.List.Filters.{All-dedup}
 use Rattle.std.proofs.lemmas.List.Kept.{AllPairs-cons, Any-dedup, IsStrictlySortedBy-dedup}
-use Rattle.std.proofs.lemmas.List.Sums.{length-filter, sum_by-cons}
+use Rattle.std.proofs.lemmas.List.{get_or-map, length-map}
 use Rattle.std.proofs.lemmas.List.Sorted.{All-permutation, Contains-permutation}
 use Rattle.std.specs.declared.cmp.Ordering.TheVariants.{Less}
 use Rattle.std.specs.Option.{option_cmp, option_eq}
@@ -16,38 +16,18 @@ use Rattle.fdb_audit.specs.contracts.groups.GroupPartialEq.TheImpl.{eq-value}
 use Rattle.fdb_audit.specs.contracts.groups.GroupEq.TheImpl.Laws.{laws-law}
 use Rattle.fdb_audit.specs.contracts.groups.GroupOrd.TheImpl.{cmp-value}
 use Rattle.fdb_audit.specs.contracts.groups.GroupOrd.TheImpl.Laws.{total-law, matches_eq-law}
-use Rattle.fdb_lines.specs.declared.fault.Found.{Found}
 use Rattle.fdb_audit.specs.declared.groups.Group.{Group}
 use Rattle.fdb_audit.specs.Groups.{number_of, AreRanked, ComesBefore}
-use Rattle.fdb_audit.specs.private.{count_in, owners_in, IsGroupIn}
+use Rattle.fdb_audit.specs.private.{owners_in}
+use Rattle.fdb_audit.specs.Tallied.{IsGroupIn}
 
--- ---- owners, and how many are one
+-- ---- owners
 
-same_number : (a b : Option ℕ) → number_of a ≡ number_of b → a ≡ b
+pub same_number : (a b : Option ℕ) → number_of a ≡ number_of b → a ≡ b
 same_number None None e = refl
 same_number None (Some b) e = absurd (omega arith)
 same_number (Some a) None e = absurd (omega arith)
 same_number (Some a) (Some b) e = ap Some (let same : a ≡ b = omega arith in same)
-
-counted_more : (x : Option ℕ) (xs : List (Option ℕ)) (group : Option ℕ) → count_in (x ∷ xs) group ≡ cond (number_of x == number_of group) 1 0 + count_in xs group
-counted_more x xs group = sum_by-cons (λ owner. cond (number_of owner == number_of group) 1 0) x xs
-
-owned : (owners : List (Option ℕ)) (group : Option ℕ) → Contains owners group → 0 < count_in owners group
-owned [] group h = absurd (omega (arith, h.1))
-owned (x ∷ xs) group (zero, lt, is) =
-    let same : number_of x ≡ number_of group = ap number_of is in
-    let more = counted_more x xs group in
-    grind (arith, nat_tests)
-owned (x ∷ xs) group (suc k, lt, is) = let more = owned xs group (k, omega arith, is) in let this = counted_more x xs group in omega arith
-
-there : (owners : List (Option ℕ)) (group : Option ℕ) → 0 < count_in owners group → Contains owners group
-there [] group h = absurd (omega arith)
-there (x ∷ xs) group h = by (number_of x == number_of group) refl (counted_more x xs group) (there xs group)
-  where
-    by : (b : Bool) → (number_of x == number_of group) ≡ b → count_in (x ∷ xs) group ≡ cond b 1 0 + count_in xs group
-        → (0 < count_in xs group → Contains xs group) → Contains (x ∷ xs) group
-    by true e counted more = (0, omega arith, same_number x group (eqb-true _ _ e))
-    by false e counted more = let found = more (omega arith) in (suc found.0, omega (arith, found.1), found.2)
 
 -- ---- groups, and their owners
 
@@ -70,8 +50,8 @@ same_owner x y e = by x.owner y.owner (grind (arith, nat_tests))
     by (Some a) None e = grind arith
     by (Some a) (Some b) e = ap Some (eqb-true a b e)
 
-less : (owners : List (Option ℕ)) (x y : Group) → IsGroupIn owners x → IsGroupIn owners y → cmp-value.it x y ≡ Less → ComesBefore (count_in owners) x.owner y.owner
-less owners x y a b e = rw (← a, ← b) (by x.faults.0 y.faults.0 x.owner y.owner e)
+less : (count : Option ℕ → ℕ) (x y : Group) → IsGroupIn count x → IsGroupIn count y → cmp-value.it x y ≡ Less → ComesBefore count x.owner y.owner
+less count x y a b e = rw (← a, ← b) (by x.faults.0 y.faults.0 x.owner y.owner e)
   where
     by : (m n : ℕ) (a b : Option ℕ) → ordering_then (nat_cmp n m) (option_cmp nat_cmp a b) ≡ Less → (n < m) ⊎ ((m ≡ n) × (number_of a < number_of b))
     by m n None None e = grind (arith, nat_tests)
@@ -81,49 +61,37 @@ less owners x y a b e = rw (← a, ← b) (by x.faults.0 y.faults.0 x.owner y.ow
 
 -- ---- in order, each once
 
-first_of : (owners : List (Option ℕ)) (g : Group) (gs : List Group) → IsGroupIn owners g → AllByRecursion (IsGroupIn owners) gs
-    → AllByRecursion (λ y. cmp-value.it g y ≡ Less) gs → All (ComesBefore (count_in owners) g.owner) (owners_in gs)
-first_of owners g [] is all up = All-nil (ComesBefore (count_in owners) g.owner)
-first_of owners g (y ∷ gs) is all up =
-    All-cons (ComesBefore (count_in owners) g.owner) y.owner (owners_in gs) (less owners g y is all.0 up.0) (first_of owners g gs is all.1 up.1)
+first_of : (count : Option ℕ → ℕ) (g : Group) (gs : List Group) → IsGroupIn count g → AllByRecursion (IsGroupIn count) gs
+    → AllByRecursion (λ y. cmp-value.it g y ≡ Less) gs → All (ComesBefore count g.owner) (owners_in gs)
+first_of count g [] is all up = All-nil (ComesBefore count g.owner)
+first_of count g (y ∷ gs) is all up =
+    All-cons (ComesBefore count g.owner) y.owner (owners_in gs) (less count g y is all.0 up.0) (first_of count g gs is all.1 up.1)
 
-pairs : (owners : List (Option ℕ)) (gs : List Group) → AllByRecursion (IsGroupIn owners) gs → IsStrictlySortedBy cmp-value.it gs
-    → AllPairs (ComesBefore (count_in owners)) (owners_in gs)
+pairs : (count : Option ℕ → ℕ) (gs : List Group) → AllByRecursion (IsGroupIn count) gs → IsStrictlySortedBy cmp-value.it gs
+    → AllPairs (ComesBefore count) (owners_in gs)
 unfolding IsStrictlySortedBy
-pairs owners [] all up = λ i j d less lt. absurd (omega arith)
-pairs owners (g ∷ gs) all up =
-    AllPairs-cons (ComesBefore (count_in owners)) g.owner (owners_in gs) (first_of owners g gs all.0 all.1 up.0) (pairs owners gs all.1 up.1)
+pairs count [] all up = λ i j d less lt. absurd (omega arith)
+pairs count (g ∷ gs) all up =
+    AllPairs-cons (ComesBefore count) g.owner (owners_in gs) (first_of count g gs all.0 all.1 up.0) (pairs count gs all.1 up.1)
 
-module _ (owners : List (Option ℕ)) (groups sorted : List Group) (are : owners_in groups ≡ owners) (counted : All (IsGroupIn owners) groups)
+module _ (count : Option ℕ → ℕ) (groups sorted : List Group) (faulty : All (λ owner. 0 < count owner) (owners_in groups))
+    (all : (owner : Option ℕ) → 0 < count owner → Contains (owners_in groups) owner) (counted : All (IsGroupIn count) groups)
     (moved : IsPermutation groups sorted) (up : IsSorted cmp-value.it sorted) where
-  each : All (λ (g : Group). 0 < count_in owners g.owner) groups
+  each : All (λ (g : Group). 0 < count g.owner) groups
   each k d lt =
-      let g = get_or groups k d in
-      owned owners g.owner (subst (λ os. Contains os g.owner) are (named groups g (Contains-get_or groups k d lt)))
+      let size = length-map groups (λ (g : Group). g.owner) in
+      let within : k < length (owners_in groups) = omega (arith, lt, size) in
+      subst (λ o. 0 < count o) (get_or-map (λ (g : Group). g.owner) groups k d d.owner lt) (faulty k d.owner within)
 
-  pub ranked : AreRanked (count_in owners) (owners_in (dedup eq-value.it sorted))
+  pub ranked : AreRanked count (owners_in (dedup eq-value.it sorted))
   ranked = record {
-    faulty = All-map (λ owner. 0 < count_in owners owner) (λ (g : Group). g.owner) (dedup eq-value.it sorted)
-        (All-dedup eq-value.it (λ (g : Group). 0 < count_in owners g.owner) sorted (All-permutation (λ (g : Group). 0 < count_in owners g.owner) groups sorted moved each));
+    faulty = All-map (λ owner. 0 < count owner) (λ (g : Group). g.owner) (dedup eq-value.it sorted)
+        (All-dedup eq-value.it (λ (g : Group). 0 < count g.owner) sorted (All-permutation (λ (g : Group). 0 < count g.owner) groups sorted moved each));
     all = λ owner some.
-        let g = grouped groups owner (subst (λ os. Contains os owner) (sym are) (there owners owner some)) in
+        let g = grouped groups owner (all owner some) in
         let h = Any-dedup laws-law sorted g.0 (Contains-permutation groups sorted g.0 moved g.1) in
         subst (Contains (owners_in (dedup eq-value.it sorted))) (sym (same_owner g.0 h.1 h.4) ∙ g.2) (named (dedup eq-value.it sorted) h.1 (h.0, h.2, h.3));
-    order = pairs owners (dedup eq-value.it sorted)
-        (recursion_from_All (IsGroupIn owners) (dedup eq-value.it sorted) (All-dedup eq-value.it (IsGroupIn owners) sorted (All-permutation (IsGroupIn owners) groups sorted moved counted)))
+    order = pairs count (dedup eq-value.it sorted)
+        (recursion_from_All (IsGroupIn count) (dedup eq-value.it sorted) (All-dedup eq-value.it (IsGroupIn count) sorted (All-permutation (IsGroupIn count) groups sorted moved counted)))
         (IsStrictlySortedBy-dedup total-law matches_eq-law sorted up);
   }
-
--- ---- the owners of faults
-
-mapped : (of : Found → Option ℕ) (found : List Found) (group : Option ℕ)
-    → count_in (map of found) group ≡ count_by (λ it. number_of (of it) == number_of group) found
-mapped of [] group = refl
-mapped of (x ∷ xs) group =
-    counted_more (of x) (map of xs) group
-    ∙ (ap (λ n. cond (number_of (of x) == number_of group) 1 0 + n) (mapped of xs group)
-    ∙ sym (sum_by-cons (λ it. cond (number_of (of it) == number_of group) 1 0) x xs))
-
-pub counted_faults : (of : Found → Option ℕ) (found : List Found) (group : Option ℕ)
-    → count_in (map of found) group ≡ length (filter (λ it. number_of (of it) == number_of group) found)
-counted_faults of found group = mapped of found group ∙ sym (length-filter (λ it. number_of (of it) == number_of group) found)

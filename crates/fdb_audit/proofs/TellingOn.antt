@@ -16,12 +16,12 @@ use Rattle.fdb_audit.specs.declared.arguments.AuditArguments.{AuditArguments}
 use Rattle.fdb_audit.specs.declared.fault.LogFault.{LogFault}
 use Rattle.fdb_audit.specs.declared.follower.Follower.{Follower}
 use Rattle.fdb_audit.specs.declared.teller.Teller.{Teller}
-use Rattle.fdb_audit.specs.Following.{AreWindows, FollowArguments, IsCounted, IsEnd, Start, Window, early_at, first_told, keys_taken, kinds_told, lines_since, lines_taken, lines_told, told_in_all}
+use Rattle.fdb_audit.specs.Following.{AreWindows, FollowArguments, IsCounted, IsEnd, Start, Window, early_at, faults_told, first_told, keys_taken, lines_since, lines_taken, told_in_all}
 use Rattle.fdb_audit.specs.Clocks.{ahead_in, out_of_reach}
 use Rattle.fdb_audit.specs.Watched.{HasFollowed, HasToldAll, IsComplete, IsFollowed, IsTelling, IsTold, followed_by, lines_asked, members_asked, names_asked}
 use Rattle.fdb_audit.specs.private.Followed.{AreTaken, HasTotals, IsUnread, TellsOn, counted_of, told_with}
 use Rattle.fdb_audit.specs.Warned.{AreEarly}
-use Rattle.fdb_audit.proofs.Windows.{first_on, first_stays, kinds_on, lines_on as all_lines_on, lines_stay, told_on, told_stays, windows_on, windows_stay, windows_within}
+use Rattle.fdb_audit.proofs.Windows.{first_on, faults_on as all_faults_on, faults_stay, first_stays, told_on, told_stays, windows_on, windows_stay, windows_within}
 
 -- nothing has been read
 pub unread : (asked : AuditArguments) (start : Start) (follower : Follower) → IsUnread asked start follower → HasFollowed asked start follower [] []
@@ -62,7 +62,7 @@ takes_on start asked old new read further told has more takes margin teller behi
         margin = has.are.margin;
         by_key = has.are.by_key;
         first = has.are.first ∙ sym (first_stays start.numbers read further windows within);
-        totals = subst (λ lines. HasTotals (members_asked asked) old.teller lines (kinds_told windows)) (sym (lines_stay read further windows within)) has.are.totals;
+        totals = subst (HasTotals (members_asked asked) old.teller) (sym (faults_stay read further windows within)) has.are.totals;
       });
     }
 
@@ -135,9 +135,8 @@ are_on start asked old new margin read names windows faults are more = record {
   margin = more.same.margin ∙ are.margin;
   by_key = ap is_some more.same.key ∙ are.by_key;
   first = more.first ∙ (ap (λ first. option_or first (first_told start.numbers read more.windows)) are.first ∙ sym (first_on start.numbers read windows more.windows));
-  totals = subst (λ lines. HasTotals (members_asked asked) new lines (kinds_told (windows ++ more.windows))) (sym (all_lines_on read windows more.windows))
-      (subst (HasTotals (members_asked asked) new (lines_told read windows ++ lines_told read more.windows)) (sym (kinds_on windows more.windows))
-      (more.counts (members_asked asked) (lines_told read windows) (kinds_told windows) are.totals));
+  totals = subst (HasTotals (members_asked asked) new) (sym (all_faults_on read windows more.windows))
+      (more.counts (members_asked asked) (faults_told read windows) are.totals);
 }
 
 faults_on : (start : Start) (old new : Teller) (margin : ℕ) (read : List (Result SaidLine Why)) (names : List (List ℕ)) (windows : List Window) (faults : List Found)
@@ -256,12 +255,11 @@ pub all_told : (asked : AuditArguments) (start : Start) (ends : Bool) (last : Fo
     → (is : HasToldAll asked start ends last (lines_asked asked bytes) told) → names_asked asked bytes ≡ line_names last.reader
     → text ≡ string_bytes last.teller.text ++ end → found ≡ last.teller.first → last_early ≡ last.taking.counts.last_early
     → IsEnd (not (is_some last.teller.first) && not last.teller.wanted.json) last.teller.wanted.totals last.teller.wanted.json (counted_of last.taking) (told_with last.behind last.teller (members_asked asked))
-    (map printed (line_names last.reader).clients) (lines_told (lines_asked asked bytes) is.windows) (kinds_told is.windows) end
+    (map printed (line_names last.reader).clients) (faults_told (lines_asked asked bytes) is.windows) end
     → (followed : IsFollowed asked start ends bytes (told ++ text) found last_early) × (followed.windows ≡ is.windows) × (followed.counts ≡ counted_of last.taking)
 all_told asked start ends last bytes told text end found last_early is names texts first early end_is =
     let read = lines_asked asked bytes in
-    let lines = lines_told read is.windows in
-    let kinds = kinds_told is.windows in (
+    let faults = faults_told read is.windows in (
       record {
         windows = is.windows;
         told = told ++ string_bytes last.teller.text;
@@ -273,13 +271,13 @@ all_told asked start ends last bytes told text end found last_early is names tex
         counted = is.counted;
         end_is =
             subst (λ found. IsEnd (not (is_some found) && not asked.wanted.json) asked.wanted.totals asked.wanted.json (counted_of last.taking) (followed_by asked start.behind)
-            (map printed (names_asked asked bytes).clients) lines kinds end) (sym first)
+            (map printed (names_asked asked bytes).clients) faults end) (sym first)
             (subst (λ names. IsEnd (not (is_some last.teller.first) && not asked.wanted.json) asked.wanted.totals asked.wanted.json (counted_of last.taking) (followed_by asked start.behind)
-            (map printed names.clients) lines kinds end) (sym names)
+            (map printed names.clients) faults end) (sym names)
             (subst (λ arguments. IsEnd (not (is_some last.teller.first) && not asked.wanted.json) asked.wanted.totals asked.wanted.json (counted_of last.taking) arguments
-            (map printed (line_names last.reader).clients) lines kinds end) (same_arguments asked start last is.behind is.are.margin is.are.by_key)
+            (map printed (line_names last.reader).clients) faults end) (same_arguments asked start last is.behind is.are.margin is.are.by_key)
             (subst (λ wanted. IsEnd (not (is_some last.teller.first) && not wanted.json) wanted.totals wanted.json (counted_of last.taking) (told_with last.behind last.teller (members_asked asked))
-            (map printed (line_names last.reader).clients) lines kinds end) is.are.wanted end_is)));
+            (map printed (line_names last.reader).clients) faults end) is.are.wanted end_is)));
         whole = is.whole;
         before = is.before;
         early = is.early;

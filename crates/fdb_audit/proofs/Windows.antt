@@ -27,8 +27,9 @@ use Rattle.fdb_log_reader.specs.ReadLine.{SaidLine}
 use Rattle.fdb_audit.specs.declared.fault.LogFault.{LogFault}
 use Rattle.fdb_audit.specs.declared.judged.Wanted.{Wanted}
 use Rattle.fdb_audit.specs.declared.teller.Teller.{Teller}
-use Rattle.fdb_audit.specs.Following.{AreWindows, IsFoundIn, IsWindow, KeptNumbers, Window, first_in, first_told, keys_taken, kinds_told, lines_at, lines_taken, lines_told, number_in, printed_in, taken, told_in, told_in_all, told_text}
+use Rattle.fdb_audit.specs.Following.{AreWindows, IsFoundIn, IsWindow, KeptNumbers, Window, faults_at, faults_told, first_in, first_told, keys_taken, lines_taken, number_in, printed_in, taken, told_in, told_in_all, told_text}
 use Rattle.fdb_audit.specs.Text.{Beside, PrintedLog, fault_of}
+use Rattle.fdb_audit.specs.ToldFaults.{ToldFault, told_at}
 use Rattle.fdb_audit.specs.private.Followed.{CountsOn, HasTotals, IsSameTeller, TellsOn}
 
 -- ---- windows that follow others
@@ -102,11 +103,8 @@ first_stays kept read further (w ∷ ws) within =
 pub told_on : (read : List (Result SaidLine Why)) (ws vs : List Window) → told_in_all read (ws ++ vs) ≡ told_in_all read ws ++ told_in_all read vs
 told_on read ws vs = flat_map-append (λ (window : Window). told_in (take window.read read) window) ws vs
 
-pub lines_on : (read : List (Result SaidLine Why)) (ws vs : List Window) → lines_told read (ws ++ vs) ≡ lines_told read ws ++ lines_told read vs
-lines_on read ws vs = flat_map-append (λ (window : Window). lines_at (take window.read read) window) ws vs
-
-pub kinds_on : (ws vs : List Window) → kinds_told (ws ++ vs) ≡ kinds_told ws ++ kinds_told vs
-kinds_on ws vs = flat_map-append (λ (window : Window). map (λ (finding : Finding). finding.found.fault) window.found) ws vs
+pub faults_on : (read : List (Result SaidLine Why)) (ws vs : List Window) → faults_told read (ws ++ vs) ≡ faults_told read ws ++ faults_told read vs
+faults_on read ws vs = flat_map-append (λ (window : Window). faults_at (take window.read read) window) ws vs
 
 each_stays : {X : Type 0} (f : List (Result SaidLine Why) → Window → List X) (read further : List (Result SaidLine Why)) (ws : List Window) → All (λ (w : Window). w.read ≤ length read) ws
     → flat_map (λ (window : Window). f (take window.read (read ++ further)) window) ws ≡ flat_map (λ (window : Window). f (take window.read read) window) ws
@@ -119,8 +117,8 @@ each_stays {X} f read further (w ∷ ws) within =
 pub told_stays : (read further : List (Result SaidLine Why)) (ws : List Window) → All (λ (w : Window). w.read ≤ length read) ws → told_in_all (read ++ further) ws ≡ told_in_all read ws
 told_stays read further ws within = each_stays told_in read further ws within
 
-pub lines_stay : (read further : List (Result SaidLine Why)) (ws : List Window) → All (λ (w : Window). w.read ≤ length read) ws → lines_told (read ++ further) ws ≡ lines_told read ws
-lines_stay read further ws within = each_stays lines_at read further ws within
+pub faults_stay : (read further : List (Result SaidLine Why)) (ws : List Window) → All (λ (w : Window). w.read ≤ length read) ws → faults_told (read ++ further) ws ≡ faults_told read ws
+faults_stay read further ws within = each_stays faults_at read further ws within
 
 -- windows are of lines that were read
 pub windows_within : (kept : KeptNumbers) (margin : ℕ) (wanted : Wanted) (read : List (Result SaidLine Why)) (names : List (List ℕ)) (ws : List Window) (text : List ℕ)
@@ -140,7 +138,7 @@ tells_nothing kept teller margin read names = record {
   appended = sym (append-nil (string_bytes teller.text));
   first = sym (or_none teller.first);
   faults_are = refl;
-  counts = λ members lines kinds has. subst (λ (ls : List Line). HasTotals members teller ls (kinds ++ [])) (sym (append-nil lines)) (subst (HasTotals members teller lines) (sym (append-nil kinds)) has);
+  counts = λ members told has. subst (HasTotals members teller) (sym (append-nil told)) has;
   same = record { wanted = refl; margin = refl; key = refl };
 }
 
@@ -157,12 +155,10 @@ tells_yet kept old mid new margin read names faults more one two = record {
       ∙ (or_else old.first (first_told kept read one.windows) (first_told kept read two.windows)
       ∙ ap (option_or old.first) (sym (first_on kept read one.windows two.windows))));
   faults_are = told_on read one.windows two.windows ∙ (ap (λ (list : List Found). list ++ told_in_all read two.windows) one.faults_are ∙ ap (λ (list : List Found). faults ++ list) two.faults_are);
-  counts = λ members lines kinds has.
-      subst (λ (ls : List Line). HasTotals members new ls (kinds ++ kinds_told (one.windows ++ two.windows)))
-      (append_assoc lines (lines_told read one.windows) (lines_told read two.windows) ∙ ap (λ (ls : List Line). lines ++ ls) (sym (lines_on read one.windows two.windows)))
-      (subst (HasTotals members new ((lines ++ lines_told read one.windows) ++ lines_told read two.windows))
-      (append_assoc kinds (kinds_told one.windows) (kinds_told two.windows) ∙ ap (λ (ks : List Fault). kinds ++ ks) (sym (kinds_on one.windows two.windows)))
-      (two.counts members (lines ++ lines_told read one.windows) (kinds ++ kinds_told one.windows) (one.counts members lines kinds has)));
+  counts = λ members told has.
+      subst (HasTotals members new)
+      (append_assoc told (faults_told read one.windows) (faults_told read two.windows) ∙ ap (λ (those : List ToldFault). told ++ those) (sym (faults_on read one.windows two.windows)))
+      (two.counts members (told ++ faults_told read one.windows) (one.counts members told has));
   same = record { wanted = two.same.wanted ∙ one.same.wanted; margin = two.same.margin ∙ one.same.margin; key = two.same.key ∙ one.same.key };
 }
 
@@ -201,8 +197,8 @@ kept_within to read entry part told =
     (All-map (λ (place : ℕ). place ≤ length (taken read)) (slice_index (places_of keys part.key)) kept (λ k d lt. within (slice_index_or kept k d)))
 
 -- what is told of a key at a moment
-abbrev pub window_of : Option ℕ → List (Result SaidLine Why) → List (List ℕ) → SettledKey → KeyPart → Window
-window_of to read names entry part = record {
+abbrev pub window_of : Option ℕ → List (Result SaidLine Why) → List (List ℕ) → SettledKey → KeyPart → List Beside → Window
+window_of to read names entry part beside = record {
   read = length read;
   names = names;
   key = part.key;
@@ -212,13 +208,14 @@ window_of to read names entry part = record {
   since = part.watch.settled;
   to = to;
   found = entry.settled.found.items;
+  beside = beside;
 }
 
-found_in : (margin : ℕ) (to : Option ℕ) (read : List (Result SaidLine Why)) (names : List (List ℕ)) (entry : SettledKey) (part : KeyPart)
+found_in : (margin : ℕ) (to : Option ℕ) (read : List (Result SaidLine Why)) (names : List (List ℕ)) (entry : SettledKey) (part : KeyPart) (beside : List Beside)
     → part.watch.margin ≡ margin → IsToldOf to (lines_taken read) (keys_taken read) entry part
-    → IsFoundIn margin (lines_of_one (lines_taken read) (keys_taken read) part.key) (window_of to read names entry part)
-found_in margin to read names entry part same told =
-    subst (λ m. IsFoundIn m (lines_of_one (lines_taken read) (keys_taken read) part.key) (window_of to read names entry part)) same
+    → IsFoundIn margin (lines_of_one (lines_taken read) (keys_taken read) part.key) (window_of to read names entry part beside)
+found_in margin to read names entry part beside same told =
+    subst (λ m. IsFoundIn m (lines_of_one (lines_taken read) (keys_taken read) part.key) (window_of to read names entry part beside)) same
     (record { told = told.told.told; reasons = told.told.reasons; late = told.told.late })
 
 -- what is shown of lines
@@ -240,7 +237,7 @@ shown_of kept read names entry beside = record {
 }
 
 shown_is : (kept : KeptNumbers) (to : Option ℕ) (read : List (Result SaidLine Why)) (names : List (List ℕ)) (entry : SettledKey) (part : KeyPart) (beside : List Beside)
-    → IsToldOf to (lines_taken read) (keys_taken read) entry part → shown_of kept read names entry beside ≡ printed_in kept read (window_of to read names entry part) beside
+    → IsToldOf to (lines_taken read) (keys_taken read) entry part → shown_of kept read names entry beside ≡ printed_in kept read (window_of to read names entry part beside)
 shown_is kept to read names entry part beside told =
     ap (λ (lines : List Line). log_with lines (map printed names) (map (number_in kept read) entry.settled.numbers.items) beside) told.log
     ∙ ap (λ (places : List ℕ). log_with (lines_in (lines_taken read) places) (map printed names) (map (number_in kept read) places) beside) told.numbers
@@ -249,25 +246,25 @@ shown_is kept to read names entry part beside told =
 abbrev pub first_of : PrintedLog → List Finding → Option LogFault
 first_of it found = option_map (λ (finding : Finding). fault_of it.numbers (found_of finding)) (slice_get found 0)
 
--- the lines at which faults stand
-abbrev pub stand_at : List Line → List Finding → List Line
-stand_at lines found = map (λ (finding : Finding). line_at lines finding.found.line) found
+-- faults as they are counted
+abbrev pub faults_of : PrintedLog → List Finding → List ToldFault
+faults_of it found = map (λ (finding : Finding). told_at it.lines it.beside finding.found) found
 
 pub tells_of : (kept : KeptNumbers) (old new : Teller) (margin : ℕ) (to : Option ℕ) (read : List (Result SaidLine Why)) (names : List (List ℕ)) (entry : SettledKey) (part : KeyPart) (beside : List Beside) (it : PrintedLog)
     → part.watch.margin ≡ margin → IsToldOf to (lines_taken read) (keys_taken read) entry part → it ≡ shown_of kept read names entry beside
     → string_bytes new.text ≡ string_bytes old.text ++ told_text old.wanted it entry.settled.found.items
     → new.first ≡ option_or old.first (first_of it entry.settled.found.items)
-    → CountsOn old new (stand_at it.lines entry.settled.found.items) (map (λ (finding : Finding). finding.found.fault) entry.settled.found.items) → IsSameTeller old new
+    → CountsOn old new (faults_of it entry.settled.found.items) → IsSameTeller old new
     → TellsOn kept old new margin read names (told_by entry)
 tells_of kept old new margin to read names entry part beside it same told is added first counts still =
     let wanted = still.wanted in
     let found = entry.settled.found.items in
-    let window = window_of to read names entry part in
-    let log = printed_in kept read window beside in
+    let window = window_of to read names entry part beside in
+    let log = printed_in kept read window in
     let shown : it ≡ log = is ∙ shown_is kept to read names entry part beside told in
     let text = told_text new.wanted log found in
     let all : take (length read) read ≡ read = take_all (length read) read (omega arith) in
-    let one : IsWindow kept margin new.wanted read window text = record { found = found_in margin to read names entry part same told; beside = beside; printed = refl } in
+    let one : IsWindow kept margin new.wanted read window text = record { found = found_in margin to read names entry part beside same told; printed = refl } in
     let here : window.read ≤ length read = omega arith in
     record {
       windows = window ∷ [];
@@ -290,12 +287,10 @@ tells_of kept old new margin to read names entry part beside it same told is add
       faults_are = append-nil (told_in (take (length read) read) window)
           ∙ (ap (λ (those : List (Result SaidLine Why)). told_in those window) all
           ∙ ap (λ (places : List ℕ). map (λ (finding : Finding). placed_found places (found_of finding)) found) (sym told.numbers));
-      counts = λ members lines kinds has.
-          let stand : stand_at it.lines found ≡ lines_told read (window ∷ []) =
-          ap (λ (it : PrintedLog). stand_at it.lines found) shown ∙ (ap (λ (those : List (Result SaidLine Why)). lines_at those window) (sym all) ∙ sym (append-nil (lines_at (take (length read) read) window))) in
-          subst (λ (ls : List Line). HasTotals members new (lines ++ ls) (kinds ++ kinds_told (window ∷ []))) stand
-          (subst (λ (ks : List Fault). HasTotals members new (lines ++ stand_at it.lines found) (kinds ++ ks)) (sym (append-nil (map (λ (finding : Finding). finding.found.fault) found)))
-          (counts members lines kinds has));
+      counts = λ members told has.
+          let those : faults_of it found ≡ faults_told read (window ∷ []) =
+          ap (λ (it : PrintedLog). faults_of it found) shown ∙ (ap (λ (those : List (Result SaidLine Why)). faults_at those window) (sym all) ∙ sym (append-nil (faults_at (take (length read) read) window))) in
+          subst (λ (those : List ToldFault). HasTotals members new (told ++ those)) those (counts members told has);
       same = still;
     }
 
@@ -305,7 +300,7 @@ pub tells_for : (kept : KeptNumbers) (old new : Teller) (margin : ℕ) (to : Opt
     → part.watch.margin ≡ margin → IsToldOf to (lines_taken read) (keys_taken read) entry part
     → string_bytes new.text ≡ string_bytes old.text ++ told_text old.wanted (log_with (lines_of entry.settled.log).lines texts numbers beside) found
     → new.first ≡ option_or old.first (first_of (log_with (lines_of entry.settled.log).lines texts numbers beside) found)
-    → CountsOn old new (stand_at (lines_of entry.settled.log).lines found) (map (λ (finding : Finding). finding.found.fault) found) → IsSameTeller old new
+    → CountsOn old new (faults_of (log_with (lines_of entry.settled.log).lines texts numbers beside) found) → IsSameTeller old new
     → TellsOn kept old new margin read names (told_by entry)
 tells_for kept old new margin to read names entry part texts numbers beside found named numbered is same told added first counts still =
     let lines = (lines_of entry.settled.log).lines in
@@ -314,7 +309,7 @@ tells_for kept old new margin to read names entry part texts numbers beside foun
     (same_log lines texts (map printed names) numbers (map (number_in kept read) entry.settled.numbers.items) beside named numbered)
     (added ∙ ap (λ (found : List Finding). string_bytes old.text ++ told_text old.wanted it found) is)
     (first ∙ ap (λ (found : List Finding). option_or old.first (first_of it found)) is)
-    (subst (λ (found : List Finding). CountsOn old new (stand_at lines found) (map (λ (finding : Finding). finding.found.fault) found)) is counts)
+    (subst (λ (found : List Finding). CountsOn old new (faults_of it found)) is counts)
     still
 
 -- ---- what is told of each key

@@ -2,7 +2,6 @@
 use Rattle.std.specs.Prelude.{ℕ, Bool, true, false, List, count_by}
 use Rattle.fdb_lines.specs.declared.fault.Fault.{Fault}
 use Rattle.fdb_lines.specs.declared.fault.Fault.TheVariants.{Order, Wrong, NotAbove, Twice, Stray}
-use Rattle.fdb_lines.specs.declared.fault.Found.{Found}
 
 abbrev pub same_fault : Fault → Fault → Bool
 same_fault Order Order = true
@@ -12,5 +11,5 @@ same_fault Twice Twice = true
 same_fault Stray Stray = true
 same_fault fault other = false
 
-abbrev pub how_many_of : Fault → List Found → ℕ
-how_many_of fault found = count_by (λ (it : Found). same_fault it.fault fault) found
+abbrev pub how_many_of : Fault → List Fault → ℕ
+how_many_of fault faults = count_by (λ it. same_fault it fault) faults

@@ -1,8 +1,7 @@
 -- What is told of a log that is followed as it grows. (this product's own)
 use Rattle.std.specs.Prelude.{◌≡◌, ℕ, zero, suc, ◌+◌, ◌≤◌, ◌||◌, nat_le, not, Bool, true, false, List, [], ◌∷◌, ◌++◌, All, Option, None, Some, codes, count_by, drop, length, map, nat_lt, option_map, slice_get, slice_index, take, unwrap_or, Result, Ok, Err, if◌then◌else◌}
-use Rattle.std.specs.List.{flat_map, range_with_len}
+use Rattle.std.specs.List.{flat_map}
 use Rattle.std.specs.Option.{option_or}
-use Rattle.fdb_lines.specs.declared.fault.Fault.{Fault}
 use Rattle.fdb_lines.specs.declared.fault.Found.{Found}
 use Rattle.fdb_lines.specs.declared.line.Line.{Line}
 use Rattle.fdb_lines.specs.declared.reason.Finding.{Finding}
@@ -11,7 +10,7 @@ use Rattle.fdb_lines.specs.Carried.{with_times}
 use Rattle.fdb_lines.specs.KeyParts.{lines_of_one}
 use Rattle.fdb_lines.specs.Keys.{placed_finding, placed_found, places_of}
 use Rattle.fdb_lines.specs.Late.{HasLateSince}
-use Rattle.fdb_lines.specs.Lines.{is_ask, is_commit, is_read, is_report, line_at, lines_in}
+use Rattle.fdb_lines.specs.Lines.{is_ask, is_commit, is_read, is_report, lines_in}
 use Rattle.fdb_lines.specs.Reasons.{found_of, HasReason}
 use Rattle.fdb_lines.specs.Summary.{how_many}
 use Rattle.fdb_lines.specs.Watching.{is_due, opts_of, told_of}
@@ -22,11 +21,10 @@ use Rattle.fdb_log_reader.specs.Numbers.{IsMore}
 use Rattle.fdb_log_reader.specs.Printed.{printed}
 use Rattle.fdb_log_reader.specs.ReadLine.{SaidLine}
 use Rattle.fdb_audit.specs.Figures.{Figure, figure, figures_words}
-use Rattle.fdb_audit.specs.Groups.{groupings, AreMostOfEach}
 use Rattle.fdb_audit.specs.Judged.{list_text}
 use Rattle.fdb_audit.specs.Objects.{total_object}
 use Rattle.fdb_audit.specs.Text.{Beside, PrintedLog, fault_of, line}
-use Rattle.fdb_audit.specs.Totals.{faults_line}
+use Rattle.fdb_audit.specs.ToldFaults.{AreTotals, ToldFault, told_at}
 use Rattle.fdb_audit.specs.declared.fault.LogFault.{LogFault}
 use Rattle.fdb_audit.specs.declared.judged.Wanted.{Wanted}
 
@@ -112,7 +110,8 @@ number_in kept read above =
 
 -- How many lines had been read, and the names of clients among them; which key it is; which of the key's lines had been kept;
 -- at which of its lines it was time to tell: those that began from one moment on and before another, and those since a number
--- that came late, from an earlier moment on; and what was found, by places among the lines that had been kept.
+-- that came late, from an earlier moment on; and what was found, by places among the lines that had been kept, with what was printed
+-- beside these.
 pub record Window : Type 0 where
   pub read : ℕ
   pub names : List (List ℕ)
@@ -123,6 +122,7 @@ pub record Window : Type 0 where
   pub since : ℕ
   pub to : Option ℕ
   pub found : List Finding
+  pub beside : List Beside
 
 -- What is found are the stale reads and the versions that are not above others, of all lines of the key that had been read,
 -- at the lines of which it was time to tell: each with a reason that is true of all of these lines, and with how late it is.
@@ -137,12 +137,12 @@ abbrev pub places_in : List (Result SaidLine Why) → Window → List ℕ
 places_in read window = map (slice_index (places_of (keys_taken read) window.key)) window.kept
 
 -- what is printed of them
-abbrev pub printed_in : KeptNumbers → List (Result SaidLine Why) → Window → List Beside → PrintedLog
-printed_in kept read window beside = record {
+abbrev pub printed_in : KeptNumbers → List (Result SaidLine Why) → Window → PrintedLog
+printed_in kept read window = record {
   lines = lines_in (lines_taken read) (places_in read window);
   names = map printed window.names;
   numbers = map (number_in kept read) (places_in read window);
-  beside = beside;
+  beside = window.beside;
 }
 
 -- whether faults are told, and not their totals alone
@@ -155,8 +155,7 @@ told_text wanted it found = if lists wanted then list_text wanted.json it found 
 -- what is told of a key at a moment, of the lines that had been read by then
 pub record IsWindow (kept : KeptNumbers) (margin : ℕ) (wanted : Wanted) (read : List (Result SaidLine Why)) (window : Window) (text : List ℕ) : Type 0 where
   pub found : IsFoundIn margin (lines_of_one (lines_taken read) (keys_taken read) window.key) window
-  pub beside : List Beside
-  pub printed : text ≡ told_text wanted (printed_in kept read window beside) window.found
+  pub printed : text ≡ told_text wanted (printed_in kept read window) window.found
 
 -- the first fault that is told, by the number of its line
 abbrev pub first_in : KeptNumbers → List (Result SaidLine Why) → Window → Option LogFault
@@ -181,15 +180,13 @@ told_in read window = map (λ finding. placed_found (places_in read window) (fou
 abbrev pub told_in_all : List (Result SaidLine Why) → List Window → List Found
 told_in_all read windows = flat_map (λ (window : Window). told_in (take window.read read) window) windows
 
--- their kinds, and the lines at which they stand
-abbrev pub kinds_told : List Window → List Fault
-kinds_told windows = flat_map (λ (window : Window). map (λ (finding : Finding). finding.found.fault) window.found) windows
+-- the same as they are counted: each by its kind, its client and what was printed beside it
+abbrev pub faults_at : List (Result SaidLine Why) → Window → List ToldFault
+faults_at read window =
+    map (λ (finding : Finding). told_at (lines_in (lines_taken read) (places_in read window)) window.beside finding.found) window.found
 
-abbrev pub lines_at : List (Result SaidLine Why) → Window → List Line
-lines_at read window = map (λ (finding : Finding). line_at (lines_in (lines_taken read) (places_in read window)) finding.found.line) window.found
-
-abbrev pub lines_told : List (Result SaidLine Why) → List Window → List Line
-lines_told read windows = flat_map (λ (window : Window). lines_at (take window.read read) window) windows
+abbrev pub faults_told : List (Result SaidLine Why) → List Window → List ToldFault
+faults_told read windows = flat_map (λ (window : Window). faults_at (take window.read read) window) windows
 
 -- ---- what is printed at the end
 
@@ -247,17 +244,6 @@ pub record FollowArguments : Type 0 where
 abbrev pub followed_figures : FollowArguments → List Figure
 followed_figures asked = figure (codes "follow") asked.behind ∷ figure (codes "margin") asked.margin ∷ []
 
--- The totals of faults of these kinds, the first of which stands at the first of these lines, and so on: how many there are, and
--- the groups with most.
-pub record AreTotals (json : Bool) (names : List (List ℕ)) (lines : List Line) (kinds : List Fault) (text : List ℕ) : Type 0 where
-  pub faults : List Found
-  pub are : map (λ (found : Found). found.fault) faults ≡ kinds
-  pub stand : map (λ (found : Found). found.line) faults ≡ range_with_len 0 (length kinds)
-  pub beside : List Beside
-  pub groups : List ℕ
-  pub most : AreMostOfEach json (groupings (record { lines = lines; names = names; numbers = []; beside = beside })) faults groups
-  pub printed : text ≡ line (faults_line json faults) ++ groups
-
 -- how much was read, in front of the totals
 abbrev pub total_head : Bool → Counted → FollowArguments → List ℕ
 total_head false counts asked = line (figures_words (codes "audit total") (counted_figures counts))
@@ -265,8 +251,8 @@ total_head true counts asked = line (total_object (counted_figures counts) (foll
 
 -- What is printed behind all that was told: that no fault was, in words, or that none was but lines came early; or the totals,
 -- where they are wanted.
-abbrev pub IsEnd : (quiet totals json : Bool) → Counted → FollowArguments → List (List ℕ) → List Line → List Fault → List ℕ → Type 0
-IsEnd true totals json counts asked names lines kinds text = text ≡ line (figures_words (verdict_of counts.early) (counted_figures counts))
-IsEnd false false json counts asked names lines kinds text = text ≡ []
-IsEnd false true json counts asked names lines kinds text =
-    (totals : List ℕ) × AreTotals json names lines kinds totals × (text ≡ total_head json counts asked ++ totals)
+abbrev pub IsEnd : (quiet totals json : Bool) → Counted → FollowArguments → List (List ℕ) → List ToldFault → List ℕ → Type 0
+IsEnd true totals json counts asked names told text = text ≡ line (figures_words (verdict_of counts.early) (counted_figures counts))
+IsEnd false false json counts asked names told text = text ≡ []
+IsEnd false true json counts asked names told text =
+    (totals : List ℕ) × AreTotals json names asked.members told totals × (text ≡ total_head json counts asked ++ totals)

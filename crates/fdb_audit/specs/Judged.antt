@@ -91,7 +91,7 @@ AreTotals log it keys opts wanted false text = text ≡ []
 AreTotals log it keys opts wanted true text =
     let found = faults_in log keys opts in
     (counts : Summary) × IsSummary log keys opts counts × (groups : List ℕ) × AreMostOfEach wanted.json (groupings it) found groups
-    × (text ≡ line (total_line wanted.json it keys opts counts) ++ line (faults_line wanted.json found) ++ groups)
+    × (text ≡ line (total_line wanted.json it keys opts counts) ++ line (faults_line wanted.json (map (λ (it : Found). it.fault) found)) ++ groups)
 
 -- What is printed where faults stand: those that are listed, each with a reason that is true of the lines, and totals.
 abbrev pub IsFaulted : Lines → PrintedLog → Option (List (Option ℕ)) → AuditOpts → Wanted → Found → List ℕ → Type 0

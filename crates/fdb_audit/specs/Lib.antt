@@ -4,10 +4,12 @@ pub mod Counting
 pub mod Objects
 pub mod Totals
 pub mod Groups
+pub mod ToldFaults
 pub mod Judged
 pub mod Clocks
 pub mod Following
 pub mod Warned
+pub mod Tallied
 pub mod Taken
 pub mod Watched
 pub mod Progress

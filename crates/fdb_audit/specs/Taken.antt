@@ -1,7 +1,5 @@
 -- The lines that a follower has taken, of those that were read, and what it has told of them. (this product's own)
 use Rattle.std.specs.Prelude.{◌≡◌, ℕ, ◌+◌, ◌-◌, ◌<◌, ◌≤◌, ◌==◌, ◌^◌, ◌++◌, Bool, true, false, All, List, MatchOption, None, Option, Some, Result, drop, length, map, string_bytes, take, if◌then◌else◌}
-use Rattle.std.specs.List.{range_with_len}
-use Rattle.fdb_lines.specs.declared.fault.Fault.{Fault}
 use Rattle.fdb_lines.specs.declared.fault.Found.{Found}
 use Rattle.fdb_lines.specs.declared.line.Line.{Line}
 use Rattle.fdb_lines.specs.KeyWatch.{HasSeenByKey}
@@ -16,6 +14,8 @@ use Rattle.fdb_audit.specs.declared.taking.Taking.{Taking}
 use Rattle.fdb_audit.specs.declared.teller.Teller.{Teller}
 use Rattle.fdb_audit.specs.declared.beside.Column.{Column}
 use Rattle.fdb_audit.specs.declared.told_faults.ToldFaults.{ToldFaults}
+use Rattle.fdb_audit.specs.Tallied.{HasClients, HasKinds, HasTextsIn}
+use Rattle.fdb_audit.specs.ToldFaults.{ToldFault}
 use Rattle.fdb_audit.specs.Warned.{AreEarly, IsSaid}
 use Rattle.fdb_audit.specs.Following.{Counted, KeptNumbers, Start, early_at, keys_taken, last_refused, lines_since, lines_taken, taken, taken_above}
 use Rattle.fdb_audit.specs.Clocks.{ahead_end, ahead_in, believed_end, newest_end, others_end, out_of_reach}
@@ -99,21 +99,19 @@ pub record AreTaken (start : Start) (taking : Taking) (read : List (Result SaidL
 abbrev pub HasWarned : Start → Taking → List (Result SaidLine Why) → List ℕ → Type 0
 HasWarned start taking read warned = IsSaid start read taking.counts.early taking.counts.ahead (warned ++ string_bytes taking.warnings)
 
--- Faults of these kinds are counted, the first of which stands at the first of these lines, and so on, with what is printed of
--- these members beside the lines.
-pub record HasCounted (members : List (List ℕ)) (faults : ToldFaults) (at : List Line) (kinds : List Fault) : Type 0 where
-  pub lines : faults.log.lines.items ≡ at
-  pub are : map (λ (found : Found). found.fault) faults.found.items ≡ kinds
-  pub stand : map (λ (found : Found). found.line) faults.found.items ≡ range_with_len 0 (length kinds)
-  pub as_many : length at ≡ length kinds
+-- These faults are counted: in all, by their clients, and by what was printed of these members.
+pub record HasCounted (members : List (List ℕ)) (faults : ToldFaults) (told : List ToldFault) : Type 0 where
+  pub kinds : HasKinds faults.kinds (map (λ (it : ToldFault). it.kind) told)
+  pub clients : HasClients faults.clients told
+  pub texts : HasTextsIn members told faults.texts.items
   pub columns : map (λ (column : Column). string_bytes column.member) faults.columns.items ≡ members
 
 -- and so they are where totals are wanted
-abbrev pub HasTotalsIn : Bool → List (List ℕ) → Option ToldFaults → List Line → List Fault → Type 0
-HasTotalsIn totals members told lines kinds = MatchOption told (totals ≡ false) (λ faults. (totals ≡ true) × HasCounted members faults lines kinds)
+abbrev pub HasTotalsIn : Bool → List (List ℕ) → Option ToldFaults → List ToldFault → Type 0
+HasTotalsIn totals members counted told = MatchOption counted (totals ≡ false) (λ faults. (totals ≡ true) × HasCounted members faults told)
 
-abbrev pub HasTotals : List (List ℕ) → Teller → List Line → List Fault → Type 0
-HasTotals members teller lines kinds = HasTotalsIn teller.wanted.totals members teller.told lines kinds
+abbrev pub HasTotals : List (List ℕ) → Teller → List ToldFault → Type 0
+HasTotals members teller told = HasTotalsIn teller.wanted.totals members teller.told told
 
 -- how much was read
 abbrev pub counted_in : Counts → ℕ → Counted

@@ -11,7 +11,7 @@ use Rattle.fdb_audit.specs.declared.arguments.AuditArguments.{AuditArguments}
 use Rattle.fdb_audit.specs.declared.fault.LogFault.{LogFault}
 use Rattle.fdb_audit.specs.declared.follower.Follower.{Follower}
 use Rattle.fdb_audit.specs.declared.teller.Teller.{Teller}
-use Rattle.fdb_audit.specs.Following.{AreWindows, Counted, FollowArguments, IsCounted, IsEnd, Start, Window, early_at, first_told, keys_taken, kinds_told, lines_since, lines_taken, lines_told, told_in_all}
+use Rattle.fdb_audit.specs.Following.{AreWindows, Counted, FollowArguments, IsCounted, IsEnd, Start, Window, early_at, faults_told, first_told, keys_taken, lines_since, lines_taken, told_in_all}
 use Rattle.fdb_audit.specs.Clocks.{ahead_in, out_of_reach}
 use Rattle.fdb_audit.specs.Taken.{AreTaken, HasTotals, HasWarned, counted_of}
 use Rattle.fdb_audit.specs.Warned.{AreEarly, IsSaid}
@@ -39,7 +39,7 @@ pub record IsTold (asked : AuditArguments) (start : Start) (teller : Teller) (re
   pub margin : teller.margin ≡ asked.opts.margin
   pub by_key : is_some teller.key ≡ is_some asked.key
   pub first : teller.first ≡ first_told start.numbers read windows
-  pub totals : HasTotals (members_asked asked) teller (lines_told read windows) (kinds_told windows)
+  pub totals : HasTotals (members_asked asked) teller (faults_told read windows)
 
 -- These lines were read, and this text has been told of them, but for what is told next.
 pub record IsTelling (asked : AuditArguments) (start : Start) (follower : Follower) (read : List (Result SaidLine Why)) (told : List ℕ) : Type 0 where
@@ -92,7 +92,7 @@ pub record IsFollowed (asked : AuditArguments) (start : Start) (ends : Bool) (by
   pub first : found ≡ first_told start.numbers (lines_asked asked bytes) windows
   pub counted : IsCounted start (lines_asked asked bytes) counts
   pub end_is : IsEnd (not (is_some found) && not asked.wanted.json) asked.wanted.totals asked.wanted.json counts (followed_by asked start.behind)
-      (map printed (names_asked asked bytes).clients) (lines_told (lines_asked asked bytes) windows) (kinds_told windows) end
+      (map printed (names_asked asked bytes).clients) (faults_told (lines_asked asked bytes) windows) end
   pub whole : start.early ≡ 0 → counts.early ≡ 0 → IsComplete ends asked.opts.margin (lines_asked asked bytes) (start.told ++ told_in_all (lines_asked asked bytes) windows)
   pub early : start.anew ≡ true → counts.early ≤ out_of_reach start.behind (lines_taken (lines_asked asked bytes))
   pub ahead : start.anew ≡ true → counts.ahead ≡ ahead_in start.behind (lines_taken (lines_asked asked bytes))

@@ -5,7 +5,7 @@ pub mod Numbering
 pub mod Kept
 pub mod KeptTexts
 pub mod Pace
-use Rattle.std.specs.Prelude.{◌≡◌, ℕ, ◌==◌, Bool, List, [], Option, count_by, map, option_copied, string_bytes}
+use Rattle.std.specs.Prelude.{◌≡◌, ℕ, Bool, List, [], Option, map, option_copied, string_bytes}
 use Rattle.fdb_lines.specs.declared.key_order.Order.{Order}
 use Rattle.fdb_lines.specs.declared.key_order.Order.TheVariants.{One, ByKey}
 use Rattle.fdb_lines.specs.Judged.{HaveKeys}
@@ -14,11 +14,12 @@ use Rattle.fdb_lines.specs.Log.{lines_of}
 use Rattle.fdb_log_reader.specs.Names.{names_of}
 use Rattle.fdb_log_reader.specs.Printed.{printed}
 use Rattle.fdb_audit.specs.Figures.{Figure}
-use Rattle.fdb_audit.specs.Groups.{by_client, by_member, number_of, Grouping}
+use Rattle.fdb_audit.specs.Groups.{by_client, by_member, Grouping}
 use Rattle.fdb_audit.specs.Text.{Beside, PrintedLog}
 use Rattle.fdb_audit.specs.Judged.{orders_text, steps_text}
 use Rattle.fdb_audit.specs.declared.asked.Asked.{Asked}
 use Rattle.fdb_audit.specs.declared.beside.Column.{Column}
+use Rattle.fdb_audit.specs.declared.beside.MemberTexts.{MemberTexts}
 use Rattle.fdb_audit.specs.declared.client_names.ClientNames.{ClientNames}
 use Rattle.fdb_audit.specs.declared.client_names.ClientNames.TheVariants.{Texts, OfLog}
 use Rattle.fdb_audit.specs.declared.figures.Figure.{Figure as Written}
@@ -29,6 +30,9 @@ use Rattle.fdb_audit.specs.declared.printer.Printer.{Printer}
 
 abbrev pub beside_of : Column → Beside
 beside_of it = record { member = string_bytes it.member; texts = map string_bytes it.texts.items; numbers = it.numbers.items }
+
+abbrev pub beside_in : MemberTexts → Beside
+beside_in it = record { member = it.name.now; texts = map string_bytes it.texts.now; numbers = it.numbers.now }
 
 -- the names of the members that are printed beside lines
 abbrev pub members_of : List Column → List (List ℕ)
@@ -70,15 +74,7 @@ order_text json it (ByKey orders) = orders_text json it orders.items
 
 abbrev pub grouping_of : By → Grouping
 grouping_of (Client printer) = by_client (shown_in printer)
-grouping_of (Member member) = by_member (beside_of member.now)
-
--- how many of some owners are a group's
-abbrev pub count_in : List (Option ℕ) → Option ℕ → ℕ
-count_in owners group = count_by (λ owner. number_of owner == number_of group) owners
-
--- a group has as many faults as it owns
-abbrev pub IsGroupIn : List (Option ℕ) → Group → Type 0
-IsGroupIn owners group = group.faults.0 ≡ count_in owners group.owner
+grouping_of (Member member) = by_member (beside_in member)
 
 abbrev pub owners_in : List Group → List (Option ℕ)
 owners_in groups = map (λ (group : Group). group.owner) groups

@@ -7,7 +7,7 @@ ghost use Rattle.fdb_log_reader.specs.Reading.{reading_of};
 ghost use Rattle.fdb_audit.specs.Judged.{keys_beside, AreBeside, IsBeside};
 ghost use Rattle.fdb_audit.specs.Text.{member_text, owner_of, Beside};
 ghost use Rattle.fdb_audit.specs.Totals.{value_of};
-ghost use Rattle.fdb_audit.specs.private.{beside_of};
+ghost use Rattle.fdb_audit.specs.private.{beside_in, beside_of};
 
 use fdb_log_reader::{Keys, NamedLog, Shown, printed_name};
 use std::alloc::{AllocError, Global};
@@ -81,40 +81,61 @@ impl Column {
             ≡ string_bytes out.old ++ member_text it.member (text_at it.texts it.numbers place)) }
     {
         match self.text(place) {
-            Some(text) => self.push_text(out, text),
+            Some(text) => push_text(out, &self.member, text),
             None => Ok(()),
         }
     }
 
-    /// Writes one of its texts, by its number, behind its name; or that there is none.
-    pub(crate) fn push_owner(&self, out: &mut String, number: Option<u32>) -> Result<(), AllocError>
+    /// What is printed of the member.
+    pub(crate) fn member(&self) -> MemberTexts<'_>
+        ensures { beside_in result ≡ beside_of self.now }
+    {
+        MemberTexts {
+            name: &self.member,
+            texts: &self.texts,
+            numbers: &self.numbers,
+        }
+    }
+}
+
+/// The name and the texts of a member, as they are printed, and which of these each line has.
+#[derive(Clone, Copy)]
+pub(crate) struct MemberTexts<'a> {
+    pub name: &'a str,
+    pub texts: &'a [String],
+    pub numbers: &'a [Option<u32>],
+}
+
+impl<'a> MemberTexts<'a> {
+    /// Writes one of the texts, by its number, behind the name; or that there is none.
+    pub(crate) fn push_owner(self, out: &mut String, number: Option<u32>) -> Result<(), AllocError>
         ensures { OnOk result (string_bytes out.new
-            ≡ string_bytes out.old ++ owner_of (beside_of self.now) number) }
+            ≡ string_bytes out.old ++ owner_of (beside_in self.entry) number) }
     {
         if number.is_none() {
-            return write!(out, " no {}", self.member);
+            return write!(out, " no {}", self.name);
         }
         match self.value(number) {
-            Some(text) => self.push_text(out, text),
+            Some(text) => push_text(out, self.name, text),
             None => Ok(()),
         }
     }
 
-    /// One of its texts, by its number.
-    pub(crate) fn value(&self, number: Option<u32>) -> Option<&str>
-        ensures { option_map (λ text. text.now) result ≡ value_of (beside_of self.now) number }
+    /// One of the texts, by its number.
+    pub(crate) fn value(self, number: Option<u32>) -> Option<&'a str>
+        ensures { option_map (λ text. text.now) result ≡ value_of (beside_in self.entry) number }
     {
         let text = self.texts.get(number? as usize)?;
         Some(text.as_str())
     }
+}
 
-    /// Writes a text of it behind its name.
-    fn push_text(&self, out: &mut String, text: &str) -> Result<(), AllocError>
-        ensures { OnOk result (string_bytes out.new ≡ string_bytes out.old
-            ++ member_text (beside_of self.now).member (Some text.now)) }
-    {
-        write!(out, " {}:{text}", self.member)
-    }
+/// Writes a text of a member behind its name.
+fn push_text(out: &mut String, name: &str, text: &str) -> Result<(), AllocError>
+    ensures { OnOk result (string_bytes out.new
+        ≡ string_bytes out.old ++ member_text name.now (Some text.now)) }
+{
+    write!(out, " {name}:{text}")
 }
 
 /// The members that are printed beside the calls of a log that was read: its keys, if they were

@@ -162,7 +162,7 @@ impl Counts {
 }
 
 /// Adds one to a count that may be full.
-fn add_one(count: &mut u64)
+pub(crate) fn add_one(count: &mut u64)
     ensures { count.new ≡ min (count.old + 1) (2 ^ 64 - 1) }
 {
     *count = count.saturating_add(1);

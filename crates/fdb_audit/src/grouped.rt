@@ -1,18 +1,19 @@
 //! How many faults the clients, and the texts of a member, with most faults have.
 
-ghost use Rattle.std.specs.Prelude.{◌≡◌, ◌++◌, IfOk, List, OnOk, ℕ, map, string_bytes, true};
+ghost use Rattle.std.specs.Prelude.{◌≡◌, ◌++◌, IfOk, List, OnOk, ℕ, false, map, string_bytes, true};
 ghost use Rattle.fdb_lines.specs.declared.fault.Found.{Found};
-ghost use Rattle.fdb_audit.specs.Groups.{group_head, group_lines, groupings};
-ghost use Rattle.fdb_audit.specs.Groups.{of_group, AreMost, AreMostOfEach};
+ghost use Rattle.fdb_audit.specs.Groups.{group_head, group_lines, groupings, owned_by, Owned};
+ghost use Rattle.fdb_audit.specs.Groups.{AreMost, AreMostOfEach};
 ghost use Rattle.fdb_audit.specs.Text.{line};
 ghost use Rattle.fdb_audit.specs.Totals.{faults_line};
 ghost use Rattle.fdb_audit.specs.private.{beside_of, grouping_of, owners_in, shown_in};
+ghost use Rattle.fdb_audit.specs.Tallied.{HasKinds, HasTallied};
 
-use crate::beside::Column;
-use crate::groups::{Group, most_of, number_of};
+use crate::beside::MemberTexts;
+use crate::groups::{Group, Tally};
 use crate::object::push_or_null;
 use crate::printer::Printer;
-use crate::totals::{push_faults, push_kinds};
+use crate::totals::KindCounts;
 use fdb_lines::Found;
 use std::alloc::{AllocError, Global};
 use std::fmt::Write;
@@ -21,7 +22,7 @@ use std::fmt::Write;
 #[derive(Clone, Copy)]
 pub(crate) enum By<'a> {
     Client(Printer<'a>),
-    Member(&'a Column),
+    Member(MemberTexts<'a>),
 }
 
 /// Writes how many faults of the lines there are, in all, of each kind, and of the groups with most.
@@ -35,10 +36,22 @@ pub(crate) fn push_totals(
     ensures { OnOk result ((groups : List ℕ)
         × AreMostOfEach json (groupings (shown_in printer.entry)) found.now groups
         × (string_bytes out.new
-        ≡ string_bytes out.old ++ line (faults_line json found.now) ++ groups)) }
+        ≡ string_bytes out.old
+        ++ line (faults_line json (map (λ (it : Found). it.fault) found.now)) ++ groups)) }
 {
-    push_faults(out, json, found)?;
+    kinds_of(found)?.push_line(out, json)?;
     push_most_of_each(alloc, out, json, printer, found)
+}
+
+/// How many faults there are, in all and of each kind.
+fn kinds_of(found: &[Found]) -> Result<KindCounts, AllocError>
+    ensures { IfOk result (λ kinds. HasKinds kinds (map (λ (it : Found). it.fault) found.now)) }
+{
+    let mut kinds = KindCounts::new();
+    for it in found {
+        kinds.add(it.fault)?;
+    }
+    Ok(kinds)
 }
 
 /// Writes how many faults the groups with most have: of the clients, and of each member that is
@@ -56,7 +69,7 @@ fn push_most_of_each(
 {
     By::Client(printer).push_most(alloc, out, json, found)?;
     for member in printer.beside {
-        By::Member(member).push_most(alloc, out, json, found)?;
+        By::Member(member.member()).push_most(alloc, out, json, found)?;
     }
     Ok(())
 }
@@ -70,30 +83,59 @@ impl By<'_> {
         json: bool,
         found: &[Found],
     ) -> Result<(), AllocError>
-        ensures { OnOk result ((text : List ℕ) × AreMost json (grouping_of self.entry) found.now text
+        ensures { let by = grouping_of self.entry in OnOk result ((text : List ℕ)
+            × AreMost json false by.name (owned_by by found.now) text
             × (string_bytes out.new ≡ string_bytes out.old ++ text)) }
     {
-        let owners = self.owners(alloc, found)?;
-        let most = most_of(alloc, &owners)?;
-        self.push_groups(alloc, out, json, found, &most)
+        let tally = self.tally(alloc, found)?;
+        self.push_tally(alloc, out, json, &tally, false)
+    }
+
+    /// Counts faults by their groups.
+    fn tally(self, alloc: Global, found: &[Found]) -> Result<Tally, AllocError>
+        ensures { IfOk result (λ tally. HasTallied tally (owned_by (grouping_of self.entry) found.now)) }
+    {
+        let mut tally = Tally::new(alloc);
+        for it in found {
+            tally.add(self.owner(it.line), it.fault)?;
+        }
+        Ok(tally)
+    }
+
+    /// Writes how many faults the ten groups with most have, of those that are counted, and whether
+    /// there are more.
+    pub(crate) fn push_tally(
+        self,
+        alloc: Global,
+        out: &mut String,
+        json: bool,
+        tally: &Tally,
+        more: bool,
+    ) -> Result<(), AllocError>
+        ensures { OnOk result ((owned : List Owned) → HasTallied tally.now owned → (text : List ℕ)
+            × AreMost json more (grouping_of self.entry).name owned text
+            × (string_bytes out.new ≡ string_bytes out.old ++ text)) }
+    {
+        let most = tally.most(alloc)?;
+        self.push_groups(out, json, tally, &most, more)
     }
 
     /// Writes some groups, a line or an object for each.
     fn push_groups(
         self,
-        alloc: Global,
         out: &mut String,
         json: bool,
-        found: &[Found],
+        tally: &Tally,
         groups: &[Group],
+        more: bool,
     ) -> Result<(), AllocError>
-        ensures { OnOk result (string_bytes out.new ≡ string_bytes out.old
-            ++ group_lines json (grouping_of self.entry) found.now (owners_in groups.now)) }
+        ensures { OnOk result ((owned : List Owned) → HasTallied tally.now owned
+            → string_bytes out.new ≡ string_bytes out.old ++ group_lines json more
+            (grouping_of self.entry).name owned (owners_in groups.now)) }
     {
         for group in groups {
-            let own = self.own(alloc, found, group.owner)?;
             self.push_head(out, json, group.owner)?;
-            push_kinds(out, json, &own)?;
+            tally.kinds(group.owner).push(out, json, more)?;
             writeln!(out)?;
         }
         Ok(())
@@ -102,7 +144,7 @@ impl By<'_> {
     /// Writes which group it is.
     fn push_head(self, out: &mut String, json: bool, owner: Option<u32>) -> Result<(), AllocError>
         ensures { OnOk result (string_bytes out.new
-            ≡ string_bytes out.old ++ group_head json (grouping_of self.entry) owner) }
+            ≡ string_bytes out.old ++ group_head json (grouping_of self.entry).name owner) }
     {
         if json {
             write!(out, "{{")?;
@@ -112,37 +154,6 @@ impl By<'_> {
             write!(out, "audit total")?;
             self.push_name(out, false, owner)
         }
-    }
-
-    /// Whose each fault is.
-    fn owners(self, alloc: Global, found: &[Found]) -> Result<Vec<Option<u32>>, AllocError>
-        ensures { IfOk result (λ owners. owners.items ≡ map (λ (it : Found).
-            (grouping_of self.entry).owner it.line) found.now) }
-    {
-        let mut owners = Vec::new(alloc);
-        for it in found {
-            owners.push(self.owner(it.line))?;
-        }
-        Ok(owners)
-    }
-
-    /// The faults of a group.
-    fn own(
-        self,
-        alloc: Global,
-        found: &[Found],
-        owner: Option<u32>,
-    ) -> Result<Vec<Found>, AllocError>
-        ensures { IfOk result
-            (λ own. own.items ≡ of_group (grouping_of self.entry).owner found.now owner) }
-    {
-        let mut own = Vec::new(alloc);
-        for it in found {
-            if number_of(self.owner(it.line)) == number_of(owner) {
-                own.push(*it)?;
-            }
-        }
-        Ok(own)
     }
 
     /// Of which group the line at a place is.
@@ -169,7 +180,7 @@ impl By<'_> {
             }
             (By::Member(member), false) => member.push_owner(out, owner),
             (By::Member(member), true) => {
-                write!(out, "\"members\":{{{}:", member.member)?;
+                write!(out, "\"members\":{{{}:", member.name)?;
                 push_or_null(out, member.value(owner))?;
                 write!(out, "}}")
             }

@@ -1,12 +1,16 @@
-//! The groups with most faults.
+//! Faults by whose they are, and the groups with most.
 
-ghost use Rattle.std.specs.Prelude.{◌≡◌, ◌==◌, ℕ, All, IfOk, List, OnOk, Option, cond, count_by};
-ghost use Rattle.std.specs.Prelude.{take, unwrap_or};
+ghost use Rattle.std.specs.Prelude.{◌≡◌, ◌++◌, ◌∷◌, ◌==◌, ℕ, All, IfOk, List, OnOk, Option, cond};
+ghost use Rattle.std.specs.Prelude.{[], length, nat_lt, take, unwrap_or};
 ghost use Rattle.std.specs.BTreeMap.{get};
 ghost use Rattle.std.specs.Ordering.{nat_cmp};
-ghost use Rattle.fdb_audit.specs.Groups.{number_of, AreRanked};
-ghost use Rattle.fdb_audit.specs.private.{count_in, owners_in, IsGroupIn};
+ghost use Rattle.fdb_audit.specs.Groups.{kinds_of, number_of, of_group, AreRanked, Owned};
+ghost use Rattle.fdb_audit.specs.private.{owners_in};
+ghost use Rattle.fdb_audit.specs.Tallied.{count_in, kinds_at, no_kinds, HasKinds};
+ghost use Rattle.fdb_audit.specs.Tallied.{HasTallied, IsGroupIn};
 
+use crate::totals::KindCounts;
+use fdb_lines::Fault;
 use std::alloc::{AllocError, Global};
 use std::cmp::Reverse;
 use std::collections::BTreeMap;
@@ -18,66 +22,104 @@ const TOLD: usize = 10;
 /// and then by whose.
 #[derive(Clone, Copy, PartialEq, Eq, PartialOrd, Ord)]
 pub(crate) struct Group {
-    pub faults: Reverse<usize>,
+    pub faults: Reverse<u64>,
     pub owner: Option<u32>,
 }
 
-/// The ten groups with most faults, by whose each fault is. `n log n` in how many faults there are.
-pub(crate) fn most_of(alloc: Global, owners: &[Option<u32>]) -> Result<Vec<Group>, AllocError>
-    ensures { IfOk result (λ most. (groups : List (Option ℕ))
-        × AreRanked (count_in owners.now) groups × (owners_in most.items ≡ take 10 groups)) }
-{
-    let mut groups = groups_of(alloc, owners)?;
-    groups.sort_unstable();
-    groups.dedup();
-    groups.truncate(TOLD);
-    Ok(groups)
+/// Faults, counted by whose they are.
+#[derive(Drop)]
+pub(crate) struct Tally {
+    /// Whose faults there are, in the order of their first.
+    pub(crate) owners: Vec<Option<u32>>,
+    /// How many each has, by its number. A table that compares: no choice of owners makes it slow, as
+    /// it would one that hashes.
+    pub(crate) counts: BTreeMap<u64, KindCounts>,
 }
 
-/// The group of each fault.
-fn groups_of(alloc: Global, owners: &[Option<u32>]) -> Result<Vec<Group>, AllocError>
-    ensures owners { IfOk result (λ groups. owners_in groups.items ≡ owners.now) }
-    ensures faults { IfOk result (λ groups. All (IsGroupIn owners.now) groups.items) }
-{
-    let counts = counts_of(alloc, owners)?;
-    let mut groups = Vec::new(alloc);
-    for owner in owners {
-        let faults = Reverse(count_at(&counts, number_of(*owner)));
-        groups.push(Group {
-            faults,
-            owner: *owner,
-        })?;
+impl Tally {
+    /// Of no fault.
+    pub(crate) fn new(alloc: Global) -> Self
+        ensures { HasTallied result [] }
+    {
+        Tally {
+            owners: Vec::new(alloc),
+            counts: BTreeMap::new(alloc),
+        }
     }
-    Ok(groups)
-}
 
-/// How many faults each owner has, by the owner's number.
-fn counts_of(alloc: Global, owners: &[Option<u32>]) -> Result<BTreeMap<u64, usize>, AllocError>
-    ensures { IfOk result (λ counts. (q : ℕ) → unwrap_or (get nat_cmp counts q) 0
-        ≡ count_by (λ owner. number_of owner == q) owners.now) }
-{
-    // A table that compares: no choice of owners makes it slow, as it would one that hashes.
-    let mut counts = BTreeMap::new(alloc);
-    for owner in owners {
-        let number = number_of(*owner);
-        let count = count_at(&counts, number) + 1;
-        set_count(&mut counts, number, count)?;
+    /// Counts one more.
+    pub(crate) fn add(&mut self, owner: Option<u32>, fault: Fault) -> Result<(), AllocError>
+        ensures { OnOk result ((owned : List Owned) → (one : Owned) → one.owner ≡ owner
+            → one.kind ≡ fault → HasTallied self.old owned
+            → HasTallied self.new (owned ++ one ∷ [])) }
+    {
+        let mut counts = self.kinds(owner);
+        if counts.faults == 0 {
+            self.owners.push(owner)?;
+        }
+        counts.add(fault)?;
+        self.set(owner, counts)
     }
-    Ok(counts)
-}
 
-fn set_count(counts: &mut BTreeMap<u64, usize>, number: u64, count: usize) -> Result<(), AllocError>
-    ensures { OnOk result ((q : ℕ) → unwrap_or (get nat_cmp counts.new q) 0
-        ≡ cond (q == number) count (unwrap_or (get nat_cmp counts.old q) 0)) }
-{
-    counts.insert(number, count)?;
-    Ok(())
-}
+    /// Sets how many an owner has.
+    fn set(&mut self, owner: Option<u32>, counts: KindCounts) -> Result<(), AllocError>
+        ensures counts { OnOk result ((q : ℕ) → kinds_at self.new q
+            ≡ cond (q == number_of owner) counts (kinds_at self.old q)) }
+        ensures owners { self.new.owners ≡ self.old.owners }
+    {
+        self.counts.insert(number_of(owner), counts)?;
+        Ok(())
+    }
 
-fn count_at(counts: &BTreeMap<u64, usize>, number: u64) -> usize
-    ensures { result ≡ unwrap_or (get nat_cmp counts.now number) 0 }
-{
-    counts.get(&number).copied().unwrap_or(0)
+    /// How many an owner has.
+    pub(crate) fn kinds(&self, owner: Option<u32>) -> KindCounts
+        ensures at { result ≡ kinds_at self.now (number_of owner) }
+        ensures counted { (owned : List Owned) → HasTallied self.now owned
+            → HasKinds result (kinds_of (of_group owned owner)) }
+    {
+        match self.counts.get(&number_of(owner)) {
+            Some(counts) => *counts,
+            None => KindCounts::new(),
+        }
+    }
+
+    /// Whether an owner has none.
+    pub(crate) fn has_none(&self, owner: Option<u32>) -> bool
+        ensures { (owned : List Owned) → HasTallied self.now owned
+            → result ≡ (0 == length (of_group owned owner)) }
+    {
+        self.kinds(owner).faults == 0
+    }
+
+    /// The ten groups with most faults. `n log n` in how many groups there are.
+    pub(crate) fn most(&self, alloc: Global) -> Result<Vec<Group>, AllocError>
+        ensures { IfOk result (λ most. (owned : List Owned) → HasTallied self.now owned
+            → (groups : List (Option ℕ)) × AreRanked (λ group. length (of_group owned group)) groups
+            × (owners_in most.items ≡ take 10 groups)) }
+    {
+        let mut groups = self.groups(alloc)?;
+        groups.sort_unstable();
+        // Each stands once already; that no two are left is what their order is proved by.
+        groups.dedup();
+        groups.truncate(TOLD);
+        Ok(groups)
+    }
+
+    /// All groups.
+    fn groups(&self, alloc: Global) -> Result<Vec<Group>, AllocError>
+        ensures owners { IfOk result (λ groups. owners_in groups.items ≡ self.now.owners.items) }
+        ensures faults { IfOk result (λ groups. All (IsGroupIn (count_in self.now)) groups.items) }
+    {
+        let mut groups = Vec::new(alloc);
+        for owner in &self.owners {
+            let faults = Reverse(self.kinds(*owner).faults);
+            groups.push(Group {
+                faults,
+                owner: *owner,
+            })?;
+        }
+        Ok(groups)
+    }
 }
 
 /// A number for each owner: 0 for none.

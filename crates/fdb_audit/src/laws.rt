@@ -1,6 +1,6 @@
 //! Laws of the definitions. The functions do nothing: each stands for its contract.
 
-ghost use Rattle.std.specs.Prelude.{ℕ, ◌≡◌, ◌++◌, All, IsPermutation, List, Option, map};
+ghost use Rattle.std.specs.Prelude.{ℕ, ◌≡◌, ◌++◌, All, IsPermutation, List, Option, false, map};
 ghost use Rattle.std.specs.Prelude.{option_map, string_bytes, true};
 ghost use Rattle.std.specs.List.{flat_map};
 ghost use Rattle.fdb_lines.specs.declared.fault.Found.{Found};
@@ -16,6 +16,8 @@ ghost use Rattle.fdb_audit.specs.Kept.{start_of, IsStopped, Keeps};
 ghost use Rattle.fdb_audit.specs.Pieces.{all_bytes, audited_in, places_beyond, AreWatched};
 ghost use Rattle.fdb_audit.specs.Pieces.{MayGoOn, Piece};
 ghost use Rattle.fdb_audit.specs.Taken.{AreTaken};
+ghost use Rattle.fdb_audit.specs.Groups.{kinds_of};
+ghost use Rattle.fdb_audit.specs.ToldFaults.{by_client, by_text, owned_by_client, ToldFault};
 ghost use Rattle.fdb_audit.specs.Watched.{lines_asked, names_asked, IsFollowed};
 
 use fdb_lines::laws::{
@@ -105,3 +107,12 @@ pub fn the_faults_of_parts_by_number_are_those_of_the_log()
     the_faults_of_its_parts_are_those_of_a_log();
     what_is_read_by_key_is_numbered_by_names();
 }
+
+/// Where the totals of a watch do not say that there are more, they are of all faults that were told:
+/// by their clients, and by what was printed of any member beside them.
+pub fn totals_that_say_no_more_are_of_all_faults()
+    ensures clients { (told : List ToldFault) → (by_client told).more ≡ false
+        → (by_client told).owned ≡ map owned_by_client told }
+    ensures texts { (member : ℕ) (told : List ToldFault) → (by_text member told).more ≡ false
+        → kinds_of (by_text member told).owned ≡ map (λ (one : ToldFault). one.kind) told }
+{}

@@ -16,7 +16,7 @@ use crate::figures::{Figure, push_line, push_total_object};
 use crate::judged::{Judgement, Wanted};
 use crate::object::push_or_null;
 use crate::printer::Printer;
-use crate::totals::push_faults;
+use crate::totals::KindCounts;
 use fdb_lines::{KeyOrder, Order, Summary, summary};
 use std::alloc::{AllocError, Global};
 use std::fmt::Write;
@@ -93,7 +93,7 @@ fn push_head(
 {
     if json {
         push_total_line(out, asked, counts, true)?;
-        push_faults(out, true, &[])
+        KindCounts::new().push_line(out, true)
     } else {
         push_line(out, "audit ok", &summary_figures(counts))
     }
@@ -184,6 +184,7 @@ fn push_key(
     let Some(member) = beside.first() else {
         return Ok(());
     };
+    let member = member.member();
     if json {
         write!(out, ",\"key\":")?;
         push_or_null(out, member.value(key))

@@ -4,11 +4,8 @@ ghost use Rattle.std.specs.Prelude.{◌≡◌, ◌&&◌, ◌++◌, ℕ, [], All,
 ghost use Rattle.std.specs.Prelude.{Option, Result, is_some, map, not, option_map, option_to_list};
 ghost use Rattle.std.specs.Prelude.{slice_get, string_bytes};
 ghost use Rattle.std.specs.Option.{option_or};
-ghost use Rattle.fdb_lines.specs.declared.fault.Fault.{Fault};
 ghost use Rattle.fdb_lines.specs.declared.key_part.KeyPart.{KeyPart};
-ghost use Rattle.fdb_lines.specs.declared.line.Line.{Line};
 ghost use Rattle.fdb_lines.specs.KeyWatch.{AreTold, IsToldOf};
-ghost use Rattle.fdb_lines.specs.Lines.{line_at};
 ghost use Rattle.fdb_lines.specs.Reasons.{found_of};
 ghost use Rattle.fdb_lines.specs.ToldByKey.{told_by, told_by_all};
 ghost use Rattle.fdb_log_reader.specs.LineReader.{line_names};
@@ -18,6 +15,7 @@ ghost use Rattle.fdb_log_reader.specs.Printed.{printed};
 ghost use Rattle.fdb_audit.specs.Following.{keys_taken, lines_taken, told_text, total_head};
 ghost use Rattle.fdb_audit.specs.Following.{IsEnd, KeptNumbers};
 ghost use Rattle.fdb_audit.specs.Text.{fault_of};
+ghost use Rattle.fdb_audit.specs.ToldFaults.{told_at, ToldFault};
 ghost use Rattle.fdb_audit.specs.private.{members_of, shown_in};
 ghost use Rattle.fdb_audit.specs.private.Followed.{counted_of, told_with, AreNumbered, CountsOn};
 ghost use Rattle.fdb_audit.specs.private.Followed.{HasCounted, HasTotals, HasTotalsIn};
@@ -66,7 +64,7 @@ impl Teller {
         ensures key { IfOk result (λ teller. is_some teller.key ≡ is_some asked.now.key) }
         ensures totals { IfOk result (λ teller. HasTotals
             (option_to_list (option_map (λ name. printed (string_bytes name)) asked.now.key)
-            ++ map string_bytes members.now) teller [] []) }
+            ++ map string_bytes members.now) teller []) }
     {
         let key = key_name(alloc, asked)?;
         let told = if asked.wanted.totals {
@@ -176,9 +174,8 @@ impl Teller {
         ensures first { OnOk result (self.new.first ≡ option_or self.old.first (option_map
             (λ finding. fault_of (shown_in printer.entry).numbers (found_of finding))
             (slice_get found.now 0))) }
-        ensures counts { OnOk result (CountsOn self.old self.new
-            (map (λ finding. line_at (shown_in printer.entry).lines finding.found.line) found.now)
-            (map (λ finding. finding.found.fault) found.now)) }
+        ensures counts { let it = shown_in printer.entry in OnOk result (CountsOn self.old self.new
+            (map (λ finding. told_at it.lines it.beside finding.found) found.now)) }
         ensures same { IsSameTeller self.old self.new }
     {
         if self.wanted.all || !self.wanted.totals {
@@ -201,12 +198,12 @@ impl Teller {
         taking: &Taking,
         behind: u64,
     ) -> Result<(), AllocError>
-        ensures text { OnOk result ((members : List (List ℕ)) → (lines : List Line)
-            → (kinds : List Fault) → HasTotals members self.old lines kinds → (end : List ℕ)
+        ensures text { OnOk result ((members : List (List ℕ)) → (told : List ToldFault)
+            → HasTotals members self.old told → (end : List ℕ)
             × IsEnd (not (is_some self.old.first) && not self.old.wanted.json)
             self.old.wanted.totals self.old.wanted.json (counted_of taking.now)
             (told_with behind self.old members) (map printed (line_names reader.now).clients)
-            lines kinds end
+            told end
             × (string_bytes self.new.text ≡ string_bytes self.old.text ++ end)) }
         ensures first { self.new.first ≡ self.old.first }
     {
@@ -269,12 +266,10 @@ fn count(
     printer: Printer<'_>,
     found: &[Finding],
 ) -> Result<(), AllocError>
-    ensures { OnOk result ((totals : Bool) → (members : List (List ℕ)) → (lines : List Line)
-        → (kinds : List Fault)
-        → HasTotalsIn totals members told.old lines kinds → HasTotalsIn totals members told.new
-        (lines
-        ++ map (λ finding. line_at (shown_in printer.entry).lines finding.found.line) found.now)
-        (kinds ++ map (λ finding. finding.found.fault) found.now)) }
+    ensures { let it = shown_in printer.entry in OnOk result ((totals : Bool)
+        → (members : List (List ℕ)) → (before : List ToldFault)
+        → HasTotalsIn totals members told.old before → HasTotalsIn totals members told.new
+        (before ++ map (λ finding. told_at it.lines it.beside finding.found) found.now)) }
 {
     match told {
         Some(told) => count_in(alloc, told, printer, found),
@@ -288,12 +283,10 @@ fn count_in(
     printer: Printer<'_>,
     found: &[Finding],
 ) -> Result<(), AllocError>
-    ensures { OnOk result ((members : List (List ℕ)) → (lines : List Line)
-        → (kinds : List Fault) → HasCounted members told.old lines kinds
+    ensures { let it = shown_in printer.entry in OnOk result ((members : List (List ℕ))
+        → (before : List ToldFault) → HasCounted members told.old before
         → HasCounted members told.new
-        (lines
-        ++ map (λ finding. line_at (shown_in printer.entry).lines finding.found.line) found.now)
-        (kinds ++ map (λ finding. finding.found.fault) found.now)) }
+        (before ++ map (λ finding. told_at it.lines it.beside finding.found) found.now)) }
 {
     for finding in found {
         told.add(alloc, printer, finding.found)?;

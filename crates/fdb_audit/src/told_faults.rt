@@ -2,26 +2,30 @@
 
 ghost use Rattle.std.specs.Prelude.{◌≡◌, ◌++◌, ◌∷◌, ℕ, [], IfOk, List, OnOk, map, option_map};
 ghost use Rattle.std.specs.Prelude.{option_to_list, string_bytes};
-ghost use Rattle.fdb_lines.specs.declared.fault.Fault.{Fault};
-ghost use Rattle.fdb_lines.specs.declared.line.Line.{Line};
-ghost use Rattle.fdb_lines.specs.Lines.{line_at};
-ghost use Rattle.fdb_audit.specs.Following.{AreTotals};
+ghost use Rattle.fdb_audit.specs.ToldFaults.{text_of, told_at, AreMostByText, AreTotals};
+ghost use Rattle.fdb_audit.specs.ToldFaults.{ToldFault};
 ghost use Rattle.fdb_audit.specs.private.{members_of, names_in, shown_in};
 ghost use Rattle.fdb_audit.specs.private.Followed.{HasCounted};
+ghost use Rattle.fdb_audit.specs.Tallied.{HasTextsIn};
 
 use crate::beside::Column;
+use crate::client_groups::ClientGroups;
 use crate::client_names::ClientNames;
-use crate::grouped::push_totals;
+use crate::grouped::By;
 use crate::printer::Printer;
+use crate::text_groups::TextGroups;
+use crate::totals::KindCounts;
 use fdb_lines::{Found, Log};
 use std::alloc::{AllocError, Global};
 
-/// The faults that were told: of each the line, what is printed beside it, and the kind.
+/// How many faults were told: in all and of each kind, by their clients, and by what was printed beside
+/// them. It takes no memory for each, but for those whose client, or text of a member, has none yet.
 #[derive(Drop)]
 pub(crate) struct ToldFaults {
-    log: Log,
-    found: Vec<Found>,
-    /// What is printed beside the lines of the faults.
+    pub(crate) kinds: KindCounts,
+    pub(crate) clients: ClientGroups,
+    pub(crate) texts: Vec<TextGroups>,
+    /// The members that are printed beside the lines of the faults.
     pub(crate) columns: Vec<Column>,
 }
 
@@ -34,15 +38,17 @@ impl ToldFaults {
     ) -> Result<Self, AllocError>
         ensures { IfOk result (λ faults. HasCounted
             (option_to_list (option_map (λ key. key.now) key.entry)
-            ++ map string_bytes members.now) faults [] []) }
+            ++ map string_bytes members.now) faults []) }
     {
         let mut columns = key_columns(alloc, key)?;
         for member in members {
             columns.push(Column::new(alloc, member)?)?;
         }
+        let texts = texts_of(alloc, &columns)?;
         Ok(ToldFaults {
-            log: Log::new(alloc),
-            found: Vec::new(alloc),
+            kinds: KindCounts::new(),
+            clients: ClientGroups::new(alloc),
+            texts,
             columns,
         })
     }
@@ -54,48 +60,60 @@ impl ToldFaults {
         printer: Printer<'_>,
         found: Found,
     ) -> Result<(), AllocError>
-        ensures { OnOk result ((members : List (List ℕ)) → (lines : List Line)
-            → (kinds : List Fault) → HasCounted members self.old lines kinds
-            → HasCounted members self.new
-            (lines ++ line_at (shown_in printer.entry).lines found.line ∷ [])
-            (kinds ++ found.fault ∷ [])) }
+        ensures { let it = shown_in printer.entry in OnOk result ((members : List (List ℕ))
+            → (told : List ToldFault) → HasCounted members self.old told
+            → HasCounted members self.new (told ++ told_at it.lines it.beside found ∷ [])) }
     {
-        let Ok(line) = u32::try_from(self.log.lines().len()) else {
-            return Err(AllocError);
-        };
-        if self.log.push(printer.line(found.line)).is_err() {
-            return Err(AllocError);
-        }
-        self.found.push(Found {
-            line,
-            fault: found.fault,
-        })?;
-        add_texts(alloc, &mut self.columns, printer.beside, found.line)?;
-        Ok(())
+        self.kinds.add(found.fault)?;
+        let client = printer.line(found.line).client;
+        self.clients.add(client, found.fault)?;
+        add_texts(alloc, &mut self.texts, printer, found)
     }
 
     /// Writes how many faults were told, in all, of each kind, and of the groups with most.
     pub(crate) fn push(
-        self,
+        &self,
         alloc: Global,
         out: &mut String,
         json: bool,
         names: ClientNames<'_>,
     ) -> Result<(), AllocError>
-        ensures { OnOk result ((members : List (List ℕ)) → (lines : List Line)
-            → (kinds : List Fault) → HasCounted members self lines kinds → (totals : List ℕ)
-            × AreTotals json (names_in names.entry) lines kinds totals
+        ensures { OnOk result ((members : List (List ℕ)) → (told : List ToldFault)
+            → HasCounted members self.now told → (totals : List ℕ)
+            × AreTotals json (names_in names.entry) members told totals
             × (string_bytes out.new ≡ string_bytes out.old ++ totals)) }
     {
+        self.kinds.push_line(out, json)?;
+        let none = Log::new(alloc);
         let printer = Printer {
-            log: &self.log,
+            log: &none,
             names,
             numbers: &[],
-            beside: &self.columns,
+            beside: &[],
         };
-        push_totals(alloc, out, json, printer, &self.found)?;
-        Ok(())
+        let ClientGroups { tally, more, .. } = &self.clients;
+        By::Client(printer).push_tally(alloc, out, json, tally, *more)?;
+        push_texts(alloc, out, json, &self.texts)
     }
+}
+
+/// Writes how many faults the groups with most have, of the texts of each member.
+fn push_texts(
+    alloc: Global,
+    out: &mut String,
+    json: bool,
+    texts: &[TextGroups],
+) -> Result<(), AllocError>
+    ensures { OnOk result ((members : List (List ℕ)) → (told : List ToldFault)
+        → HasTextsIn members told texts.now → (totals : List ℕ)
+        × AreMostByText json told 0 members totals
+        × (string_bytes out.new ≡ string_bytes out.old ++ totals)) }
+{
+    for groups in texts {
+        let by = By::Member(groups.texts());
+        by.push_tally(alloc, out, json, &groups.tally, groups.more)?;
+    }
+    Ok(())
 }
 
 /// The column of the member that has the keys, if they are kept.
@@ -110,19 +128,38 @@ fn key_columns(alloc: Global, key: Option<&str>) -> Result<Vec<Column>, AllocErr
     Ok(columns)
 }
 
-/// Adds what is printed beside the line at a place.
+/// No fault was told yet, by the texts of each of these members.
+fn texts_of(alloc: Global, columns: &[Column]) -> Result<Vec<TextGroups>, AllocError>
+    ensures { IfOk result (λ texts. HasTextsIn (members_of columns.now) [] texts.items) }
+{
+    let mut texts = Vec::new(alloc);
+    for column in columns {
+        texts.push(TextGroups::new(alloc, &column.member)?)?;
+    }
+    Ok(texts)
+}
+
+/// Adds a fault by what is printed beside its line.
 fn add_texts(
     alloc: Global,
-    columns: &mut [Column],
-    beside: &[Column],
-    place: u32,
+    texts: &mut [TextGroups],
+    printer: Printer<'_>,
+    found: Found,
 ) -> Result<(), AllocError>
-    ensures { OnOk result (members_of columns.new ≡ members_of columns.old) }
+    ensures { let it = shown_in printer.entry in OnOk result ((members : List (List ℕ))
+        → (told : List ToldFault) → HasTextsIn members told texts.old
+        → HasTextsIn members (told ++ told_at it.lines it.beside found ∷ []) texts.new) }
 {
-    for column in 0..columns.len() {
-        if let Some(member) = beside.get(column) {
-            columns[column].add(alloc, member.text(place))?;
-        }
+    for member in 0..texts.len() {
+        texts[member].add(alloc, text_at(printer, member, found), found.fault)?;
     }
     Ok(())
+}
+
+/// What is printed of a member beside the line of a fault, if it is.
+fn text_at<'a>(printer: Printer<'a>, member: usize, found: Found) -> Option<&'a str>
+    ensures { let it = shown_in printer.entry in option_map (λ text. text.now) result
+        ≡ text_of member (told_at it.lines it.beside found) }
+{
+    printer.beside.get(member)?.text(found.line)
 }

@@ -1,7 +1,6 @@
 -- What the parts of a follower hold of the lines that were read. (this product's own)
 use Rattle.std.specs.Prelude.{◌≡◌, ℕ, ◌+◌, ◌-◌, ◌^◌, ◌++◌, ◌&&◌, Bool, true, false, List, [], All, Some, is_some, length, min, nat_lt, string_bytes, Result, if◌then◌else◌, ◌∷◌, ◌<◌}
 use Rattle.std.specs.Option.{option_or}
-use Rattle.fdb_lines.specs.declared.fault.Fault.{Fault}
 use Rattle.fdb_lines.specs.declared.fault.Found.{Found}
 use Rattle.fdb_lines.specs.declared.line.Line.{Line}
 use Rattle.fdb_log_reader.specs.declared.error.Why.{Why}
@@ -21,7 +20,8 @@ use Rattle.fdb_audit.specs.declared.warning.Warning.{Warning}
 use Rattle.fdb_audit.specs.declared.warning.Warning.TheVariants.{Ahead, Early}
 use Rattle.fdb_audit.specs.private.Clocks.{Hears, ahead_of}
 use Rattle.fdb_audit.specs.Warned.{AreEarly, warning_line}
-use Rattle.fdb_audit.specs.Following.{AreWindows, FollowArguments, KeptNumbers, Start, Window, first_told, kinds_told, lines_told, told_in_all}
+use Rattle.fdb_audit.specs.Following.{AreWindows, FollowArguments, KeptNumbers, Start, Window, faults_told, first_told, told_in_all}
+use Rattle.fdb_audit.specs.ToldFaults.{ToldFault}
 use Rattle.fdb_audit.specs.Watched.{IsTold, lines_asked, names_asked}
 
 -- what stays while a teller tells
@@ -31,9 +31,8 @@ pub record IsSameTeller (old new : Teller) : Type 0 where
   pub key : new.key ≡ old.key
 
 -- the faults that are told more are counted, where totals are wanted
-abbrev pub CountsOn : Teller → Teller → List Line → List Fault → Type 0
-CountsOn old new more kinds_more =
-    (members : List (List ℕ)) (lines : List Line) (kinds : List Fault) → HasTotals members old lines kinds → HasTotals members new (lines ++ more) (kinds ++ kinds_more)
+abbrev pub CountsOn : Teller → Teller → List ToldFault → Type 0
+CountsOn old new more = (members : List (List ℕ)) (told : List ToldFault) → HasTotals members old told → HasTotals members new (told ++ more)
 
 -- What is told more, once these lines have been read, whose clients have these names: these faults.
 pub record TellsOn (kept : KeptNumbers) (old new : Teller) (margin : ℕ) (read : List (Result SaidLine Why)) (names : List (List ℕ)) (faults : List Found) : Type 0 where
@@ -44,7 +43,7 @@ pub record TellsOn (kept : KeptNumbers) (old new : Teller) (margin : ℕ) (read 
   pub appended : string_bytes new.text ≡ string_bytes old.text ++ text
   pub first : new.first ≡ option_or old.first (first_told kept read windows)
   pub faults_are : told_in_all read windows ≡ faults
-  pub counts : CountsOn old new (lines_told read windows) (kinds_told windows)
+  pub counts : CountsOn old new (faults_told read windows)
   pub same : IsSameTeller old new
 
 -- a count that may be full, and one more where a test passes

@@ -1,7 +1,7 @@
-use Rattle.std.proofs.Common.{◌≡◌, ◌+◌, ◌++◌, ◌∙◌, ◌∷◌, [], List, ap, append-nil, append_assoc, arith, drop, map, refl, subst, sym}
+use Rattle.std.proofs.Common.{◌≡◌, ◌+◌, ◌++◌, ◌∙◌, ◌∷◌, [], List, ap, append-nil, append_assoc, arith, drop, false, map, refl, subst, sym}
 use Rattle.std.proofs.lemmas.List.{at_drop_more, drop_all}
 use Rattle.fdb_audit.specs.declared.beside.Column.{Column}
-use Rattle.fdb_audit.specs.Groups.{by_member, AreMostOfEach}
+use Rattle.fdb_audit.specs.Groups.{by_member, owned_by, AreMost, AreMostOfEach}
 use Rattle.fdb_audit.specs.private.{beside_of}
 use Rattle.fdb_audit.proofs.grouped.push_most_of_each.Goals as goal
 
@@ -18,8 +18,9 @@ loop-member-preserved c = λ rest are.
     let item = c.member-item.result in
     let left : drop i members ≡ item ∷ drop (i + 1) members =
     at_drop_more (λ (l : List Column). l) members i item c.loop-member-test.true ∙ ap (λ m. m ∷ drop (i + 1) members) (sym c.member-item.is) in
+    let most = subst (λ it. AreMost c.args.json false (by_member it).name (owned_by (by_member it) c.args.found.now) first.0) c.member.ensures first.1 in
     let all = c.loop-member.invariant (first.0 ++ rest)
-    (subst (λ l. AreMostOfEach c.args.json (map by_member (map beside_of l)) c.args.found.now (first.0 ++ rest)) (sym left) (first.0, first.1, rest, are, refl)) in
+    (subst (λ l. AreMostOfEach c.args.json (map by_member (map beside_of l)) c.args.found.now (first.0 ++ rest)) (sym left) (first.0, most, rest, are, refl)) in
     (all.0, all.1, ap (λ text. text ++ rest) first.2 ∙ (append_assoc _ first.0 rest ∙ all.2))
 
 pub returns : goal.returns

@@ -6,7 +6,7 @@ use Rattle.fdb_audit.proofs.teller.count.Goals as goal
 pub returns-in-Some : goal.returns-in-Some
 returns-in-Some c =
     on_ok_weaker c.count_in.result
-    (λ more. λ totals members lines kinds has.
-    let counted = subst (λ told. HasTotalsIn totals members told lines kinds) c.in-Some.is has in
-    (counted.0, more members lines kinds counted.1))
+    (λ more. λ totals members before has.
+    let counted = subst (λ told. HasTotalsIn totals members told before) c.in-Some.is has in
+    (counted.0, more members before counted.1))
     c.count_in.ensures

@@ -1,24 +1,32 @@
-use Rattle.std.proofs.Common.{◌≡◌, ◌∙◌, ℕ, List, ap, set, get_or, string_bytes, subst, sym}
-use Rattle.std.proofs.lemmas.List.{map-set, set-get_or}
-use Rattle.fdb_audit.specs.declared.beside.Column.{Column}
-use Rattle.fdb_audit.specs.private.{members_of}
-use Rattle.fdb_audit.proofs.told_faults.add_texts.Goals.{in-Some+in_ok-add, in_default}
+use Rattle.std.proofs.Common.{ap, arith, length, refl, string_bytes, sym}
+use Rattle.std.proofs.lemmas.List.{length-map}
+use Rattle.fdb_audit.specs.declared.text_groups.TextGroups.{TextGroups}
+use Rattle.fdb_audit.proofs.AddingTexts.{adding_all, adding_first, adding_more}
 use Rattle.fdb_audit.proofs.told_faults.add_texts.Goals as goal
 
-abbrev name_of : Column → List ℕ
-name_of column = string_bytes column.member
+pub loop-member-init : goal.loop-member-init
+loop-member-init c = λ members told has. adding_first members told _ c.args.texts.now has
 
--- a column that keeps its member is put in its place
-same_members : (columns : List Column) (i : ℕ) (d new : Column) → name_of new ≡ name_of (get_or columns i d) → members_of (set columns i new) ≡ members_of columns
-same_members columns i d new same =
-    map-set name_of columns i new
-    ∙ (ap (set (members_of columns) i) same ∙ (sym (map-set name_of columns i (get_or columns i d)) ∙ ap members_of (set-get_or columns i d)))
+pub loop-member-preserved : goal.loop-member-preserved
+loop-member-preserved c = λ members told has.
+    let i = c.loop-member.member in
+    let texts = c.loop-member.texts in
+    let sofar = c.loop-member.invariant members told has in
+    let many = ap length has.members_are in
+    let same = ap length sofar.names in
+    let one = length-map c.args.texts.now (λ (groups : TextGroups). string_bytes groups.member) in
+    let two = length-map texts (λ (groups : TextGroups). string_bytes groups.member) in
+    let test = c.loop-member-test.true in
+    adding_more members told _ i texts c.index-texts-member.result c.add.new.self sofar (omega (arith, many, same, one, two, test)) c.add.ensures.member
+    (c.in_ok-add.ensures.counted i told _ (sym c.text_at.ensures) refl)
 
-pub loop-column-preserved : goal.loop-column-preserved
-loop-column-preserved c =
-    elim c.match-get.branch [
-      | in-Some+in_ok-add w ↦
-          subst (λ (columns : List Column). members_of columns ≡ members_of c.args.columns.now) (sym w.columns-is)
-          (same_members c.loop-column.columns c.loop-column.column w.index-columns-column.result w.add.new.self (ap string_bytes w.add.ensures) ∙ c.loop-column.invariant)
-      | in_default w ↦ subst (λ (columns : List Column). members_of columns ≡ members_of c.args.columns.now) (sym w.columns-is) c.loop-column.invariant
-    ]
+pub returns : goal.returns
+returns c = λ members told has.
+    let texts = c.loop-member.texts in
+    let sofar = c.loop-member.invariant members told has in
+    let many = ap length has.members_are in
+    let same = ap length sofar.names in
+    let one = length-map c.args.texts.now (λ (groups : TextGroups). string_bytes groups.member) in
+    let two = length-map texts (λ (groups : TextGroups). string_bytes groups.member) in
+    let test = c.loop-member-test.false in
+    adding_all members told _ c.loop-member.member texts sofar (omega (arith, many, same, one, two, test))

@@ -28,7 +28,7 @@ returns c =
         margin = teller.margin;
         by_key = teller.key;
         first = teller.first;
-        totals = subst (λ (members : List (List ℕ)). HasTotals (option_to_list (option_map (λ name. printed (string_bytes name)) asked.key) ++ members) c.in_ok-teller.teller [] [])
+        totals = subst (λ (members : List (List ℕ)). HasTotals (option_to_list (option_map (λ name. printed (string_bytes name)) asked.key) ++ members) c.in_ok-teller.teller [])
             (ap (map string_bytes) c.deref-3.ensures.value ∙ (c.in_ok-taking.ensures.members ∙ ap (map (λ name. printed (string_bytes name))) c.deref-2.ensures.value)) teller.totals;
       };
     }

@@ -1,26 +1,30 @@
-use Rattle.std.proofs.Common.{◌∙◌, ◌++◌, [], List, ap, append_assoc, map, refl, string_bytes, subst}
-use Rattle.fdb_lines.specs.declared.line.Line.{Line}
-use Rattle.fdb_lines.specs.declared.fault.Found.{Found}
-use Rattle.fdb_audit.specs.Groups.{groupings, AreMostOfEach}
-use Rattle.fdb_audit.specs.Text.{PrintedLog, line}
+use Rattle.std.proofs.Common.{◌∙◌, ◌++◌, ap, append_assoc, map, refl, string_bytes, subst, sym}
+use Rattle.std.proofs.lemmas.Result.{on_ok_weaker}
+use Rattle.fdb_audit.specs.Groups.{AreMost, client_name}
+use Rattle.fdb_audit.specs.Text.{line}
+use Rattle.fdb_audit.specs.ToldFaults.{by_client, ToldFault}
 use Rattle.fdb_audit.specs.Totals.{faults_line}
-use Rattle.fdb_audit.specs.private.{beside_of, names_in}
+use Rattle.fdb_audit.specs.private.{names_in}
+use Rattle.fdb_audit.specs.Tallied.{HasTextsIn}
 use Rattle.fdb_audit.proofs.told_faults.ToldFaults.push.Goals as goal
 
 pub returns : goal.returns
-returns c = λ members lines kinds has.
-    let it = c.in_ok-push_totals.ensures in
+returns c = on_ok_weaker c.push_texts.result (λ last. λ members told has.
     let json = c.args.json in
-    let names = names_in c.args.names in
-    let found = c.args.self.found.items in
-    let groups = it.0 in
-    let beside = map beside_of c.deref.result.now in
-    let log = λ (lines : List Line). let log : PrintedLog = record { lines = lines; names = names; numbers = []; beside = beside } in log in
-    let most : AreMostOfEach json (groupings (log lines)) found groups =
-    subst (λ (lines : List Line). AreMostOfEach json (groupings (log lines)) found groups) has.lines
-    (subst (λ (found : List Found). AreMostOfEach json (groupings (log c.args.self.log.lines.items)) found groups) c.deref-2.ensures.value it.1) in (
-      line (faults_line json found) ++ groups,
-      record { faults = found; are = has.are; stand = has.stand; beside = beside; groups = groups; most = most; printed = refl },
-      it.2 ∙ (ap (λ (found : List Found). string_bytes c.args.out.now ++ line (faults_line json found) ++ groups) c.deref-2.ensures.value
-          ∙ append_assoc (string_bytes c.args.out.now) (line (faults_line json found)) groups),
-    )
+    let kinds = map (λ (it : ToldFault). it.kind) told in
+    let owned = (by_client told).owned in
+    let (clients, most, second) = c.in_ok-push_tally.ensures owned has.clients.tally in
+    let (texts, each, third) = last members told (subst (HasTextsIn members told) (sym c.deref.ensures.value) has.texts) in
+    let head = line (faults_line json kinds) in
+    let out = string_bytes c.args.out.now in (
+      head ++ clients ++ texts,
+      record {
+        clients = clients;
+        texts = texts;
+        by_client = subst (λ more. AreMost json more (λ json. client_name json (names_in c.args.names)) owned clients) has.clients.more most;
+        by_text = each;
+        printed = refl;
+      },
+      third ∙ (ap (λ text. text ++ texts) (second ∙ ap (λ text. text ++ clients) (c.in_ok-push_line.ensures kinds has.kinds))
+          ∙ (ap (λ text. text ++ texts) (append_assoc out head clients) ∙ append_assoc out (head ++ clients) texts)),
+    )) c.push_texts.ensures
