@@ -26,6 +26,7 @@ const AFTER_HELP: &str = "Exit status:
   4  the audit found a fault
   5  reading or writing failed
 
+With --follow the file LOGS is read to its end; tail -F LOGS | fdb_audit --follow N goes on.
 With --split P it cuts a log into parts by key: fdb_audit --split 1 --help tells how.
 docs/FORMATS.md has the format of the log, and what each refusal and fault means.";
 
