@@ -35,9 +35,12 @@ TOLD = {
     ("fdb_history", "Laws"),
     ("fdb_history", "Faults"),
     ("fdb_history", "Strays"),
+    ("fdb_history", "Audit"),
+    ("fdb_script", "Plan"),
     ("fdb_script", "Answering"),
     ("fdb_script", "Reading"),
     ("fdb_script", "Text"),
+    ("fdb_replay", "Replay"),
 }
 
 

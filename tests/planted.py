@@ -31,12 +31,12 @@ def cell_of(tried):
 
 def lines():
     """The lines of the table, with a row for each crate of which the gate tries edits."""
-    made, others = ["", "Crate | Tried by the gate", "---|---"], []
+    made, others = ["", "Crate | Tried by the gate", "---|---"], 0
     for crate in crates():
-        tried, beside = by_file(crate, TRIED), len(edits_in(crate, BESIDE)[0])
+        tried = by_file(crate, TRIED)
         made += [f"{crate} | {cell_of(tried)}"] if tried else []
-        others += [f"{crate} {beside}"] if beside else []
-    return [*made, "", f"Others: {', '.join(others)}."]
+        others += len(edits_in(crate, BESIDE)[0])
+    return [*made, "", f"There are {others} others."]
 
 
 if __name__ == "__main__":
