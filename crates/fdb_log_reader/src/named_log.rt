@@ -94,11 +94,7 @@ fn add_value(named: &mut NamedLog, alloc: Global, value: &Value) -> Result<(), W
 }
 
 /// Adds the own number of a line, by its bytes, where lines have such.
-fn add_number_of(
-    numbers: &mut Option<OwnNumbers>,
-    alloc: Global,
-    bytes: &[u8],
-) -> Result<(), Why>
+fn add_number_of(numbers: &mut Option<OwnNumbers>, alloc: Global, bytes: &[u8]) -> Result<(), Why>
     ensures { (value : Data) → value_of bytes.now ≡ Ok value → MatchResult result
         (λ _. numbered_on (λ name. get name value) (option_map numbers_in numbers.old)
         ≡ Ok (option_map numbers_in numbers.new))
