@@ -24,7 +24,7 @@ use Rattle.fdb_log_reader.specs.Named.{HaveOneNumber, Named, StandOnce, key_name
 use Rattle.fdb_log_reader.specs.ReadLine.{LineNames, MemberNames}
 use Rattle.fdb_log_reader.specs.Reading.{Reading, reading_with}
 use Rattle.fdb_audit.specs.declared.fault.LogFault.{LogFault}
-use Rattle.fdb_audit.specs.Joined.{ArePartsOf, IsPartOf, WasReadByKey, faults_by_number, named_line, names_read, places_of_part}
+use Rattle.fdb_audit.specs.Joined.{ArePartsOf, IsPartOf, WasReadByKey, faults_by_number, key_names, named_line, names_read, places_of_part}
 use Rattle.fdb_audit.specs.Judged.{keys_of_lines, own_numbers}
 use Rattle.fdb_audit.specs.Text.{fault_of, number_at}
 use Rattle.fdb_audit.proofs.SameBut.{DifferInNumbers, apart, client_as, key_as, keys_apart, naming_of}
@@ -74,17 +74,17 @@ same_lines differ names others lines their_lines keys their_keys once once_too w
 pub once_read : (reading : Reading) (keys : KeyColumn) → IsReadByKey reading keys → HaveOneNumber (names_read reading)
 once_read reading keys is = record {
   clients = is.clients_once;
-  keys = subst (λ (column : Option KeyColumn). IfSome (option_map (λ (column : KeyColumn). record { member = column.member; names = column.keys }) column) (λ keys. StandOnce keys.names)) (sym is.keyed) is.keys_once;
+  keys = subst (λ (column : Option KeyColumn). IfSome (key_names column) (λ (names : MemberNames). StandOnce names.names)) (sym is.keyed) is.keys_once;
 }
 
-key_within : (keys : KeyColumn) (key : Option ℕ) → IfSome key (λ n. n < length keys.keys) → IfSome key (λ n. IsSomeAnd (Some (record { member = keys.member; names = keys.keys })) (λ keys. n < length keys.names))
+key_within : (keys : KeyColumn) (key : Option ℕ) → IfSome key (λ n. n < length keys.keys) → IfSome key (λ n. IsSomeAnd (key_names (Some keys)) (λ (names : MemberNames). n < length names.names))
 key_within keys None is = tt
 key_within keys (Some n) is = is
 
 pub within_read : (reading : Reading) (keys : KeyColumn) → IsReadByKey reading keys → AreWithin (names_read reading) reading.log.lines keys.numbers
 within_read reading keys is k lt = (
   is.clients k nobody lt,
-  subst (λ (column : Option KeyColumn). IfSome (key_at keys.numbers k) (λ n. IsSomeAnd (option_map (λ (column : KeyColumn). record { member = column.member; names = column.keys }) column) (λ keys. n < length keys.names)))
+  subst (λ (column : Option KeyColumn). IfSome (key_at keys.numbers k) (λ n. IsSomeAnd (key_names column) (λ (names : MemberNames). n < length names.names)))
       (sym is.keyed) (key_within keys (key_at keys.numbers k) (is.keys_within k None (let cells = is.cells in omega (arith, lt, cells)))),
 )
 
@@ -96,7 +96,7 @@ says_read reading keys is k =
 -- the name of a key
 pub key_name : (reading : Reading) (keys : KeyColumn) → IsReadByKey reading keys → (key : Option ℕ) → key_named (names_read reading) key ≡ option_and_then (slice_get keys.keys) key
 key_name reading keys is key =
-    ap (λ (column : Option KeyColumn). option_and_then (λ (names : MemberNames). option_and_then (slice_get names.names) key) (option_map (λ (column : KeyColumn). record { member = column.member; names = column.keys }) column)) is.keyed
+    ap (λ (column : Option KeyColumn). option_and_then (λ (names : MemberNames). option_and_then (slice_get names.names) key) (key_names column)) is.keyed
 
 -- ---- the faults of a log stand at its lines
 
@@ -106,7 +106,7 @@ all_at k n (one ∷ found) lt zero d within = lt
 all_at k n (one ∷ found) lt (suc i) d within = all_at k n found lt i d (omega (arith, within))
 
 below : (log : Lines) (keys : List (Option ℕ)) (opts : AuditOpts) (n m : ℕ) → (n < suc m) → All (λ (it : Found). it.line < m) (faults_below_by_key log keys opts n)
-below log keys opts zero m le i d within = absurd (omega (arith, within))
+below log keys opts zero m le = λ i d within. absurd (omega (arith, within))
 below log keys opts (suc n) m le =
     All-append (λ (it : Found). it.line < m) (faults_below_by_key log keys opts n) (faults_at_by_key log keys opts n)
     (below log keys opts n m (omega (arith, le))) (all_at n m _ (omega (arith, le)))
@@ -124,20 +124,24 @@ told_as numbers others places (one ∷ found) within same =
 
 in_order : (test : ℕ → Bool) (n j : ℕ) → j < length (places_where test n) → slice_index (places_where test n) j < n
 in_order test zero j lt = absurd (omega (arith, lt))
-in_order test (suc n) j lt = by (test n) lt
+in_order test (suc n) j lt = by (test n) (in_order test n) lt
   where
-    by : (b : Bool) → j < length (places_where test n ++ cond b (n ∷ []) []) → slice_index (places_where test n ++ cond b (n ∷ []) []) j < suc n
-    by true lt = elim (cases_lt j (length (places_where test n))) [
-      | inl old ↦ subst (λ (k : ℕ). k < suc n) (sym (get_or_append_left (places_where test n) (n ∷ []) 0 j old)) (let less = in_order test n j old in omega (arith, less))
+    by : (b : Bool) → ((j : ℕ) → j < length (places_where test n) → slice_index (places_where test n) j < n)
+        → j < length (places_where test n ++ cond b (n ∷ []) []) → slice_index (places_where test n ++ cond b (n ∷ []) []) j < suc n
+    by true old lt = elim (cases_lt j (length (places_where test n))) [
+      | inl less ↦
+          let under = old j less in
+          subst (λ (k : ℕ). k < suc n) (sym (get_or_append_left (places_where test n) (n ∷ []) 0 j less)) (omega (arith, under))
       | inr ge ↦
           let size = length-append (places_where test n) (n ∷ []) in
           let last : length (places_where test n) ≡ j = omega (arith, lt, ge, size) in
           subst (λ (k : ℕ). k < suc n) (sym (get_or_push (places_where test n) n 0 j last)) (omega arith)
     ]
-    by false lt =
+    by false old lt =
         let none = append-nil (places_where test n) in
-        let old : j < length (places_where test n) = subst (λ (list : List ℕ). j < length list) none lt in
-        subst (λ (list : List ℕ). slice_index list j < suc n) (sym none) (let less = in_order test n j old in omega (arith, less))
+        let less : j < length (places_where test n) = subst (λ (list : List ℕ). j < length list) none lt in
+        let under = old j less in
+        subst (λ (list : List ℕ). slice_index list j < suc n) (sym none) (omega (arith, under))
 
 at_place : (lines : List Line) (places : List ℕ) (j : ℕ) → j < length places → line_at (lines_in lines places) j ≡ line_at lines (slice_index places j)
 at_place lines places j lt = get_or-map (line_at lines) places j 0 nobody lt

@@ -1,5 +1,5 @@
 -- A log whose parts are audited by themselves. (this product's own)
-use Rattle.std.specs.Prelude.{◌≡◌, ℕ, ◌<◌, ◌==◌, List, [], Option, Some, Ok, length, map, option_and_then, option_map, slice_index, slice_index_or}
+use Rattle.std.specs.Prelude.{◌≡◌, ℕ, ◌<◌, ◌==◌, List, Option, None, Some, Ok, length, map, option_and_then, slice_index, slice_index_or}
 use Rattle.fdb_lines.specs.declared.opts.AuditOpts.{AuditOpts}
 use Rattle.fdb_lines.specs.Carried.{places_where}
 use Rattle.fdb_lines.specs.Judged.{faults_in}
@@ -7,7 +7,7 @@ use Rattle.fdb_lines.specs.Keys.{key_at}
 use Rattle.fdb_lines.specs.Lines.{line_at}
 use Rattle.fdb_log_reader.specs.Columns.{KeyColumn}
 use Rattle.fdb_log_reader.specs.Named.{Named, named}
-use Rattle.fdb_log_reader.specs.ReadLine.{LineNames}
+use Rattle.fdb_log_reader.specs.ReadLine.{LineNames, MemberNames}
 use Rattle.fdb_log_reader.specs.Reading.{Reading, reading_with}
 use Rattle.fdb_audit.specs.Judged.{keys_of_lines, own_numbers}
 use Rattle.fdb_audit.specs.Text.{fault_of, number_at}
@@ -23,8 +23,12 @@ abbrev pub faults_by_number : AuditOpts → Reading → List LogFault
 faults_by_number opts reading = map (fault_of (own_numbers reading.numbers)) (faults_in reading.log (keys_of_lines reading.keys) opts)
 
 -- the names of clients and keys
+abbrev pub key_names : Option KeyColumn → Option MemberNames
+key_names None = None
+key_names (Some column) = Some (record { member = column.member; names = column.keys })
+
 abbrev pub names_read : Reading → LineNames
-names_read reading = record { clients = reading.names; keys = option_map (λ (column : KeyColumn). record { member = column.member; names = column.keys }) reading.keys }
+names_read reading = record { clients = reading.names; keys = key_names reading.keys }
 
 -- what a line says, whatever numbers its client and its key have
 abbrev pub named_line : Reading → ℕ → Named
