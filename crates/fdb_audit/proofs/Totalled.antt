@@ -1,5 +1,6 @@
 -- The faults that were told, counted one after another.
-use Rattle.std.proofs.Common.{◌≡◌, ◌∙◌, ◌+◌, ◌<◌, ◌==◌, ◌&&◌, if◌then◌else◌, Bool, true, Option, None, Some, ℕ, List, [], ◌∷◌, ◌++◌, ap, append-nil, append_assoc, false, get_or, is_some, length, map, nat_lt, refl, subst, sym, take}
+use Rattle.std.proofs.Common.{◌≡◌, ◌∙◌, ◌+◌, ◌<◌, ◌==◌, ◌&&◌, if◌then◌else◌, Bool, true, Option, None, Some, ℕ, zero, suc, List, [], ◌∷◌, ◌++◌, add-zero, ap, append-nil, arith, append_assoc, false, get_or, is_some, length, map, nat_lt, refl, subst, sym, take}
+use Rattle.std.specs.List.{range_with_len}
 use Rattle.std.proofs.lemmas.Bool.{both_ways}
 use Rattle.std.proofs.lemmas.List.{map_push, take_more}
 use Rattle.fdb_lines.specs.declared.fault.Fault.{Fault}
@@ -9,6 +10,12 @@ use Rattle.fdb_audit.specs.ToldFaults.{ByClient, ByText, ToldFault, by_client, b
 use Rattle.fdb_audit.specs.declared.client_groups.ClientGroups.{ClientGroups}
 use Rattle.fdb_audit.specs.declared.text_groups.TextGroups.{TextGroups}
 use Rattle.fdb_audit.specs.Tallied.{AreNumbered, HasClients, HasTallied, HasTexts, texts_in}
+
+pub range_more : (a n : ℕ) → range_with_len a n ++ (a + n) ∷ [] ≡ range_with_len a (suc n)
+range_more a zero = ap (λ (k : ℕ). k ∷ []) (add-zero a)
+range_more a (suc n) =
+    let same : a + suc n ≡ (a + 1) + n = omega arith in
+    ap (λ (k : ℕ). a ∷ range_with_len (a + 1) n ++ k ∷ []) same ∙ ap (λ (l : List ℕ). a ∷ l) (range_more (a + 1) n)
 
 -- of a list, those up to a place and one more
 pub map_more : {X Y : Type 0} (f : X → Y) (before : List Y) (xs : List X) (i : ℕ) (d : X) → i < length xs
