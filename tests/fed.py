@@ -1,6 +1,8 @@
 """What feeds a watch: examples/watch/feed, over a log that is rotated, while it is killed."""
 import contextlib
 import gzip
+import importlib.machinery
+import importlib.util
 import json
 import os
 import random
@@ -268,8 +270,29 @@ def between_rotations(_program):
             yield f"{sent.name}, and on", it.fault()
 
 
+def fault_of_cut():
+    """What is wrong with what is read of a log that is cut behind a copy in between, or None."""
+    loader = importlib.machinery.SourceFileLoader("feed", FEED)
+    feed = importlib.util.module_from_spec(importlib.util.spec_from_loader("feed", loader))
+    loader.exec_module(feed)
+    with fed() as it:
+        it.write_more(15)
+        reads = feed.Feed(it.log, feed.Notes(f"{it.kept}.files"), (0, None), None)
+        reads.find()
+        texts = reads.texts()
+        found = next(texts)
+        it.write_more(30)
+        it.rotate(is_copied=True)
+        it.write_more(60)
+        for more in (texts, reads.texts(), reads.texts()):
+            found += b"".join(more)
+        wanted = text_of_lines(it.lines).encode()
+        return None if found == wanted else f"{found} in place of {wanted}"
+
+
 def files(_program):
     """What it does with files that are not as they ought to be."""
+    yield "a log that is cut while it is read", fault_of_cut()
     with fed() as it:
         it.start()
         time.sleep(PAUSE)
