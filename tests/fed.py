@@ -96,8 +96,8 @@ class Fed:
         return self.until(lambda: os.path.exists(f"{self.kept}.files"))
 
     def until_told(self):
-        """Waits until something is told behind these lines."""
-        before = size_of(self.said)
+        """Waits until something is told behind these lines, and not only an end of what was cut."""
+        before = size_of(self.said) + 1
         self.write_more(2 * STALE + BEHIND // 10)
         return self.until(lambda: size_of(self.said) > before)
 
