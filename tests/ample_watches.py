@@ -222,7 +222,8 @@ def of_first(said):
 def of_totals(_program):
     """The totals of a watch are by as many clients, texts and keys as there is room for."""
     for name, _, words, log, said in rows(GROUPED):
-        yield name, fault_of(run([PROGRAM, *words], log.encode()), of_first(said))
+        ran = follow_model.without_progress(run([PROGRAM, *words], log.encode()))
+        yield name, fault_of(ran, of_first(said))
 
 
 def of_totals_by_model(_program):
