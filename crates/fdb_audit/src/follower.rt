@@ -85,8 +85,8 @@ impl Follower {
     ghost use Rattle.fdb_log_reader.specs.Reading.{EndsALine};
     ghost use Rattle.fdb_log_reader.specs.LineReader.{line_names};
 
-    /// An audit that has read no line, as the arguments ask for it. A line that comes may begin so far
-    /// behind the newest end. It fails only where memory is refused.
+    /// An audit that has read no line, as the arguments ask for it. A line that comes may begin as
+    /// far as `behind` says behind the newest end. It fails only where memory is refused.
     pub fn new(alloc: Global, asked: &AuditArguments, behind: u64) -> Result<Self, AllocError>
         ensures followed { IfOk result (λ follower.
             HasFollowed asked.now (fresh behind) follower [] []) }
@@ -170,7 +170,7 @@ impl Follower {
         }
     }
 
-    /// How many lines have been taken, those that were kept not counted.
+    /// How many lines this audit has taken, without those that it was restored with.
     pub fn line_count(&self) -> u64 {
         self.taking.counts.lines
     }
@@ -281,7 +281,8 @@ impl Follower {
         }
     }
 
-    /// How many lines had been taken when it settled last, those that were kept included.
+    /// How many lines had been taken when the audit settled last, with those that it was restored
+    /// with.
     pub fn settled_count(&self) -> u64 {
         self.taking.settled
     }

@@ -30,9 +30,10 @@ use fdb_log_reader::laws::{
     what_is_read_by_key_is_numbered_by_names, what_lines_say_is_theirs_alone,
 };
 
-/// What a watch kept says of itself, where no line came early: that none did of the lines it kept. And
-/// where the watch began at the beginning of its log, up to when it had told all: if it had told of any
-/// line that had ended, it keeps one that had come by then, and with that the moment.
+/// Where no line came early, what a watch kept says that none of the kept lines did. Where the
+/// watch began at the beginning of its log, what it kept also says up to which moment the watch had
+/// told all: if it had told of any line that had ended, it keeps a line that had come by then, and
+/// with that line the moment.
 pub fn what_is_kept_says_when_all_was_told()
     ensures none_early { (asked : AuditArguments) (start : Start) (behind : ℕ)
         (piece kept text : List ℕ) (found : Option LogFault) (last : Option ℕ)

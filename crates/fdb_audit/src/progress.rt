@@ -28,7 +28,7 @@ pub struct Progress {
     pub refused: u64,
     /// Lines that came early.
     pub early: u64,
-    /// Of these, how many were judged by what was kept then.
+    /// How many of the early lines were judged, by what was kept then.
     pub judged: u64,
     /// How often a line's end was found to be ahead of another client's line that came later.
     pub ahead: u64,

@@ -26,16 +26,17 @@ pub struct KeptFault {
     pub refused: KeptRefused,
     /// The name of the file, as it is printed.
     pub file: String,
-    /// By which arguments they are kept there, as it is printed, if that is said.
+    /// The arguments by which the lines are kept in the file, as they are printed, if the file says
+    /// so.
     pub made_by: Option<String>,
 }
 
 /// Why lines that were kept are refused: the first with which something is wrong.
 #[derive(Clone, Copy, Debug, PartialEq, Eq)]
 pub struct KeptRefused {
-    /// Its number among them, counted from 1.
+    /// The number of that line among the kept ones, counted from 1.
     pub line: u64,
-    /// What is wrong; none where it does not say as what it was kept.
+    /// What is wrong with the line; none where the line does not say as what it was kept.
     pub why: Option<Why>,
 }
 

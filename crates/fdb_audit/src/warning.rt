@@ -12,22 +12,23 @@ use std::fmt::Write;
 /// What is said of a line of a log that is followed, behind the program's name.
 #[derive(Clone, Copy, Debug, PartialEq, Eq)]
 pub enum Warning {
-    /// It is refused.
+    /// The line is refused.
     Refused(ReadError),
-    /// It came early: it began before what had been settled. That is said of the first that does, and
-    /// of each at which their number has doubled.
+    /// The line came early: it began before what had been settled. That is said of the first early
+    /// line, and of each at which their number has doubled.
     Early(CountedLine),
-    /// A line of another client above it is ahead of it, by more than a line may be behind. That is
-    /// said of as many.
+    /// A line of another client that stands above the line is ahead of it, by more than a line may
+    /// be behind. That is said of the first such line, and of each at which their number has
+    /// doubled.
     Ahead(CountedLine),
 }
 
 /// A line that came early, or of which another is ahead.
 #[derive(Clone, Copy, Debug, PartialEq, Eq)]
 pub struct CountedLine {
-    /// Its number, counted from 1.
+    /// The number of the line, counted from 1.
     pub line: u64,
-    /// By how much it is, in the unit of the log's times.
+    /// By how much the line is early, or the other line is ahead, in the unit of the log's times.
     pub by: u64,
     /// How many such lines there are, with it.
     pub count: u64,

@@ -133,7 +133,8 @@ impl RecentChain {
         next_ordinal(self.last)
     }
 
-    /// The chain stands for one.
+    /// Shows that what is kept is the state of some chain of commit versions, of the epoch that it
+    /// was opened for.
     pub fn stands_for(&self)
         ensures chain { (chain : Chain) × IsStateOf self.now chain
             × IsOf self.now.epoch_end self.now.recovery chain }

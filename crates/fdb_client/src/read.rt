@@ -11,7 +11,7 @@ pub struct ReadVersion {
     /// The live committed version, with its lock flag, its metadata version and the minimum known
     /// committed version.
     pub rec: Record,
-    /// Its position: the number of changes before it.
+    /// The position of the read: the number of changes before it.
     pub position: u64,
     /// What throttles the request's tags, in their order.
     pub limits: Sequence<TagLimit>,

@@ -20,7 +20,7 @@ use std::{env, io};
 /// Why arguments ask for nothing.
 #[derive(Clone, Copy, Debug, PartialEq, Eq)]
 pub enum ArgumentsFault {
-    /// They are refused, or could not be had: the program ends with status 2.
+    /// The arguments are refused, or could not be had: the program ends with status 2.
     Refused,
     /// Memory was refused: it ends with status 3.
     Memory,
@@ -84,7 +84,8 @@ pub fn new_command<'a>(
         .no_binary_name(true)
 }
 
-/// The same of a program that says its version where `--version` or `-V` asks for it.
+/// The command of a program that says its version where `--version` or `-V` asks for it, with no
+/// argument yet.
 pub fn new_versioned_command<'a>(
     alloc: Global,
     name: &'a str,

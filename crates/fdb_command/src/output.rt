@@ -10,8 +10,8 @@ ghost use Rattle.fdb_command.specs.Output.{TakesAny, TakesSome};
 use std::io;
 use std::io::{Error, ErrorKind, Write};
 
-/// Writes all of these bytes. A writer that fails is not called again: any error is one but an
-/// interruption, and so is a write that takes none.
+/// Writes all of these bytes. A writer that fails is not called again. Any error but an
+/// interruption is a failure, and so is a write that takes no byte.
 pub fn write_whole<W: Write>(writer: &mut W, lines: &[u8]) -> io::Result<()>
     ensures ok { OnOk result (Appends (W.contents writer.old) (W.contents writer.new) lines.now) }
     ensures cut { OnErr result

@@ -70,7 +70,8 @@ pub fn first_finding(
     }
 }
 
-/// The first fault of a log without keys, by threads.
+/// The first fault of a log without keys, if there is one, as [`first_finding`] has it, looked for
+/// in threads. An error only where memory is refused.
 pub fn first_finding_by<R: Threads + Sync>(
     rt: &R,
     alloc: Global,

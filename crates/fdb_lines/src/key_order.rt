@@ -7,7 +7,7 @@ use crate::step::OrderStep;
 pub struct KeyOrder {
     /// The key; none for the lines without one.
     pub key: Option<u32>,
-    /// Each step's line is told at its place in the whole log.
+    /// The steps of the order. Each step's line is told at its place in the whole log.
     pub steps: Vec<OrderStep>,
 }
 

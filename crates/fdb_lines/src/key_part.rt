@@ -16,18 +16,18 @@ use std::mem::replace;
 /// A key, and what its watch tells when it settles.
 #[derive(Debug, Drop)]
 pub struct SettledKey {
-    /// None for the lines without a key.
+    /// The key; none for the lines without one.
     pub key: Option<u32>,
-    /// The numbers are those among all lines of the whole log.
+    /// What the key's watch tells. Its numbers are those among all lines of the whole log.
     pub settled: Settled,
 }
 
 /// A line that a watch by key keeps.
 #[derive(Clone, Copy, Debug)]
 pub struct KeptLine {
-    /// Its number among all lines of the whole log, counted from 0.
+    /// The line's number among all lines of the whole log, counted from 0.
     pub number: u64,
-    /// None for a line without a key.
+    /// The line's key; none for a line without one.
     pub key: Option<u32>,
     pub line: Line,
 }

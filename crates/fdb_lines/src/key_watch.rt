@@ -81,8 +81,8 @@ impl KeyWatch {
         self.from
     }
 
-    /// The moment from which on a line of a key is judged that comes next, be it late: 0 where the key
-    /// has no line yet.
+    /// The moment from which on the next line of a key is judged: a line that begins then or later
+    /// is, even if it comes late. It is 0 where the key has no line yet.
     pub fn judged_from(&self, key: Option<u32>) -> u64
         ensures { IsJudgedFrom self.now.parts.items key result }
     {

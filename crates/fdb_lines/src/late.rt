@@ -18,8 +18,8 @@ pub struct Late {
     /// The line that outdates it and ended first, counted from 0: it shows a newer version than was
     /// read, or shows or draws one that the version drawn is not above.
     pub line: u32,
-    /// From its end to where the call began: the fault stands under each lesser margin. 0 where it
-    /// had not ended by then.
+    /// The time from the end of that line to where the call began: the fault stands under each
+    /// lesser margin. It is 0 where the line had not ended by then.
     pub by: u64,
 }
 

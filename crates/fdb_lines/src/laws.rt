@@ -113,8 +113,8 @@ pub fn above_what_is_left_out_all_faults_are_told()
         ≡ stands (case_of (with_times lines) opts) fault (slice_index places i) }
 {}
 
-/// Lines that stand for all go on to: from a later moment, with one line more, and where some of
-/// them stand for them.
+/// Lines that stand for all go on to stand for all: from a later moment on, with one line more, and
+/// where only some of them are kept that stand for these lines.
 pub fn they_go_on_to_stand_for_all()
     ensures later { (margin at then : ℕ) (lines : List Line) (places : List ℕ) → at ≤ then
         → StandFor margin at lines places → StandFor margin then lines places }

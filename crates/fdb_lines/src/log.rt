@@ -17,7 +17,7 @@ pub const MAX_LINES: usize = 4_294_967_295;
 pub enum LineError {
     /// There are as many lines as a log may have.
     TooMany,
-    /// It has times and the lines above have none, or the other way round.
+    /// The line has times and the lines above have none, or the other way round.
     SomeTimes,
     /// A line with times has learnt: there the times alone say what comes before.
     TimedLearn,

@@ -6,11 +6,11 @@ use crate::late::Late;
 /// How a call knew of a line, which makes the line come before it.
 #[derive(Clone, Copy, Debug, PartialEq, Eq)]
 pub enum Means {
-    /// It had ended by more than the margin before the call began.
+    /// The line had ended before the call began, by more than the margin.
     Ended,
-    /// It is an earlier line of the same client.
+    /// The line is an earlier one of the call's own client.
     Own,
-    /// The client had learnt of it, by this line of its own.
+    /// The client of the call had learnt of the line, by this line of its own.
     Learnt(u32),
 }
 
@@ -55,7 +55,8 @@ pub enum Reason {
 pub struct Finding {
     pub found: Found,
     pub reason: Reason,
-    /// Of `Order` and `NotAbove`: by how much the call is late. None of other faults, and where no
-    /// line that outdates it has a known end, or it is itself the first of them to end.
+    /// Of `Order` and `NotAbove`: by how much the call is late. It is none of other faults, and
+    /// where no line that outdates the call has a known end, or the call itself is the first of
+    /// them to end.
     pub late: Option<Late>,
 }

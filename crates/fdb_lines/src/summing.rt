@@ -54,7 +54,8 @@ pub fn summary(
     }
 }
 
-/// The same of a log without keys, by threads.
+/// What a verdict on a log without keys stands on, as [`summary`] counts it, counted in threads. An
+/// error only where memory is refused.
 pub fn summary_by<R: Threads + Sync>(
     rt: &R,
     alloc: Global,

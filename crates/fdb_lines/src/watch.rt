@@ -23,7 +23,7 @@ use std::mem::replace;
 /// Why [`Watch::push`] refuses a line. The first that holds is given, and memory last.
 #[derive(Clone, Copy, Debug, PartialEq, Eq)]
 pub enum WatchError {
-    /// It has no times.
+    /// The line has no times.
     NoTimes,
     /// The log of the lines that are kept does not take it, or there have been 2^64 - 1 lines.
     Line(LineError),
@@ -49,7 +49,7 @@ impl Error for WatchError {}
 pub struct Settled {
     /// The lines that it has kept until now, in the order in which they came.
     pub log: Log,
-    /// For each of these its number among all lines that ever came, counted from 0.
+    /// For each line of `log` its number among all lines that ever came, counted from 0.
     pub numbers: Vec<u64>,
     /// The stale reads and the versions that are not above what was known, at the lines of which it
     /// is time to tell. Each line is told by its place among those that were kept.

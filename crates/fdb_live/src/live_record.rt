@@ -43,8 +43,8 @@ impl<J: Live> LiveRecord<J> {
     /// the token has then seen each change up to that position, and the answers by which the versions
     /// of these changes were drawn.
     ///
-    /// It waits for a replacement that is under way, and not for the lock of the reports. That it
-    /// sees a report of which its caller had seen nothing, no clause says.
+    /// It waits for a replacement that is under way, and not for the lock of the reports. No clause
+    /// says that a read sees a report of which its caller had seen nothing.
     #[tactic(auto, using(crate::proofs::Rising::never_behind))]
     #[inline]
     pub fn read<R: Wait>(&self, rt: &R, seen: &mut Seen<J>) -> Fetched
@@ -205,8 +205,8 @@ impl<J: Live> LiveRecord<J> {
         passes::learn(rt, &self.cell, &mut mine, theirs);
     }
 
-    /// That two answers to two commit proxies are of different versions, as the holders of two tokens
-    /// find that have seen them. Both tokens stay as they are.
+    /// Shows that two answers to two commit proxies are of different versions, where the holders of
+    /// two tokens have seen them. Both tokens stay as they are.
     #[inline]
     pub fn distinct<R: Wait>(
         &self,

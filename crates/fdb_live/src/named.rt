@@ -18,7 +18,7 @@ pub trait UnderName<R> {
     // What it promises of that, by what was opened, which the name stands for.
     ghost gives: { Self → Origin → Self.Output → Type 0 } = { λ _ _ _. ⊤ };
 
-    /// Does it, with what was opened for the service.
+    /// Does the work, with what was opened for the service.
     fn run<J: Live + Send + Sync>(self, rt: &R, opened: Opened) -> Self::Output
         requires takes { takes self opened }
         requires chained { J.chained ≡ is_some opened.epoch }
@@ -28,8 +28,8 @@ pub trait UnderName<R> {
 }
 
 impl Opened {
-    /// Does something with what was opened, under a name that stands for it. It answers what comes of
-    /// it.
+    /// Has `uses` do its work with what was opened, under a name that stands for that, and answers
+    /// what comes of it.
     pub fn named<R, U: UnderName<R>>(self, rt: &R, uses: U) -> U::Output
         requires takes { U.takes uses self }
         ensures gives { U.gives uses self result }

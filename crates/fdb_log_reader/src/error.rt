@@ -13,21 +13,21 @@ use std::fmt;
 pub enum Why {
     /// The text has no line.
     Empty,
-    /// It has more than [`crate::MAX_LINE_BYTES`] bytes, its line feed not counted.
+    /// The line has more than [`crate::MAX_LINE_BYTES`] bytes, its line feed not counted.
     TooLong,
-    /// There are as many lines above it as a log may have.
+    /// There are as many lines above the line as a log may have.
     TooMany,
-    /// It is no JSON text that `serde_json` reads.
+    /// The line is no JSON text that `serde_json` reads.
     NotJson,
-    /// It has none of the members that name a call.
+    /// The line has none of the members that name a call.
     NoCall,
-    /// It has more than one of them.
+    /// The line has more than one of the members that name a call.
     TwoCalls,
-    /// It has times and the lines above have none, or the other way round.
+    /// The line has times and the lines above have none, or the other way round.
     SomeTimes,
     /// A member is missing, of another kind, or not one that may stand there.
     BadMember(Member),
-    /// Keys are kept, and the member that names its key is no name.
+    /// Keys are kept, and the member that names the line's key is no name.
     BadKey,
     /// Lines have their own numbers, and this one has none above that of the line before.
     BadNumber,

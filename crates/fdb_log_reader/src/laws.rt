@@ -23,7 +23,7 @@ pub fn keys_stay_in_one_member()
         → member_in (names_behind shown names lines) ≡ member_in names }
 {}
 
-/// Names keep their numbers: behind any lines there are no others but new ones.
+/// Names keep their numbers: whatever lines are read, names are only added at the end.
 pub fn names_keep_their_numbers()
     ensures { (shown : List (List ℕ)) (names : LineNames) (lines : List (List ℕ))
         → AreMore names (names_behind shown names lines) }
@@ -35,15 +35,15 @@ pub fn each_name_has_one_number()
         → HaveOneNumber (names_behind shown (no_names key) lines) }
 {}
 
-/// The numbers that lines have are those of names that stand behind them.
+/// The numbers that lines have are those of names that are known once the lines are read.
 pub fn numbers_are_those_of_names()
     ensures { (shown : List (List ℕ)) (names : LineNames) (lines : List (List ℕ))
         → All (λ read. IfOk read (IsNumbered (names_behind shown names lines)))
         (lines_read shown names lines) }
 {}
 
-/// Lines say the same behind any others, but for how clients and keys are numbered, and the same of
-/// them are refused, as long as there is room for names.
+/// Whatever lines stand above some lines, these say the same, but for how clients and keys are
+/// numbered, and the same of them are refused, as long as there is room for names.
 pub fn what_lines_say_is_theirs_alone()
     ensures { (shown : List (List ℕ)) (names others : LineNames) (lines : List (List ℕ))
         → member_in names ≡ member_in others
@@ -58,7 +58,7 @@ pub fn a_space_more_is_of_one_line()
     ensures { (reader : LineReader) → length (lines_on reader (32 ∷ [])) ≡ 1 }
 {}
 
-/// What comes behind a text that ends where a line does is lines of its own.
+/// Where a text ends with the end of a line, whatever comes behind it is read as lines of its own.
 pub fn what_follows_an_ended_line_is_apart()
     ensures { (text more : List ℕ) → EndsALine text
         → lines_in (text ++ more) ≡ lines_in text ++ lines_in more }
@@ -71,8 +71,8 @@ pub fn digits_are_read_as_their_number()
         → option_and_then whole (text_says (Some text)) ≡ Some number }
 {}
 
-/// A log that is cut has each of its lines once, in order, under numbers that rise by one, each in
-/// one of the parts: all lines of a key are in the same.
+/// A log that is cut into parts has each of its lines once, in order, under numbers that rise by
+/// one, and each is in one of the parts. All lines of a key are in the same part.
 pub fn each_line_is_of_one_part()
     ensures lines { (member : List ℕ) (parts : ℕ) (above after : Above) (lines : List (List ℕ))
         (placed : List Placed) → placed_lines member parts above lines ≡ Ok (placed, after)
@@ -90,8 +90,9 @@ pub fn each_line_is_of_one_part()
         → All (λ (it : Placed). it.part ≡ part_of_key parts (key_of_line member it.line)) placed }
 {}
 
-/// What is read with the keys of its lines has a line, has clients and keys by the numbers of their
-/// names, each name once, times on all lines or on none, and no line that has learnt.
+/// A log that is read with the keys of its lines has at least one line. Its clients and keys are
+/// the numbers of their names, and each name has one number. All lines have times or none has, and
+/// no line has learnt.
 pub fn what_is_read_by_key_is_numbered_by_names()
     ensures { (member : List ℕ) (shown : List (List ℕ)) (number : Option (List ℕ))
         (bytes : List ℕ) (reading : Reading)

@@ -19,12 +19,12 @@ pub enum Member {
     Learn,
     /// When the call began, a whole number of any one unit.
     Began,
-    /// When it ended, in the same unit, or null where that is not known.
+    /// When the call ended, in the unit of `Began`, or null where that is not known.
     Ended,
 }
 
 impl Member {
-    /// Its name in a line's object: the variant's, in small letters.
+    /// The name of the member in a line's object: the variant's name, in small letters.
     pub fn name(self) -> &'static str
         ensures { result.now ≡ name_of self }
     {

@@ -35,11 +35,11 @@ pub struct NamedLog {
     pub log: Log,
     /// The names of the log's clients, each at its client's number.
     pub names: Names,
-    /// The keys of its lines, if they are kept.
+    /// The keys of the log's lines, if they are kept.
     pub keys: Option<Keys>,
-    /// Their own numbers, if they have such.
+    /// The own numbers of the log's lines, if they have such.
     pub numbers: Option<OwnNumbers>,
-    /// What is shown beside them.
+    /// What is shown beside the log's lines.
     pub shown: Vec<Shown>,
 }
 

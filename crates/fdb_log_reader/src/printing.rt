@@ -9,7 +9,8 @@ use serde_json::Value;
 use std::alloc::{AllocError, Global};
 use std::fmt::Write;
 
-/// A name as it is printed: a JSON string, in which what is no text of its line is escaped too.
+/// A name as it is printed: a JSON string, in which characters that are not safe on a terminal or
+/// within a line are escaped too.
 ///
 /// Linear in the name.
 pub fn printed_name(alloc: Global, name: &str) -> Result<String, AllocError>
@@ -19,7 +20,8 @@ pub fn printed_name(alloc: Global, name: &str) -> Result<String, AllocError>
     shown_text(alloc, &text)
 }
 
-/// A text, in which what is no text of its line is escaped as in a JSON string.
+/// A text, in which characters that are not safe on a terminal or within a line are escaped as in a
+/// JSON string.
 ///
 /// Linear in the text.
 pub fn shown_text(alloc: Global, text: &str) -> Result<String, AllocError>

@@ -32,7 +32,7 @@ use std::alloc::{AllocError, Global};
 pub struct ReadLine {
     /// The line. It has times; its client is numbered by the reader's names.
     pub line: Line,
-    /// The number of its key, where keys are kept and it names one.
+    /// The number of the line's key, where keys are kept and the line names one.
     pub key: Option<u32>,
     /// For each member that is to be shown the JSON text of what it says, if it is there, as
     /// `serde_json` writes it, without white space.

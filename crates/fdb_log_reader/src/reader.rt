@@ -46,9 +46,9 @@ impl LogReader {
         LogReader::beginning(alloc, None, None, Vec::new(alloc))
     }
 
-    /// The same, where the member of a name has the keys of lines, if they are to be kept, others are
-    /// to be shown, and one has the numbers of lines, if they have their own. It fails only where
-    /// memory is refused.
+    /// A log of which nothing has been read. `key` names the member that has the keys of lines, if
+    /// they are to be kept, `shown` the members that are to be shown, and `numbers` the member that
+    /// has the lines' own numbers, if they have such. It fails only where memory is refused.
     pub fn with_columns(
         alloc: Global,
         key: Option<&str>,

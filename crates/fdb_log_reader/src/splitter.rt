@@ -27,8 +27,8 @@ impl Splitter {
     ghost use Rattle.fdb_log_reader.specs.Splitter.{HasPlaced, HasPlacedAll};
     ghost use Rattle.fdb_log_reader.specs.private.Placing.{KeepsBytes, PlacesLine};
 
-    /// A log of which nothing has been read, with so many lines above it, to be cut into so many
-    /// parts by the keys that a member of this name has. It fails only where memory is refused.
+    /// A log of which nothing has been read, with `first` lines above it, to be cut into `parts`
+    /// parts by the keys that its lines have in `member`. It fails only where memory is refused.
     pub fn new(alloc: Global, member: &str, parts: usize, first: u64) -> Result<Self, AllocError>
         requires { 0 < parts }
         ensures placed { IfOk result (λ it. (log : List ℕ) → placed_on it log

@@ -14,7 +14,7 @@ use fdb_live::{Live, Seen};
 pub enum Answer<J: Live> {
     /// The transactions start, and with this read version.
     Reply(Reply<J>),
-    /// They do not start, and the token comes back.
+    /// The transactions do not start, and the token comes back.
     Refused(Refused<J>),
 }
 
@@ -32,7 +32,7 @@ pub struct Reply<J: Live> {
     /// The record, with the live committed version and the minimum known committed version: whoever
     /// asked takes the one that its options name.
     pub rec: Record,
-    /// Its position: the number of changes by then.
+    /// The position of the record: the number of changes by then.
     pub position: u64,
     /// What throttles the request's tags, in their order.
     pub limits: Sequence<TagLimit>,

@@ -5,7 +5,7 @@ use fdb_queue::QueueError;
 /// Why a proxy does not start a request.
 #[derive(Clone, Copy, Debug, PartialEq, Eq)]
 pub enum Cause {
-    /// Its queue did not let it in, or pushed it out as `Full`.
+    /// The proxy's queue did not let the request in, or pushed it out as `Full`.
     Queue(QueueError),
     /// The proxy's desk was closed before the request started.
     Closed,

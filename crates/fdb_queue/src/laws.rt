@@ -137,9 +137,10 @@ pub fn waits_are_bounded<T>()
         (elapsed * limit_of queue.config first.priority) }
 {}
 
-/// What was set last counts. Each call that sets a throttle leaves some that stand for the new one
-/// before those there were: so those that are kept always stand for the list of all that were set,
-/// the newest first, and the limits of any tags are the same by either.
+/// The throttle that was set last counts. A call that sets a throttle leaves throttles that stand
+/// for the new one followed by those that were kept before. So the throttles that are kept always
+/// stand for the list of all that were set, the newest first: the limits of any tags are the same
+/// by the kept ones and by that list.
 pub fn what_was_set_last_counts()
     ensures limits { (these those : List Throttle) (priority : Priority) (at : ℕ)
         (tags : List (List ℕ)) → SameThrottles these those

@@ -20,9 +20,9 @@ use whole::frame_of;
 ///
 /// It is refused as `NotJson` where the bytes are no JSON text that `serde_json` reads, then as
 /// `BadLimit` for a fault in the whole, then as `BadField` with the first command that has a fault,
-/// and as `Memory` where memory is refused. The time grows with the bytes, and with the logarithm of
-/// how many members an object has. Until it returns, it holds the JSON value of the whole text, also
-/// of what is ignored, which may take a hundred times as much memory as the bytes.
+/// and as `Memory` where memory is refused. The time grows with the bytes, and with the logarithm
+/// of how many members an object has. Until it returns, it holds the JSON value of the whole text,
+/// also of what is ignored, which may take up to 170 times as much memory as the bytes.
 pub fn read_script(alloc: Global, bytes: &[u8]) -> Result<Script, ScriptError>
     ensures { ReadsAs bytes.now result }
 {

@@ -11,7 +11,7 @@ pub struct SplitArguments {
     pub into: String,
     /// The member that names a line's key.
     pub key: String,
-    /// How many lines are above the first.
+    /// How many lines stand above the first line of the log.
     pub first: u64,
     /// Whether standard error is to tell how far the log has been read.
     pub progress: bool,
