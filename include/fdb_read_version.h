@@ -14,7 +14,7 @@
  * to align blocks for any type. A chain grows by the answers that its proxies have not processed. A
  * queue grows by the requests that wait, and by the throttles that are not forgotten. A handle
  * keeps the memory that it took for further use, until its `..._free` frees it; all other memory
- * is freed by the function that took it. An audit or a watch takes up to 140 KB of stack: that
+ * is freed by the function that took it. An audit or a watch takes up to 150 KB of stack: that
  * much where a line is nested as deep as it may be. The code is for x86-64-v2, and does not check
  * that the processor is.
  *
@@ -56,10 +56,10 @@ uint32_t fdb_read_version_version(void);
 
 /* What a function answers: FDB_OK, or why it refuses. Of a log there are also FDB_FAULT, which is a
  * verdict, and FDB_UNJUDGED, which says that there is no verdict.
- * (Texts and docs/FORMATS.md spell FDB_NOT_JSON as NotJson.) */
+ * (Texts and docs/LOG.md spell FDB_NOT_JSON as NotJson.) */
 enum {
     FDB_OK = 0,
-    FDB_BAD_EPOCH = 1,        /* the recovery version is at most the epoch's end, or 2^63 or more */
+    FDB_BAD_EPOCH = 1,        /* the recovery version is not above `epoch_end`, or 2^63 or more */
     FDB_NO_PROXY = 2,         /* not 1 to 64 commit proxies */
     FDB_UNKNOWN_PROXY = 3,    /* no such commit proxy */
     FDB_EARLY = 4,            /* the number is beyond the proxy's next one */
@@ -82,8 +82,11 @@ enum {
     FDB_SOME_TIMES = 38,      /* some lines have times, and some have none */
     FDB_BAD_MEMBER = 39,      /* a member is missing, of another kind, or may not stand there */
     FDB_EMPTY = 40,           /* a text has no line */
-    FDB_OVER = 41,            /* the log has ended, or it or memory was refused, before */
-    FDB_UNJUDGED = 42         /* no fault was told of a watched log, but lines came early */
+    FDB_OVER = 41,            /* an earlier call ended the audit or the watch: at the log's end, as
+                                 the log was refused, or as memory was */
+    FDB_UNJUDGED = 42,        /* no fault was told of a watched log, but lines came that had begun
+                                 before what was settled by then */
+    FDB_NOT_KEPT = 43         /* a text is not what a watch of these arguments keeps */
 };
 
 /* The name of an answer of a function, such as NOT_JSON, or NULL where there is no such answer. */
@@ -115,6 +118,7 @@ static inline const char *fdb_status_name(uint8_t status) {
     case FDB_EMPTY: return "EMPTY";
     case FDB_OVER: return "OVER";
     case FDB_UNJUDGED: return "UNJUDGED";
+    case FDB_NOT_KEPT: return "NOT_KEPT";
     default: return NULL;
     }
 }
@@ -170,9 +174,10 @@ uint8_t fdb_chain_new(uint64_t epoch_end, uint64_t recovery, uint32_t proxies, f
  * step is 1, and the next step counts from that earlier moment.
  *
  * A request that draws a version has the chain forget the kept answers of its proxy up to its
- * `processed`, but never its own answer. The number 0 is always forgotten. An answer takes up to
- * 144 bytes until it is forgotten: where the proxies process what they get, a chain stops growing,
- * and where one never does, the chain runs out of memory in the end.
+ * `processed`, but never its own answer. The number 0 has no answer: a request with it is refused
+ * with FDB_FORGOTTEN. An answer takes up to 144 bytes until it is forgotten: where the proxies
+ * process what they get, a chain stops growing, and where one never does, the chain runs out of
+ * memory in the end.
  *
  * FDB_OK, else FDB_UNKNOWN_PROXY, FDB_EARLY, FDB_FORGOTTEN, FDB_EXHAUSTED, the first that stands;
  * `answer->status` is the same, and a refusal leaves the chain as it was. FDB_MEMORY comes only
@@ -240,8 +245,8 @@ typedef struct fdb_request {
 /* The outcome of an operation, and what the queue then is. On a refusal the queue is what it was,
  * and all from `started` to `has_out` is 0 and false. */
 typedef struct fdb_outcome {
-    uint64_t normal;        /* the budget of the normal rate, of which FDB_TRANSACTION are one */
-    uint64_t batch;         /* the budget of the batch rate */
+    uint64_t normal;        /* the budget of the normal rate: FDB_TRANSACTION are one transaction */
+    uint64_t batch;         /* the budget of the batch rate, counted in the same way */
     uint64_t system_waits;  /* how many system requests wait */
     uint64_t default_waits; /* how many default requests wait */
     uint64_t batch_waits;   /* how many batch requests wait */
@@ -478,10 +483,10 @@ typedef struct fdb_refused {
 /* What can be wrong with a line. */
 enum {
     FDB_FAULT_ORDER = 1,     /* a read below what its caller knew: a stale read */
-    FDB_FAULT_WRONG = 2,     /* a read of a version that is not there */
+    FDB_FAULT_WRONG = 2,     /* a read of a version that nobody can have reported when it was new */
     FDB_FAULT_NOT_ABOVE = 3, /* a version was drawn that is not above all that its caller knew */
     FDB_FAULT_TWICE = 4,     /* a version was drawn twice, and not by commits alone */
-    FDB_FAULT_STRAY = 5      /* a report of a version that others drew, or that nobody can have */
+    FDB_FAULT_STRAY = 5      /* a report of a version that others drew, or nobody can have drawn */
 };
 
 /* The name of a kind of fault, as a text has it, or NULL where there is no such kind. */
@@ -501,7 +506,7 @@ enum {
     FDB_REASON_KNOWN = 1,      /* of ORDER and NOT_ABOVE: the caller knew `known` */
     FDB_REASON_UNREPORTED = 2, /* of WRONG: no line reports the version */
     FDB_REASON_REPORTED = 3,   /* of WRONG: `other`, the first line that reports it, knew `known` */
-    FDB_REASON_DRAWN = 4,      /* of TWICE and STRAY: `other` is the first other line that drew */
+    FDB_REASON_DRAWN = 4,      /* of TWICE, STRAY: `other` is the first other line that drew it */
     FDB_REASON_UNDRAWN = 5     /* of STRAY: no line drew the version */
 };
 
@@ -517,9 +522,9 @@ enum {
  * fdb_refused count them from 1. What the fault's reason does not name is 0. */
 typedef struct fdb_fault {
     uint64_t known;  /* the greatest version that was known: of REASON_KNOWN and REASON_REPORTED */
-    uint64_t late;   /* with `has_late`, by how much the call was late, in the times' unit, from the
-                        end of `first`: the fault stands under each lesser margin; 0 where `first`
-                        had not ended by then */
+    uint64_t late;   /* with `has_late`, by how much the call was late, in the times' unit: the time
+                        from the end of `first` to where the call began, or 0 where `first` had not
+                        ended when the call began; the fault stands under each lesser margin */
     uint32_t line;   /* the line at which the fault stands */
     uint32_t other;  /* the line that reported or drew: of REASON_REPORTED and REASON_DRAWN */
     uint32_t by;     /* the line that let `known` be known; of several, any */
@@ -529,13 +534,14 @@ typedef struct fdb_fault {
     uint8_t kind;    /* FDB_FAULT_ORDER to FDB_FAULT_STRAY */
     uint8_t reason;  /* FDB_REASON_KNOWN to FDB_REASON_UNDRAWN */
     uint8_t means;   /* how `known` was known, FDB_MEANS_START to FDB_MEANS_LEARNT */
-    bool has_late;   /* whether `late` and `first` are told: of ORDER and NOT_ABOVE, in a log with
-                        times, where a line that outdates the call has a known end, and the first
-                        of them to end is not the call itself, which may outdate what it drew */
+    bool has_late;   /* whether `late` and `first` are told: of ORDER and NOT_ABOVE alone, in a log
+                        with times. A line that outdates the call must have a known end. A call of
+                        NOT_ABOVE outdates the version that it drew itself: where it is the first of
+                        all these lines to end, this is false */
 } fdb_fault;
 
 /*
- * Audits the log that a text of JSON Lines stands for (docs/FORMATS.md), and writes what is found
+ * Audits the log that a text of JSON Lines stands for (docs/LOG.md), and writes what is found
  * to the start of `text`, in UTF-8, with no NUL. Of a log without a fault the text has the counts
  * and, with `history`, an order that explains the log. Of any other log it has the first fault, or
  * with `all` each, and why it stands. Each line of the text ends with a line feed. Of the log
@@ -637,8 +643,9 @@ uint8_t fdb_audit_push(fdb_audit *audit, const uint8_t *bytes, size_t bytes_leng
                        fdb_refused *refused);
 
 /*
- * Audits the log, which ends here, with half a line that has come last. What the audit kept of the
- * log is freed, and what it found stays. The audit is then over. `*audit` must be an audit.
+ * Audits the log, which ends here; a last line that came without a line feed is one of its lines.
+ * What the audit kept of the log is freed, and what it found stays. The audit is then over.
+ * `*audit` must be an audit.
  *
  * FDB_OK or FDB_FAULT; else the refusal, as by fdb_audit_push, and FDB_EMPTY where no line has
  * come. FDB_OVER where the audit was over before. With FDB_MEMORY or a refusal nothing is found.
@@ -648,8 +655,8 @@ uint8_t fdb_audit_end(fdb_audit *audit, fdb_refused *refused);
 
 /*
  * Writes the text of what was found to the start of `text`, with no NUL, as fdb_audit_log_text
- * does; nothing where nothing was found yet. The text may be asked for as often as one likes.
- * `*audit` must be an audit.
+ * does. The text is empty until fdb_audit_end has answered FDB_OK or FDB_FAULT. It may be asked for
+ * as often as one likes. `*audit` must be an audit.
  *
  * FDB_OK, and `*size` is how long the text is; or FDB_ROOM where `text` is too short: `*size` is
  * then the length that `text` needs, and nothing is written to `text`. No memory.
@@ -676,15 +683,15 @@ typedef struct fdb_watch_options {
 } fdb_watch_options;
 
 /* The handle of a watch, or none. A watch keeps the lines that may yet come to matter, the name of
- * each client and key, 8 bytes for each line that was refused and, with `totals`, each fault that
- * it told. */
+ * each client and key, 8 bytes for each line that was refused and, with `totals`, counts of at most
+ * 65,536 clients, keys and texts of each shown member. */
 typedef struct fdb_watch {
     void *at;
 } fdb_watch;
 #define FDB_WATCH_NONE {NULL}
 
 /*
- * Opens a watch of a log of which nothing has come: what `fdb_audit --follow` is (docs/FORMATS.md).
+ * Opens a watch of a log of which nothing has come: what `fdb_audit --follow` is (docs/LOG.md).
  * `key` is the name, in UTF-8, of the member that has a line's key, and each key is then watched by
  * itself; `shown` are the names of members that the text has beside each line that it tells, as for
  * fdb_audit_new. `*watch` must be none.
@@ -696,9 +703,29 @@ uint8_t fdb_watch_new(const fdb_watch_options *options, const uint8_t *key, size
                       const uint8_t *shown, size_t shown_length, fdb_watch *watch);
 
 /*
+ * Opens a watch that goes on from what a watch of the same arguments kept: `kept` is what
+ * fdb_watch_keep wrote, or the bytes of a file of `fdb_audit --keep`. It tells of the lines that
+ * come, which are those behind the first `kept_lines` lines of the log (docs/LOG.md), what that one
+ * would have told. All but `totals` and `json` have to be as they were there; a file that has a
+ * position (`--position`) is not taken. A text without a line opens a watch as fdb_watch_new does.
+ * `*watch` must be none.
+ *
+ * FDB_OK, else FDB_BAD_MEMBER (`key` or `shown` is no UTF-8: `refused->line` is then 0); or of the
+ * first line of `kept` that is not as it was kept FDB_NOT_KEPT, which of line 1 may also say that
+ * it was kept by other arguments, or why a log is refused, from FDB_TOO_LONG to FDB_BAD_MEMBER;
+ * FDB_NOT_JSON also where the last line has no end. `*refused` says which line, counted from 1 in
+ * `kept`. Or FDB_MEMORY. But for FDB_OK `*watch` is still none, and for FDB_OK and FDB_MEMORY
+ * `*refused` is as it was. `n log n` in the lines that were kept, and linear in the bytes.
+ */
+uint8_t fdb_watch_restore(const fdb_watch_options *options, const uint8_t *key, size_t key_length,
+                          const uint8_t *shown, size_t shown_length,
+                          const uint8_t *kept, size_t kept_length,
+                          fdb_watch *watch, fdb_refused *refused);
+
+/*
  * Takes the next bytes of a text of JSON Lines, cut anywhere. A line that is refused, also one
- * without times, is left out; the next call that says something tells of it among the warnings.
- * `*watch` must be a watch.
+ * without times, is left out; the next fdb_watch_tell or fdb_watch_end tells of it among the
+ * warnings. `*watch` must be a watch.
  *
  * FDB_OK. FDB_MEMORY ends the watch: what it kept of the log is freed, what was said last stays.
  * FDB_OVER where the watch was over before; nothing has changed then. Linear in the bytes.
@@ -712,7 +739,7 @@ uint8_t fdb_watch_push(fdb_watch *watch, const uint8_t *bytes, size_t bytes_leng
  * 8,192 lines that were not refused have come since it last looked. It looks at each call that
  * began more than `behind` before the newest end, and the log is then settled up to there. The
  * newest end is the newest that is believed: an end that is further ahead of what other clients'
- * lines have is not believed, so that one clock that is ahead moves nothing (docs/FORMATS.md).
+ * lines have is not believed, so that one clock that is ahead moves nothing (docs/LOG.md).
  *
  * A line that comes later, but began before where the log is settled, came early. Such a line is
  * not refused, and its version counts, but it is judged only if it began at most `behind` before
@@ -728,19 +755,20 @@ uint8_t fdb_watch_push(fdb_watch *watch, const uint8_t *bytes, size_t bytes_leng
 uint8_t fdb_watch_tell(fdb_watch *watch, bool is_idle);
 
 /*
- * Says what is left where the log ends, with half a line that has come last: the text and the
- * warnings are then that, as by fdb_watch_tell, and the watch is over. Where no fault was told,
- * the text is `audit ok` and how many lines were not refused; or, where lines came early, it is
- * `audit early`, how many lines were not refused, and how many of the early ones were judged.
- * Either goes on with how many ends were found to be ahead, where some were. With `json` the text
- * is empty in place of these, but for `totals`. `*watch` must be a watch.
+ * Says what is left where the log ends: the text and the warnings are then that, as by
+ * fdb_watch_tell, and the watch is over. A last line that came without a line feed is one of the
+ * log's lines. Where no fault was told, the text is one line: `audit ok`, or `audit early` where
+ * lines came early, and the counts `lines`, `reads`, `commits`, `asks`, `reports`, `refused` and
+ * `early`; then, where lines came early, how many of them were `judged`, and, where some ends were
+ * found to be `ahead`, how many. With `json` there is no such line: the text is then empty, or with
+ * `totals` has the totals as objects. `*watch` must be a watch.
  *
  * FDB_FAULT where a fault was told, at any time. Else why the last refused line was refused, from
  * FDB_TOO_LONG to FDB_BAD_MEMBER, as by fdb_audit_end, and `*refused` says which line it was;
- * FDB_EMPTY where no line came. Else FDB_UNJUDGED where lines came early, and `*refused` says
- * which of them was the last: then not all was judged, since `behind` is too small, or a clock is
- * ahead. Else FDB_OK. FDB_OVER and FDB_MEMORY leave text and warnings as they were. But for a
- * refusal and FDB_UNJUDGED `*refused` is as it was.
+ * FDB_EMPTY where no line came or was kept. Else FDB_UNJUDGED where lines came early, and
+ * `*refused` says which of them was the last: then not all was judged, since `behind` is too small,
+ * or a clock is ahead. Else FDB_OK. FDB_OVER and FDB_MEMORY leave text and warnings as they were.
+ * But for a refusal and FDB_UNJUDGED `*refused` is as it was.
  */
 uint8_t fdb_watch_end(fdb_watch *watch, fdb_refused *refused);
 
@@ -759,6 +787,43 @@ uint8_t fdb_watch_text(fdb_watch *watch, uint8_t *text, size_t text_length, uint
  * first, second, fourth, eighth and so on that came early, or that shows that a clock is ahead,
  * with its number, by how much, and how many did so far. */
 uint8_t fdb_watch_warnings(fdb_watch *watch, uint8_t *text, size_t text_length, uint64_t *size);
+
+/*
+ * Writes the text of what is kept to the start of `text`, with no NUL: the lines that may yet come
+ * to matter, by which fdb_watch_restore goes on, or `fdb_audit --follow --keep`, as their bytes in
+ * its file. Ask for it once what was said has been written where it is to go: it is not said again,
+ * and neither are warnings. A line that has come without its end is not kept, nor counted in
+ * `kept_lines`: it is to come again, whole. `*watch` must be a watch, and goes on as it was.
+ *
+ * FDB_OK, and `*size` is how long the text is; nothing is kept where that is 0. Or FDB_ROOM where
+ * `text` is too short: `*size` is then the length that `text` needs, and nothing is written to
+ * `text`, but the text is held until it is written, or the watch is told more, tells or ends: so
+ * it is made once. Else FDB_OVER, FDB_MEMORY or FDB_NOT_KEPT: a text that is made is read back,
+ * and does not say what is kept; then nothing is written. `n log n` in the lines that are kept.
+ */
+uint8_t fdb_watch_keep(fdb_watch *watch, uint8_t *text, size_t text_length, uint64_t *size);
+
+/* How far a log has been followed, as `fdb_audit --follow --json` tells it in `watched`. Lines that
+ * were kept of others (fdb_watch_restore) are among `open` and `kept` alone. */
+typedef struct fdb_watch_counted {
+    uint64_t lines;      /* lines that were not refused */
+    uint64_t reads;      /* and of each kind */
+    uint64_t commits;
+    uint64_t asks;
+    uint64_t reports;
+    uint64_t refused;    /* lines that were refused */
+    uint64_t early;      /* lines that came early */
+    uint64_t judged;     /* how many of these were judged */
+    uint64_t ahead;      /* how often an end was found to be ahead of a line that came later */
+    uint64_t open;       /* lines of which not all is told that there is to tell */
+    uint64_t kept;       /* lines that are kept, those that are open among them */
+    uint64_t newest_end; /* the newest end that is believed, in the times' unit; 0 where none is */
+    uint64_t settled_to; /* the moment up to which all is told */
+} fdb_watch_counted;
+
+/* Writes to `*counts` how far the log has been followed. `*watch` must be a watch. FDB_OK, or
+ * FDB_OVER, which writes nothing. Constant time; no memory. */
+uint8_t fdb_watch_counts(fdb_watch *watch, fdb_watch_counted *counts);
 
 /* Frees a watch, over or not; the handle is then none. With FDB_WATCH_NONE it does nothing. */
 void fdb_watch_free(fdb_watch *watch);

@@ -213,6 +213,8 @@ class OfHandles(unittest.TestCase):
             (watch.text, ()),
             (watch.objects, ()),
             (watch.warnings, ()),
+            (watch.keep, ()),
+            (watch.counts, ()),
             (Chain.__new__(Chain).ask, (0, 1, 0)),
         ):
             with self.assertRaisesRegex(ValueError, "is closed"):
@@ -230,14 +232,22 @@ class OfHandles(unittest.TestCase):
             _fields_ = [(str(it), ctypes.c_size_t) for it in range(10)]
 
         library.mallinfo2.restype = Counts
-        config = QueueConfig(1, 1, 1)
+        config, text = QueueConfig(1, 1, 1), KEPT[0] % (2, 2) + KEPT[1]
+
+        def restored(behind):
+            watch = Watch.restore(text, behind)
+            self.assertEqual(watch.keep(), text)
+            return watch
+
         for kind, given, again in (
             (Chain, (100, 200, 64), (0, 1, 1)),
             (GrvQueue, (config,), (config,)),
             (Audit, (), ()),
             (Watch, (5,), (6,)),
+            (restored, (5,), (6,)),
         ):
-            for ends in ([kind.close], [lambda it: it.__init__(*again), kind.close], []):
+            closed = lambda it: it.close()
+            for ends in ([closed], [lambda it: it.__init__(*again), closed], []):
                 kept, before = [], library.mallinfo2()
                 for _ in range(1000):
                     made = kind(*given)
@@ -561,6 +571,10 @@ TIMED = '{"client":"c","read":0,"began":%d,"ended":%d}\n'
 FIRST = TIMED % (90, 110) + (TIMED % (90, 110)).replace('"c"', '"d"')
 CAME = ("fdb_audit: early line %d: it began %d before what had been settled; %d so far: "
         "--follow is too small, or a clock is ahead\n")
+# What is kept of the stale read by a watch of 5, of which nothing is settled.
+KEPT = ('{"client":"a","commit":200,"began":10,"ended":14,"kept_line":1,"kept_lines":%d,'
+        '"kept_clients":%d,"kept_by":"--follow 5 --margin 0"}\n',
+        '{"client":"é","read":100,"began":15,"ended":16,"kept_line":2,"kept_lines":2}\n')
 ALL_EARLY = "audit early lines %d reads %d commits 0 asks 0 reports 0 refused %d early %d judged 1\n"
 
 
@@ -683,6 +697,58 @@ class OfWatches(unittest.TestCase):
                                        "refused 0 early 0 ahead 1\n")
         self.assertEqual(watch.warnings(), "fdb_audit: a clock is ahead: above line 4 a line of "
                          "another client ended 887 after it; 1 so far: it is not believed\n")
+
+    def test_what_is_kept(self):
+        watch = Watch(5)
+        self.assertEqual(watch.keep(), "")
+        watch.push(STALE[:-3])
+        self.assertEqual(watch.keep(), KEPT[0] % (1, 1))
+        watch.push(STALE[-3:])
+        kept = watch.keep()
+        self.assertEqual(kept, KEPT[0] % (2, 2) + KEPT[1])
+        self.assertEqual(watch.counts(), WatchCounts(
+            lines=2, reads=1, commits=1, asks=0, reports=0, refused=0, early=0, judged=0, ahead=0,
+            open=2, kept=2, newest_end=16, settled_to=0))
+        self.assertEqual((watch.end(), watch.text()), (Status.FAULT, SAID % (2, 2)))
+        for call in (watch.keep, watch.counts):
+            self.refused(Refused(Status.OVER), call)
+        for given in (kept, kept.encode(), memoryview(kept.encode())):
+            watch = Watch.restore(given, 5, json=True, totals=True)
+            self.assertEqual((watch.text(), watch.warnings(), watch.keep()), ("", "", kept))
+            self.assertEqual(watch.counts()[:9], (0,) * 9)
+            watch.push("{}\n")
+            self.assertEqual(watch.end(), Status.FAULT)
+            self.assertEqual(watch.objects()[0]["at"]["line"], 2)
+            self.assertTrue(watch.warnings().startswith("fdb_audit: logs refused: NoCall 3: "))
+
+    def test_what_goes_on(self):
+        # Line 4 says that the clock of line 3 is right; then line 2 is settled.
+        lines = [*STALE.splitlines(True), TIMED % (30, 31), TIMED.replace('"c"', '"d"') % (30, 31),
+                 TIMED % (32, 33)]
+        for cut in range(len(lines) + 1):
+            told, watch = [], Watch(5)
+            for number, line in enumerate(lines):
+                if number == cut:
+                    watch = Watch.restore(watch.keep(), 5)
+                watch.push(line)
+                told.append(watch.tell())
+            self.assertEqual(told, ["", "", "", SAID % (2, 2), ""], cut)
+
+    def test_what_is_not_kept(self):
+        kept = KEPT[0] % (2, 2) + KEPT[1]
+        for given, asked, wanted in (
+            (kept, {"behind": 6}, LogRefused(Status.NOT_KEPT, 1)),
+            (kept, {"margin": 1}, LogRefused(Status.NOT_KEPT, 1)),
+            (kept, {"key": "k"}, LogRefused(Status.NOT_KEPT, 1)),
+            (kept, {"show": ("a", "b")}, LogRefused(Status.NOT_KEPT, 1)),
+            (kept + KEPT[1], {}, LogRefused(Status.NOT_KEPT, 3)),
+            (kept[:-2], {}, LogRefused(Status.NOT_JSON, 2)),
+            ('{"client":[]}\n', {}, LogRefused(Status.BAD_MEMBER, 1, Member.CLIENT)),
+            (kept, {"key": b"\xff"}, Refused(Status.BAD_MEMBER)),
+        ):
+            self.refused(wanted, lambda: Watch.restore(given, **{"behind": 5, **asked}))
+        self.assertEqual(str(LogRefused(Status.NOT_KEPT, 3)), "NOT_KEPT 3")
+        self.refused(LogRefused(Status.EMPTY, 0), Watch.restore("", 5).end)
 
     def followed(self, *pieces, behind):
         """The status, the output and the errors of the program that follows a log of these pieces."""

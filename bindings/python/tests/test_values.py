@@ -22,7 +22,7 @@ NUMBERS = {
     Status: "OK=0 BAD_EPOCH=1 NO_PROXY=2 UNKNOWN_PROXY=3 EARLY=4 FORGOTTEN=5 EXHAUSTED=6 MEMORY=7 "
     "ROOM=8 BAD_OP=16 BAD_CONFIG=17 BAD_COUNT=18 BATCH_THROTTLED=19 FULL=20 TAG_TOO_LONG=21 "
     "FAULT=32 TOO_LONG=33 TOO_MANY=34 NOT_JSON=35 NO_CALL=36 TWO_CALLS=37 SOME_TIMES=38 "
-    "BAD_MEMBER=39 EMPTY=40 OVER=41 UNJUDGED=42",
+    "BAD_MEMBER=39 EMPTY=40 OVER=41 UNJUDGED=42 NOT_KEPT=43",
     Priority: "SYSTEM=0 DEFAULT=1 BATCH=2",
     Member: "CLIENT=1 READ=2 COMMIT=3 ASK=4 REPORT=5 LEARN=6 BEGAN=7 ENDED=8 KEY=9",
     FaultKind: "ORDER=1 WRONG=2 NOT_ABOVE=3 TWICE=4 STRAY=5",
@@ -51,6 +51,7 @@ VALUES = [
     (Refused(Status.EARLY, 3), Refused(Status.EARLY, 4)),
     (LogRefused(Status.EMPTY, 0), LogRefused(Status.BAD_MEMBER, 1, Member.ENDED)),
     (LogRefused(Status.MEMORY, 0), Refused(Status.MEMORY)),
+    (WatchCounts(*range(13)), WatchCounts(*range(1, 14))),
 ]
 
 
@@ -150,6 +151,8 @@ class OfInputs(unittest.TestCase):
             "bytes that are shown": lambda: Watch(5, show=[b"node"]),
             "nothing that is shown": lambda: audit_text(b"", show=None),
             "no bound": lambda: Watch(None),
+            "what is kept": lambda: Watch.restore(None, 5),
+            "no bound of what is kept": lambda: Watch.restore("", None),
             "a kind": lambda: audit([Call("READ", 1, 1)]),
         })
         self.assertEqual(queue.offer(1).waits, (0, 1, 0))
@@ -166,6 +169,7 @@ class OfInputs(unittest.TestCase):
             "a margin below 0": lambda: audit(b"", margin=-1),
             "a start below 0": lambda: Audit(complete=-1),
             "a bound below 0": lambda: Watch(-1),
+            "a bound below 0 of what is kept": lambda: Watch.restore(b"", -1),
             "a margin above 64 bits": lambda: Watch(5, margin=1 << 64),
             "a comma in what is shown": lambda: Audit(show=["a", "b,c"]),
             "an empty name that is shown": lambda: Watch(5, show=["a", ""]),

@@ -31,7 +31,7 @@ pub use log::{
     Late, Line, LogError, Means, Member, Reason, Times, Wanted, Wrong,
 };
 pub use record::Record;
-pub use watch::{Watch, WatchOptions};
+pub use watch::{Watch, WatchCounts, WatchOptions};
 
 #[cfg(test)]
 mod tests {

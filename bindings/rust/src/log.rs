@@ -135,7 +135,7 @@ pub struct Wanted {
     pub json: bool,
 }
 
-/// What can be wrong with a line; docs/FORMATS.md says more of each.
+/// What can be wrong with a line; docs/LOG.md says more of each.
 ///
 /// ```
 /// use fdb_read_version::{audit_log, AuditOptions, FaultKind};
@@ -331,6 +331,8 @@ pub enum Wrong {
     SomeTimes,
     /// This member is missing, of another kind, or may not stand there.
     BadMember(Member),
+    /// It is not what a [`Watch`](crate::Watch) of these arguments keeps.
+    NotKept,
 }
 
 /// Why a log is not audited.
@@ -346,8 +348,8 @@ pub enum Wrong {
 pub enum LogError {
     /// A line is wrong, or there is none.
     Refused {
-        /// The first such line, of a [`Watch`](crate::Watch) the last, counted from 1; 0 for
-        /// `Wrong::Empty`.
+        /// The first such line, of the end of a [`Watch`](crate::Watch) the last, counted from 1; 0
+        /// for `Wrong::Empty`.
         line: u64,
         /// What is wrong.
         wrong: Wrong,
@@ -393,6 +395,7 @@ impl fmt::Display for Wrong {
             Wrong::TwoCalls => "it names two calls",
             Wrong::SomeTimes => "some lines have times, and some have none",
             Wrong::BadMember(member) => return write!(f, "its member {member} is bad"),
+            Wrong::NotKept => "it is not what a watch of these arguments keeps",
         })
     }
 }
@@ -437,6 +440,7 @@ fn wrong_of(status: u8, refused: &sys::fdb_refused) -> Result<Wrong, LogError> {
         sys::FDB_SOME_TIMES => Wrong::SomeTimes,
         sys::FDB_BAD_MEMBER => Wrong::BadMember(member_of(refused.member)?),
         sys::FDB_EMPTY => Wrong::Empty,
+        sys::FDB_NOT_KEPT => Wrong::NotKept,
         sys::FDB_UNJUDGED => return Err(LogError::Unjudged { line: refused.line }),
         sys::FDB_OVER => return Err(LogError::Over),
         sys::FDB_MEMORY => return Err(LogError::Memory),
@@ -681,6 +685,7 @@ mod tests {
                 38 => Wrong::SomeTimes,
                 39 => Wrong::BadMember(Member::Client),
                 40 => Wrong::Empty,
+                43 => Wrong::NotKept,
                 other => {
                     let wanted = match other {
                         7 => LogError::Memory,

@@ -36,9 +36,42 @@ pub struct WatchOptions<'a> {
     pub json: bool,
 }
 
+/// How far a log has been followed: what `fdb_audit --follow --json` tells in `watched`. Lines that
+/// were kept of others ([`Watch::restore`]) are among `open` and `kept` alone.
+#[derive(Clone, Copy, Debug, Default, PartialEq, Eq, Hash, PartialOrd, Ord)]
+pub struct WatchCounts {
+    /// Lines that were not refused.
+    pub lines: u64,
+    /// How many of them were reads.
+    pub reads: u64,
+    /// How many were commits.
+    pub commits: u64,
+    /// How many drew a commit version.
+    pub asks: u64,
+    /// How many reported one as committed.
+    pub reports: u64,
+    /// Lines that were refused.
+    pub refused: u64,
+    /// How many lines had begun before what was settled when they came.
+    pub early: u64,
+    /// How many of the early lines were judged.
+    pub judged: u64,
+    /// How often an end was found to be ahead of a line that came later.
+    pub ahead: u64,
+    /// Lines of which not all is told that there is to tell.
+    pub open: u64,
+    /// Lines that are kept, those that are open among them.
+    pub kept: u64,
+    /// The newest end that is believed, in the unit of the times; 0 where none is.
+    pub newest_end: u64,
+    /// The moment up to which all is told.
+    pub settled_to: u64,
+}
+
 /// A watch of JSON Lines that come piece by piece: what `fdb_audit --follow` is. It keeps the lines
 /// that may yet come to matter, the name of each client and key, 8 bytes for each line that was
-/// refused and, with `totals`, each fault that it told.
+/// refused and, with `totals`, counts of at most 65,536 clients, keys and texts of each shown
+/// member.
 ///
 /// ```
 /// use fdb_read_version::{LogError, Watch, WatchOptions};
@@ -90,6 +123,55 @@ impl Watch {
             sys::fdb_watch_new(&options, name, key.len(), names, shown.len(), &mut handle)
         };
         taken(status).map(|()| Watch { handle })
+    }
+
+    /// A watch that goes on from what [`keep`](Watch::keep) gave, or a file of `fdb_audit --keep` has:
+    /// it tells of the lines that come, which are those behind the first `kept_lines` lines of the
+    /// log, what the watch that kept them would have told. But for `totals` and `json` the options are
+    /// those of that one, which had no `--position`. A text without a line is a new watch.
+    ///
+    /// # Errors
+    /// `Refused` with the first line of `kept` that is not as it was kept: as `NotKept`, which of line
+    /// 1 may also say that it was kept by other options, or, as of a line that was cut off, `NotJson`.
+    /// `Memory`.
+    ///
+    /// ```
+    /// use fdb_read_version::{LogError, Watch, WatchOptions, Wrong};
+    ///
+    /// let options = WatchOptions { behind: 10, ..WatchOptions::default() };
+    /// let mut watch = Watch::new(&options)?;
+    /// watch.push(b"{\"client\":\"a\",\"commit\":200,\"began\":10,\"ended\":14}\n")?;
+    /// let kept = watch.keep()?;
+    /// let mut watch = Watch::restore(&options, kept.as_bytes())?;
+    /// assert_eq!((watch.counts()?.lines, watch.counts()?.kept), (0, 1));
+    /// watch.push(b"{\"client\":\"b\",\"read\":100,\"began\":15,\"ended\":16}\n")?;
+    /// assert!(watch.end()?);
+    /// assert!(watch.text().starts_with("audit fault: Order 2: client \"b\" read 100, but 200 "));
+    /// let others = WatchOptions { behind: 11, ..options };
+    /// let refused = Watch::restore(&others, kept.as_bytes()).unwrap_err();
+    /// assert_eq!(refused, LogError::Refused { line: 1, wrong: Wrong::NotKept });
+    /// # Ok::<(), LogError>(())
+    /// ```
+    pub fn restore(options: &WatchOptions<'_>, kept: &[u8]) -> Result<Watch, LogError> {
+        let (key, shown) = (options.key, options.shown);
+        let (options, mut handle) = (raw_options(options), sys::FDB_WATCH_NONE);
+        let (name, names) = (key.as_ptr(), shown.as_ptr());
+        let mut refused = sys::fdb_refused::default();
+        // SAFETY: the handle is none, and the lengths are those of the names and the text.
+        let status = unsafe {
+            sys::fdb_watch_restore(
+                &options,
+                name,
+                key.len(),
+                names,
+                shown.len(),
+                kept.as_ptr(),
+                kept.len(),
+                &mut handle,
+                &mut refused,
+            )
+        };
+        done(status, &refused).map(|()| Watch { handle })
     }
 
     /// Takes the next bytes of the log, cut anywhere. A line that is refused, also one without times,
@@ -149,5 +231,53 @@ impl Watch {
         text(|at, length, size| unsafe {
             sys::fdb_watch_warnings(&mut self.handle, at, length, size)
         })
+    }
+
+    /// The text of what is kept: the lines that may yet come to matter, for
+    /// [`restore`](Watch::restore); `fdb_audit --follow --keep` goes on from it too, as a file.
+    ///
+    /// Ask for it once what was said has been written where it is to go: neither that nor warnings
+    /// are said again. A line that has come without its end is not kept, and is to come again.
+    ///
+    /// # Errors
+    /// `Memory`, which leaves the watch as it was; `Over`; `Refused` as `NotKept` with line 0: the text
+    /// is read back, and does not say what is kept.
+    pub fn keep(&mut self) -> Result<String, LogError> {
+        let mut status = sys::FDB_OK;
+        let kept = text(|at, length, size| {
+            // SAFETY: the handle is a watch, and the length that of the array.
+            status = unsafe { sys::fdb_watch_keep(&mut self.handle, at, length, size) };
+            status
+        });
+        taken(status).map(|()| kept)
+    }
+
+    /// How far the log has been followed, in constant time.
+    ///
+    /// # Errors
+    /// `Over`.
+    pub fn counts(&mut self) -> Result<WatchCounts, LogError> {
+        let mut counted = sys::fdb_watch_counted::default();
+        // SAFETY: the handle is a watch.
+        taken(unsafe { sys::fdb_watch_counts(&mut self.handle, &mut counted) })?;
+        Ok(counts_of(&counted))
+    }
+}
+
+fn counts_of(it: &sys::fdb_watch_counted) -> WatchCounts {
+    WatchCounts {
+        lines: it.lines,
+        reads: it.reads,
+        commits: it.commits,
+        asks: it.asks,
+        reports: it.reports,
+        refused: it.refused,
+        early: it.early,
+        judged: it.judged,
+        ahead: it.ahead,
+        open: it.open,
+        kept: it.kept,
+        newest_end: it.newest_end,
+        settled_to: it.settled_to,
     }
 }

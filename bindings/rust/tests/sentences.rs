@@ -6,7 +6,7 @@ use std::error::Error;
 #[test]
 fn each_error_says_why() {
     let refused = |line, wrong| LogError::Refused { line, wrong };
-    let said: [(&dyn Error, &str); 27] = [
+    let said: [(&dyn Error, &str); 28] = [
         (&ChainError::BadEpoch, "the recovery version is out of range"),
         (&ChainError::NoProxy, "the number of commit proxies is out of range"),
         (&ChainError::UnknownProxy, "there is no such commit proxy"),
@@ -30,6 +30,7 @@ fn each_error_says_why() {
         (&refused(5, Wrong::TwoCalls), "line 5: it names two calls"),
         (&refused(6, Wrong::SomeTimes), "line 6: some lines have times, and some have none"),
         (&refused(7, Wrong::BadMember(Member::Key)), "line 7: its member key is bad"),
+        (&refused(0, Wrong::NotKept), "it is not what a watch of these arguments keeps"),
         (&LogError::Unjudged { line: 8 }, "not all was judged: line 8 came early"),
         (&LogError::Over, "it is over"),
         (&LogError::Memory, "out of memory"),

@@ -1,6 +1,6 @@
 //! What watches tell, as it was worked out by hand.
 
-use fdb_read_version::{LogError, Member, Watch, WatchOptions, Wrong};
+use fdb_read_version::{LogError, Member, Watch, WatchCounts, WatchOptions, Wrong};
 
 const COMMIT: &str = "{\"client\":\"a\",\"commit\":200,\"began\":10,\"ended\":14}\n";
 const READ: &str = "{\"client\":\"b\",\"read\":100,\"began\":15,\"ended\":16}\n";
@@ -172,4 +172,88 @@ fn a_clock_that_is_ahead() {
     let said = "fdb_audit: a clock is ahead: above line 4 a line of another client ended 887 after it; \
                 1 so far: it is not believed\n";
     assert_eq!(watch.warnings(), said);
+}
+
+/// What is kept of the stale read by a watch of 5, of which nothing is settled.
+fn kept(lines: u64, clients: u64) -> String {
+    let first = "{\"client\":\"a\",\"commit\":200,\"began\":10,\"ended\":14,\"kept_line\":1";
+    let by = "\"kept_by\":\"--follow 5 --margin 0\"";
+    format!("{first},\"kept_lines\":{lines},\"kept_clients\":{clients},{by}}}\n")
+}
+
+const SECOND_KEPT: &str = "{\"client\":\"b\",\"read\":100,\"began\":15,\"ended\":16,\
+                           \"kept_line\":2,\"kept_lines\":2}\n";
+
+#[test]
+fn what_is_kept() {
+    let mut watch = opened(5, "");
+    assert_eq!(watch.keep(), Ok(String::new()));
+    let (piece, rest) = READ.split_at(9);
+    watch.push(format!("{COMMIT}{piece}").as_bytes()).unwrap();
+    assert_eq!(watch.keep(), Ok(kept(1, 1)));
+    watch.push(rest.as_bytes()).unwrap();
+    let text = watch.keep().unwrap();
+    assert_eq!(text, kept(2, 2) + SECOND_KEPT);
+    let counts = WatchCounts { open: 2, kept: 2, newest_end: 16, ..WatchCounts::default() };
+    assert_eq!(watch.counts(), Ok(WatchCounts { lines: 2, reads: 1, commits: 1, ..counts }));
+    assert_eq!((watch.end(), watch.text()), (Ok(true), said(2)));
+    assert_eq!((watch.keep(), watch.counts()), (Err(LogError::Over), Err(LogError::Over)));
+    let options = WatchOptions { behind: 5, totals: true, json: true, ..WatchOptions::default() };
+    let mut watch = Watch::restore(&options, text.as_bytes()).unwrap();
+    assert_eq!((watch.text(), watch.keep()), (String::new(), Ok(text)));
+    let again = watch.counts().unwrap();
+    assert_eq!((again.lines, again.open, again.kept), (0, 2, 2));
+    watch.push(b"{}\n").unwrap();
+    assert_eq!(watch.end(), Ok(true));
+    let text = watch.text();
+    assert!(text.starts_with("{\"fault\":\"Order\",\"at\":{\"line\":2,"), "{text}");
+    assert!(watch.warnings().starts_with("fdb_audit: logs refused: NoCall 3: "));
+}
+
+#[test]
+fn what_goes_on() {
+    // Line 4 says that the clock of line 3 is right; then line 2 is settled.
+    let (third, fourth) = (timed(30, 31), timed(30, 31).replace("\"c\"", "\"d\""));
+    let lines = [COMMIT.to_string(), READ.to_string(), third, fourth, timed(32, 33)];
+    let options = WatchOptions { behind: 5, ..WatchOptions::default() };
+    for cut in 0..lines.len() {
+        let mut watch = Watch::new(&options).unwrap();
+        for (number, line) in lines.iter().enumerate() {
+            if number == cut {
+                let kept = watch.keep().unwrap();
+                watch = Watch::restore(&options, kept.as_bytes()).unwrap();
+            }
+            watch.push(line.as_bytes()).unwrap();
+            let wanted = if number == 3 { said(2) } else { String::new() };
+            assert_eq!(watch.tell(true), Ok(wanted), "{cut}, {number}");
+        }
+    }
+}
+
+#[test]
+fn what_is_not_kept() {
+    let options = WatchOptions { behind: 5, ..WatchOptions::default() };
+    let text = kept(2, 2) + SECOND_KEPT;
+    let refused = |options: WatchOptions<'_>, text: &str| {
+        Watch::restore(&options, text.as_bytes()).map(drop).unwrap_err()
+    };
+    let others = [
+        WatchOptions { behind: 6, ..options },
+        WatchOptions { margin: 1, ..options },
+        WatchOptions { key: "k", ..options },
+        WatchOptions { shown: "k", ..options },
+    ];
+    let not_kept = |line| LogError::Refused { line, wrong: Wrong::NotKept };
+    for other in others {
+        assert_eq!(refused(other, &text), not_kept(1));
+    }
+    assert_eq!(refused(options, &format!("{text}{SECOND_KEPT}")), not_kept(3));
+    let cut = LogError::Refused { line: 2, wrong: Wrong::NotJson };
+    assert_eq!(refused(options, &text[..text.len() - 2]), cut);
+    let client = LogError::Refused { line: 1, wrong: Wrong::BadMember(Member::Client) };
+    assert_eq!(refused(options, "{\"client\":[]}\n"), client);
+    let said = "line 3: it is not what a watch of these arguments keeps";
+    assert_eq!(not_kept(3).to_string(), said);
+    let empty = Err(LogError::Refused { line: 0, wrong: Wrong::Empty });
+    assert_eq!(Watch::restore(&options, b"").unwrap().end(), empty);
 }

@@ -1,11 +1,10 @@
 -- The lines that are taken, of those that were read, and the numbers under which they are printed.
-use Rattle.std.proofs.Common.{◌≡◌, ◌∙◌, ℕ, zero, suc, ◌+◌, ◌-◌, ◌^◌, ◌<◌, ◌≤◌, Bool, true, false, cond, List, [], ◌∷◌, ◌++◌, Option, None, Some, Result, Ok, Err, ap, arith, count_by, drop, get_or, inl, inr, length, length-drop, map, min, nat_le, nat_lt, refl, slice_get, subst, sym, take}
+use Rattle.std.proofs.Common.{◌≡◌, ◌∙◌, ℕ, zero, suc, ◌+◌, ◌-◌, ◌^◌, ◌<◌, ◌≤◌, Bool, true, false, cond, List, [], ◌∷◌, ◌++◌, Option, None, Some, Result, Ok, Err, ap, arith, count_by, drop, get_or, length, length-drop, map, min, nat_le, nat_lt, refl, slice_get, subst, sym, take}
 use Rattle.std.specs.Option.{option_or}
 use Rattle.std.specs.Prelude.{unwrap_or}
 use Rattle.std.specs.List.{All}
 use Rattle.std.specs.List.Sorted.{IsPartitionPoint}
 use Rattle.std.proofs.lemmas.List.{get_or_append_left, get_or_push, length-map, length_push, map_push, take_more}
-use Rattle.std.proofs.lemmas.Bool.{cases_lt}
 use Rattle.std.proofs.lemmas.Bool.Decides.{nat_tests}
 use Rattle.std.proofs.lemmas.List.Sums.{count_by-le-length, sum_by-append, sum_by-cons}
 use Rattle.fdb_lines.specs.declared.fault.Found.{Found}
@@ -85,7 +84,7 @@ since_more start read said le = ap lines_taken (drop_on start.lines read (Ok sai
 since_same : (start : Start) (read : List (Result SaidLine Why)) (why : Why) → start.lines ≤ length read → lines_since start (read ++ Err why ∷ []) ≡ lines_since start read
 since_same start read why le = ap lines_taken (drop_on start.lines read (Err why ∷ []) le) ∙ lines_same (drop start.lines read) why
 
-since_few : (start : Start) (read : List (Result SaidLine Why)) → length (lines_since start read) ≤ length read
+pub since_few : (start : Start) (read : List (Result SaidLine Why)) → length (lines_since start read) ≤ length read
 since_few start read =
     let part = drop start.lines read in
     let one = length-map (taken part) (λ (said : SaidLine). said.line) in
@@ -113,50 +112,40 @@ last_same number last [] said = refl
 last_same number last (Ok other ∷ read) said = last_same (number + 1) last read said
 last_same number last (Err why ∷ read) said = last_same (number + 1) (Some (error_at number why)) read said
 
-last_of_none : (above number : ℕ) (last : Option ReadError) (read : List (Result SaidLine Why)) → length (taken_above above read) ≡ 0 → last_refused number last read ≡ last
-last_of_none above number last [] none = refl
-last_of_none above number last (Ok said ∷ read) none = last_of_none (above + 1) (number + 1) last read none
-last_of_none above number last (Err why ∷ read) none = absurd (omega (arith, none))
-
 last_of_some : (number : ℕ) (one : ReadError) (read : List (Result SaidLine Why)) → (it : ReadError) × (last_refused number (Some one) read ≡ Some it)
 last_of_some number one [] = (one, refl)
 last_of_some number one (Ok said ∷ read) = last_of_some (number + 1) one read
 last_of_some number one (Err why ∷ read) = last_of_some (number + 1) (error_at number why) read
 
-last_there : (above number : ℕ) (last : Option ReadError) (read : List (Result SaidLine Why)) → 0 < length (taken_above above read)
-    → (it : ReadError) × (last_refused number last read ≡ Some it)
-last_there above number last [] some = absurd (omega (arith, some))
-last_there above number last (Ok said ∷ read) some = last_there (above + 1) (number + 1) last read some
-last_there above number last (Err why ∷ read) some = last_of_some (number + 1) (error_at number why) read
+-- where some were refused before, these count if none is
+pub last_on : (number : ℕ) (before : Option ReadError) (read : List (Result SaidLine Why)) → last_refused number before read ≡ option_or (last_refused number None read) before
+last_on number before [] = refl
+last_on number before (Ok said ∷ read) = last_on (number + 1) before read
+last_on number before (Err why ∷ read) =
+    let (it, is) = last_of_some (number + 1) (error_at number why) read in
+    is ∙ sym (ap (λ (last : Option ReadError). option_or last before) is)
 
-some_taken : (list : List SaidLine) → 0 < length list → no_line list ≡ None
-some_taken [] some = absurd (omega (arith, some))
-some_taken (said ∷ list) some = refl
+-- there is a line, or none
+pub no_line_left : (list : List SaidLine) (before : ℕ) → length list ≡ 0 → before ≡ 0 → no_line list before ≡ Some (error_at 0 Empty)
+no_line_left [] zero none nothing = refl
+no_line_left [] (suc before) none nothing = absurd (omega (arith, nothing))
+no_line_left (said ∷ list) before none nothing = absurd (omega (arith, none))
 
-none_taken : (list : List SaidLine) → length list ≡ 0 → no_line list ≡ Some (error_at 0 Empty)
-none_taken [] none = refl
-none_taken (said ∷ list) none = absurd (omega (arith, none))
+pub some_line : (list : List SaidLine) (before : ℕ) → 0 < length list + before → no_line list before ≡ None
+some_line [] zero some = absurd (omega (arith, some))
+some_line [] (suc before) some = refl
+some_line (said ∷ list) before some = refl
 
--- nothing is left out
-pub nothing_left : (kept : KeptNumbers) (read : List (Result SaidLine Why)) → 0 < length (taken read) → length (taken_above 0 read) ≡ 0 → left_out kept read ≡ None
-nothing_left kept read some none =
-    ap (λ (last : Option ReadError). option_or last (no_line (taken read))) (last_of_none 0 (kept.more + 1) None read none) ∙ some_taken (taken read) some
-
--- or the last that is refused is told, or that there is none
-pub left_is : (kept : KeptNumbers) (read : List (Result SaidLine Why)) (refused : Option ReadError) (none : ReadError) → none ≡ error_at 0 Empty
-    → refused ≡ last_refused (kept.more + 1) None read → (length (taken_above 0 read) ≡ 0 → length (taken read) ≡ 0)
-    → Some (unwrap_or refused none) ≡ left_out kept read
-left_is kept read refused none is last only = elim (cases_lt 0 (length (taken_above 0 read))) [
-  | inl some ↦
-      let it = last_there 0 (kept.more + 1) None read some in
-      ap (λ (o : Option ReadError). Some (unwrap_or o none)) (last ∙ it.1) ∙ sym (ap (λ (o : Option ReadError). option_or o (no_line (taken read))) it.1)
-  | inr ge ↦
-      let zero_of : length (taken_above 0 read) ≡ 0 = omega (arith, ge) in
-      let gone = last_of_none 0 (kept.more + 1) None read zero_of in
-      ap (λ (o : Option ReadError). Some (unwrap_or o none)) (last ∙ gone)
-      ∙ (ap (λ (it : ReadError). Some it) is
-      ∙ (sym (none_taken (taken read) (only zero_of)) ∙ sym (ap (λ (o : Option ReadError). option_or o (no_line (taken read))) gone)))
-]
+-- why a part is refused
+pub left_is : (start : Start) (read : List (Result SaidLine Why)) (refused before none : Option ReadError) → refused ≡ last_refused (start.numbers.more + 1) None read
+    → before ≡ start.before.refused → none ≡ no_line (taken read) start.before.counts.lines
+    → option_or (option_or refused before) none ≡ left_out start read
+left_is start read refused before none last same is =
+    let number = start.numbers.more + 1 in
+    let all : option_or refused before ≡ last_refused number start.before.refused read =
+    ap (λ (last : Option ReadError). option_or last before) last
+    ∙ (ap (option_or (last_refused number None read)) same ∙ sym (last_on number start.before.refused read)) in
+    ap (λ (last : Option ReadError). option_or last none) all ∙ ap (option_or (last_refused number start.before.refused read)) is
 
 -- ---- the counts, with one more line
 

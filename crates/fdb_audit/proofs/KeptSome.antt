@@ -1,4 +1,6 @@
 -- Of lines that had come when a watch settled, and of which one has ended, one that has ended is kept.
+use Rattle.std.specs.Prelude.{◌==◌}
+use Rattle.std.specs.Option.{option_eq}
 use Rattle.std.proofs.Common.{◌≡◌, ◌∙◌, ℕ, zero, suc, ◌+◌, ◌<◌, ◌≤◌, inl, inr, Bool, true, false, cond, List, [], ◌∷◌, Option, None, Some, IfSome, IsTrue, ap, arith, length, max, refl, slice_index, subst, sym, unwrap_or}
 use Rattle.std.specs.List.{All, filter}
 use Rattle.std.proofs.lemmas.Bool.{cases_lt, false≢true}
@@ -11,7 +13,7 @@ use Rattle.fdb_lines.specs.declared.line.Times.{Times}
 use Rattle.fdb_lines.specs.Before.{began, began_of, ended, ended_of}
 use Rattle.fdb_lines.specs.Carried.{is_past, past_by}
 use Rattle.fdb_lines.specs.KeyParts.{lines_of_one}
-use Rattle.fdb_lines.specs.Keys.{key_at, place_among, places_below, places_of, same_key}
+use Rattle.fdb_lines.specs.Keys.{key_at, place_among, places_below, places_of}
 use Rattle.fdb_lines.specs.Lines.{kind_of, line_at}
 use Rattle.fdb_lines.specs.Reasons.{shows_or_draws}
 use Rattle.fdb_lines.specs.StandByKey.{StandForByKey, kept_of}
@@ -72,7 +74,7 @@ module _ (margin at from come : ℕ) (lines : List Line) (keys : List (Option �
 
   module _ (key : Option ℕ) where
     abbrev its : List ℕ
-    its = filter (λ k. same_key (key_at keys k) key) places
+    its = filter (λ k. option_eq ◌==◌ (key_at keys k) key) places
 
     abbrev kept : List ℕ
     kept = kept_of keys places key
@@ -88,8 +90,8 @@ module _ (margin at from come : ℕ) (lines : List Line) (keys : List (Option �
         let size = kept_count in
         let place = slice_index its i in
         let within : i < length its = omega (arith, lt, size) in
-        let same = filter_passes (λ k. same_key (key_at keys k) key) places i 0 within in
-        let low = All-filter (λ k. same_key (key_at keys k) key) (λ k. k < length keys) places inside i 0 within in
+        let same = filter_passes (λ k. option_eq ◌==◌ (key_at keys k) key) places i 0 within in
+        let low = All-filter (λ k. option_eq ◌==◌ (key_at keys k) key) (λ k. k < length keys) places inside i 0 within in
         ap (slice_index (places_of keys key))
         (get_or-map (place_among keys) its i 0 0 within ∙ ap (λ key. length (places_below keys key place)) (same_is (key_at keys place) key same))
         ∙ (has_place keys key (length keys) place same low).1
@@ -104,7 +106,7 @@ module _ (margin at from come : ℕ) (lines : List Line) (keys : List (Option �
     found : (i j : ℕ) → i < length kept → slice_index its i ≡ j → j < come → HasEnded (line_at lines j) → KeepsEnded come lines places
     found i j lt is before (end, has) =
         let size = kept_count in
-        let (k, less, same) = in_filter (λ k. same_key (key_at keys k) key) places i (omega (arith, lt, size)) in
+        let (k, less, same) = in_filter (λ k. option_eq ◌==◌ (key_at keys k) key) places i (omega (arith, lt, size)) in
         let at = same ∙ is in
         (k, less, (omega (arith, at, before)), (end, ap (λ n. ended (line_at lines n)) at ∙ has))
 
@@ -116,7 +118,7 @@ module _ (margin at from come : ℕ) (lines : List Line) (keys : List (Option �
         let has_too = ap ended (sym (line_there i lt)) ∙ has in
         let order = end_in_order (line_at lines place).times end has_too in
         let size = kept_count in
-        let (k, less, same) = in_filter (λ k. same_key (key_at keys k) key) places i (omega (arith, lt, size)) in
+        let (k, less, same) = in_filter (λ k. option_eq ◌==◌ (key_at keys k) key) places i (omega (arith, lt, size)) in
         let within = stand.within k less in
         let old : place < come = elim (cases_lt place come) [
           | inl lt ↦ lt

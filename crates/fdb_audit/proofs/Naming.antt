@@ -1,8 +1,12 @@
 -- The place of a text among others, with one more.
-use Rattle.std.proofs.Common.{◌≡◌, ◌∙◌, ◌+◌, ℕ, Bool, true, false, cond, List, [], ◌∷◌, ◌++◌, Option, None, Some, ap, arith, length, refl, sym}
+use Rattle.std.proofs.Common.{◌≡◌, ◌∙◌, ◌+◌, ◌<◌, ℕ, Bool, true, false, cond, List, [], ◌∷◌, ◌++◌, Option, None, Some, ap, arith, get_or, is_some, length, ltb-true, nat_lt, refl, sym, unwrap_or}
+use Rattle.std.proofs.lemmas.Bool.{false≢true}
 use Rattle.std.proofs.lemmas.Iterator.Adapters.{position_from-zero}
+use Rattle.std.proofs.lemmas.List.Sums.{passes_at_first}
+use Rattle.std.proofs.lemmas.Option.{slice_get-get_or}
 use Rattle.std.proofs.lemmas.Slice.Eq.{bytes_eq-Decides}
-use Rattle.std.specs.List.{position_from}
+use Rattle.std.specs.List.{position_from, position_or_len}
+use Rattle.std.specs.Prelude.{slice_get}
 use Rattle.std.specs.Option.{option_or}
 use Rattle.std.specs.Str.{bytes_eq}
 use Rattle.fdb_log_reader.specs.Numbers.{number_in}
@@ -52,3 +56,17 @@ number_added names name q new =
 pub number_there : (names : List (List ℕ)) (name : List ℕ) → number_in names name ≡ None
     → number_in (names ++ name ∷ []) name ≡ Some (length names)
 number_there names name new = number_added names name name new ∙ ap (λ b. cond b (Some (length names)) (number_in names name)) (bytes_eq_same name)
+
+-- a text stands where its number says
+pub text_there : (names : List (List ℕ)) (name : List ℕ) (number : ℕ) → number_in names name ≡ Some number → slice_get names number ≡ Some name
+text_there names name number is = by (nat_lt place (length names)) refl is
+  where
+    place : ℕ
+    place = position_or_len (bytes_eq name) names
+
+    by : (b : Bool) → nat_lt place (length names) ≡ b → cond b (Some place) None ≡ Some number → slice_get names number ≡ Some name
+    by true lt is =
+        let within = ltb-true place (length names) lt in
+        let same : name ≡ get_or names place name = (bytes_eq-Decides name (get_or names place name)).0 (passes_at_first (bytes_eq name) names name within) in
+        ap (slice_get names) (sym (ap (λ n. unwrap_or n 0) is)) ∙ (slice_get-get_or names place name within ∙ ap (λ (one : List ℕ). Some one) (sym same))
+    by false ge is = absurd (false≢true (ap is_some is))

@@ -3,7 +3,7 @@ use Rattle.std.proofs.Common.{◌≡◌, ◌≢◌, ◌⊎◌, inl, inr, ℕ, Bo
 use Rattle.std.specs.Prelude.{IfErr, IsErrAnd, option_map}
 use Rattle.std.proofs.lemmas.Bool.{false≢true}
 use Rattle.clap.specs.Words.{Text}
-use Rattle.fdb_command.specs.Driving.{Stops}
+use Rattle.fdb_command.specs.Driving.{HasFailed, Stops, StopsAnyhow}
 use Rattle.fdb_command.specs.declared.failure.Failure.{Failure}
 use Rattle.fdb_command.specs.declared.failure.Failure.TheVariants as fault
 use Rattle.fdb_log_reader.specs.declared.error.ReadError.{ReadError}
@@ -14,7 +14,8 @@ use Rattle.fdb_audit.specs.declared.arguments.AuditArguments.{AuditArguments}
 use Rattle.fdb_audit.specs.declared.fault.LogFault.{LogFault}
 use Rattle.fdb_audit.specs.declared.refused.LogsRefused.{LogsRefused}
 use Rattle.fdb_audit.specs.declared.refused.LogsRefused.TheVariants.{Early, Kept, Log}
-use Rattle.fdb_audit.specs.private.Kept.{MayStop}
+use Rattle.fdb_audit.specs.KeptFile.{KeepingFails}
+use Rattle.fdb_audit.specs.private.Kept.{MayFail, MayStop}
 
 abbrev pub of_memory : Why → Bool
 of_memory Memory = true
@@ -52,22 +53,49 @@ pub is_some_map : {X Y : Type 0} (f : X → Y) (it : Option X) → is_some (opti
 is_some_map f None = refl
 is_some_map f (Some x) = refl
 
--- where lines are kept, the arguments say so
-pub keeps_asked : (arguments : List Text) (asked : AuditArguments) → IsAsked arguments asked → is_some asked.keep ≡ true → audit.keeps arguments ≡ true
-keeps_asked arguments asked is keeps = sym (ap is_some is.keep) ∙ (is_some_map string_bytes asked.keep ∙ keeps)
+-- the file in which lines are kept is the one that the arguments name
+pub fails_asked : (arguments : List Text) (asked : AuditArguments) (made : Failure LogsRefused LogFault) → IsAsked arguments asked → KeepingFails (option_map string_bytes asked.keep) made → audit.fails arguments made
+fails_asked arguments asked made is fails = subst (λ file. KeepingFails file made) is.keep fails
+
+-- where that fails, the program stops so
+pub stops_failing : (arguments : List Text) (asked : AuditArguments) (bytes : List ℕ) (made : Failure LogsRefused LogFault) → IsAsked arguments asked → MayFail (option_map string_bytes asked.keep) made
+    → Stops audit arguments bytes made
+stops_failing arguments asked bytes made is (inl memory) = subst (Stops audit arguments bytes) (sym memory) tt
+stops_failing arguments asked bytes (fault.Refused error) is (inr fails) = absurd fails
+stops_failing arguments asked bytes fault.Arguments is (inr fails) = absurd fails
+stops_failing arguments asked bytes fault.Memory is (inr fails) = absurd fails
+stops_failing arguments asked bytes (fault.Found found) is (inr fails) = absurd fails
+stops_failing arguments asked bytes fault.Reading is (inr fails) = absurd fails
+stops_failing arguments asked bytes fault.Writing is (inr fails) = absurd fails
+stops_failing arguments asked bytes (fault.OwnFile file) is (inr fails) = fails_asked arguments asked (fault.OwnFile file) is fails
+
+has_failed : (file : Option Text) (made : Failure LogsRefused LogFault) → KeepingFails file made → HasFailed made
+has_failed file (fault.Refused error) fails = absurd fails
+has_failed file fault.Arguments fails = absurd fails
+has_failed file fault.Memory fails = absurd fails
+has_failed file (fault.Found found) fails = absurd fails
+has_failed file fault.Reading fails = absurd fails
+has_failed file fault.Writing fails = absurd fails
+has_failed file (fault.OwnFile it) fails = tt
+
+-- whatever its input is
+pub stops_anyhow : (asked : AuditArguments) (made : Failure LogsRefused LogFault) → MayFail (option_map string_bytes asked.keep) made → StopsAnyhow audit asked made
+stops_anyhow asked made (inl memory) = inl memory
+stops_anyhow asked made (inr fails) = inr (has_failed (option_map string_bytes asked.keep) made fails, λ arguments is. fails_asked arguments asked made is fails)
 
 -- a log that is followed stops the program so
 pub stops_following : (arguments : List Text) (asked : AuditArguments) (bytes : List ℕ) (behind : ℕ) (made : Failure LogsRefused LogFault) → IsAsked arguments asked
-    → asked.follow ≡ Some behind → MayStop (is_some asked.keep) made → Stops audit arguments bytes made
+    → asked.follow ≡ Some behind → MayStop (option_map string_bytes asked.keep) made → Stops audit arguments bytes made
 stops_following arguments asked bytes behind (fault.Refused (Log error)) is follows stops = absurd stops
 stops_following arguments asked bytes behind (fault.Refused (Early number)) is follows stops = absurd stops
 stops_following arguments asked bytes behind (fault.Refused (Kept refused)) is follows stops =
-    (asked, is, subst (λ follow. RefusesBy follow asked bytes (Kept refused)) (sym follows) stops)
+    (asked, is, subst (λ follow. RefusesBy follow asked bytes (Kept refused)) (sym follows) (sym (is_some_map string_bytes asked.keep) ∙ stops))
 stops_following arguments asked bytes behind fault.Arguments is follows stops = absurd stops
 stops_following arguments asked bytes behind fault.Memory is follows stops = tt
 stops_following arguments asked bytes behind (fault.Found found) is follows stops = absurd stops
-stops_following arguments asked bytes behind fault.Reading is follows stops = keeps_asked arguments asked is stops
+stops_following arguments asked bytes behind fault.Reading is follows stops = absurd stops
 stops_following arguments asked bytes behind fault.Writing is follows stops = absurd stops
+stops_following arguments asked bytes behind (fault.OwnFile file) is follows stops = fails_asked arguments asked (fault.OwnFile file) is stops
 
 -- what holds of an error holds of it where it is passed on
 pub passed_on : {T E : Type 0} (r : Result T E) (error : E) (P : E → Type 0) → IsErrAnd r (λ e. e ≡ error) → P error → IfErr r P

@@ -1,35 +1,38 @@
 -- What is said of a log that is followed, with what is read next.
-use Rattle.std.proofs.Common.{◌≡◌, ◌∙◌, ◌++◌, ℕ, List, [], Result, ap, Option, append-nil, append_assoc, is_some, subst, string_bytes, sym}
+use Rattle.std.proofs.Common.{◌≡◌, ◌∙◌, ◌++◌, ℕ, List, [], Result, ap, Option, append-nil, append_assoc, subst, string_bytes, sym}
+use Rattle.std.specs.Option.{option_or}
 use Rattle.fdb_lines.specs.declared.fault.Found.{Found}
 use Rattle.fdb_log_reader.specs.declared.error.Why.{Why}
 use Rattle.fdb_log_reader.specs.LineReader.{lines_on}
 use Rattle.fdb_log_reader.specs.ReadLine.{SaidLine}
 use Rattle.fdb_audit.specs.declared.arguments.AuditArguments.{AuditArguments}
+use Rattle.fdb_audit.specs.declared.carried.Carried.{Carried}
 use Rattle.fdb_audit.specs.declared.counts.Counts.{Counts}
 use Rattle.fdb_audit.specs.declared.follower.Follower.{Follower}
 use Rattle.fdb_audit.specs.declared.taking.Taking.{Taking}
 use Rattle.fdb_audit.specs.Following.{Start}
-use Rattle.fdb_audit.specs.Taken.{AreTaken, HasWarned}
+use Rattle.fdb_audit.specs.Taken.{AreTaken, HasWarned, IsCarried}
 use Rattle.fdb_audit.specs.Warned.{IsSaid}
 use Rattle.fdb_audit.specs.Watched.{HasSaid, HasSaidAll, lines_asked}
 use Rattle.fdb_audit.specs.private.Followed.{AreEarlyIn, IsUnread, SaysNext, SettlesOn}
 
 pub unsaid : (asked : AuditArguments) (start : Start) (follower : Follower) → IsUnread asked start follower → HasSaid asked start follower [] []
-unsaid asked start follower is = record { read = []; goes = is.goes; behind = is.at; told = start.told; taken = is.taken; said = is.warned }
+unsaid asked start follower is = record { read = []; goes = is.goes; behind = is.at; carried = is.carried; told = start.told; taken = is.taken; said = is.warned }
 
 -- with the lines of the next bytes
 pub said_on : (start : Start) (asked : AuditArguments) (old new : Follower) (before bytes warned : List ℕ) (further : List (Result SaidLine Why)) → HasSaid asked start old before warned
     → ((text : List ℕ) → lines_on old.reader (bytes ++ text) ≡ further ++ lines_on new.reader text)
     → ((read : List (Result SaidLine Why)) (told : List Found) → AreTaken start old.taking read told → AreTaken start new.taking (read ++ further) told)
     → ((read : List (Result SaidLine Why)) (told : List Found) (warned : List ℕ) → AreTaken start old.taking read told → HasWarned start old.taking read warned → HasWarned start new.taking (read ++ further) warned)
-    → new.behind ≡ old.behind → HasSaid asked start new (before ++ bytes) warned
-said_on start asked old new before bytes warned further has goes takes warns far =
+    → new.behind ≡ old.behind → new.before ≡ old.before → HasSaid asked start new (before ++ bytes) warned
+said_on start asked old new before bytes warned further has goes takes warns far carries =
     let read = has.read in
     record {
       read = read ++ further;
       goes = λ text. ap (lines_asked asked) (append_assoc before bytes text)
           ∙ (has.goes (bytes ++ text) ∙ (ap (λ l. read ++ l) (goes text) ∙ sym (append_assoc read further (lines_on new.reader text))));
       behind = far ∙ has.behind;
+      carried = subst (IsCarried start.before) (sym carries) has.carried;
       told = has.told;
       taken = takes read has.told has.taken;
       said = warns read has.told warned has.taken has.said;
@@ -37,14 +40,15 @@ said_on start asked old new before bytes warned further has goes takes warns far
 
 -- what is said next is what was to be said
 pub said_next : (start : Start) (asked : AuditArguments) (old new : Follower) (settled : Taking) (bytes warned warnings : List ℕ) → HasSaid asked start old bytes warned
-    → SettlesOn old.taking settled → SaysNext settled new.taking → warnings ≡ string_bytes settled.warnings → new.reader ≡ old.reader → new.behind ≡ old.behind
+    → SettlesOn old.taking settled → SaysNext settled new.taking → warnings ≡ string_bytes settled.warnings → new.reader ≡ old.reader → new.behind ≡ old.behind → new.before ≡ old.before
     → HasSaid asked start new bytes (warned ++ warnings)
-said_next start asked old new settled bytes warned warnings has settles says is reader far =
+said_next start asked old new settled bytes warned warnings has settles says is reader far carries =
     let (more, taken) = settles.taken start has.read has.told has.taken in
     record {
       read = has.read;
       goes = λ text. has.goes text ∙ ap (λ reader. has.read ++ lines_on reader text) (sym reader);
       behind = far ∙ has.behind;
+      carried = subst (IsCarried start.before) (sym carries) has.carried;
       told = has.told ++ more;
       taken = says.taken start has.read (has.told ++ more) taken;
       said = subst (λ (counts : Counts). IsSaid start has.read counts.early counts.ahead ((warned ++ warnings) ++ string_bytes new.taking.warnings)) (sym (says.counts ∙ settles.counts))
@@ -66,8 +70,14 @@ said_last start asked old new bytes warned further has last takes warns =
     (warns read has.told warned has.taken has.said, (takes read has.told has.taken).came)
 
 -- and at the end
-pub said_all : (start : Start) (asked : AuditArguments) (taking : Taking) (bytes warned warnings : List ℕ) (last : Option ℕ)
-    → HasWarned start taking (lines_asked asked bytes) warned × AreEarlyIn start (lines_asked asked bytes) taking.counts
-    → warnings ≡ string_bytes taking.warnings → last ≡ taking.counts.last_early → HasSaidAll asked start bytes last (warned ++ warnings)
-said_all start asked taking bytes warned warnings last (was, are) is last_is =
-    (taking.counts.early, taking.counts.ahead, subst (IsSaid start (lines_asked asked bytes) taking.counts.early taking.counts.ahead) (ap (λ text. warned ++ text) (sym is)) was, ap is_some last_is ∙ are.some)
+pub said_all : (start : Start) (asked : AuditArguments) (taking : Taking) (before : Carried) (bytes warned warnings : List ℕ) (last : Option ℕ)
+    → HasWarned start taking (lines_asked asked bytes) warned × AreEarlyIn start (lines_asked asked bytes) taking.counts → IsCarried start.before before
+    → warnings ≡ string_bytes taking.warnings → last ≡ option_or taking.counts.last_early before.counts.last_early → HasSaidAll asked start bytes last (warned ++ warnings)
+said_all start asked taking before bytes warned warnings last (was, are) carried is last_is = (
+  taking.counts.early,
+  taking.counts.ahead,
+  taking.counts.last_early,
+  subst (IsSaid start (lines_asked asked bytes) taking.counts.early taking.counts.ahead) (ap (λ text. warned ++ text) (sym is)) was,
+  are.some,
+  last_is ∙ ap (option_or taking.counts.last_early) carried.last_early,
+)

@@ -1,5 +1,5 @@
 -- What a follower has told stays told while it reads on, and what it tells next comes behind it.
-use Rattle.std.proofs.Common.{◌≡◌, ◌∙◌, ◌≤◌, ℕ, List, [], ◌++◌, Bool, false, IsPermutation, ap, append-nil, append_assoc, arith, is_some, true, length, not, refl, string_bytes, subst, sym, ◌&&◌, Option, Result, map}
+use Rattle.std.proofs.Common.{◌≡◌, ◌∙◌, ◌≤◌, ℕ, List, [], ◌++◌, Bool, false, IsPermutation, ap, append-nil, append_assoc, arith, is_some, true, length, not, refl, string_bytes, subst, sym, ◌&&◌, None, Option, Result, Some}
 use Rattle.std.specs.Option.{option_or}
 use Rattle.fdb_lines.specs.declared.fault.Found.{Found}
 use Rattle.fdb_lines.specs.declared.key_watch.KeyWatch.{KeyWatch}
@@ -8,7 +8,6 @@ use Rattle.fdb_lines.specs.KeyWatch.{HasSeenByKey}
 use Rattle.fdb_lines.specs.ToldByKey.{HasTold, audited_to}
 use Rattle.fdb_log_reader.specs.declared.error.Why.{Why}
 use Rattle.fdb_log_reader.specs.LineReader.{AreMore, line_names, lines_on, names_on}
-use Rattle.fdb_log_reader.specs.Printed.{printed}
 use Rattle.fdb_log_reader.specs.ReadLine.{SaidLine}
 use Rattle.fdb_audit.specs.declared.counts.Counts.{Counts}
 use Rattle.fdb_audit.specs.declared.numbering.Numbering.{Numbering}
@@ -16,10 +15,10 @@ use Rattle.fdb_audit.specs.declared.arguments.AuditArguments.{AuditArguments}
 use Rattle.fdb_audit.specs.declared.fault.LogFault.{LogFault}
 use Rattle.fdb_audit.specs.declared.follower.Follower.{Follower}
 use Rattle.fdb_audit.specs.declared.teller.Teller.{Teller}
-use Rattle.fdb_audit.specs.Following.{AreWindows, FollowArguments, IsCounted, IsEnd, Start, Window, early_at, faults_told, first_told, keys_taken, lines_since, lines_taken, told_in_all}
+use Rattle.fdb_audit.specs.Following.{AreWindows, Before, Counted, FollowArguments, IsCounted, IsEnd, Start, Window, counted_on, early_at, faults_told, first_told, keys_taken, lines_since, lines_taken, told_in_all}
 use Rattle.fdb_audit.specs.Clocks.{ahead_in, out_of_reach}
 use Rattle.fdb_audit.specs.Watched.{HasFollowed, HasToldAll, IsComplete, IsFollowed, IsTelling, IsTold, followed_by, lines_asked, members_asked, names_asked}
-use Rattle.fdb_audit.specs.private.Followed.{AreTaken, HasTotals, IsUnread, TellsOn, counted_of, told_with}
+use Rattle.fdb_audit.specs.private.Followed.{AreTaken, HasTotals, IsCarried, IsUnread, TellsOn, counted_in, counted_of, told_with}
 use Rattle.fdb_audit.specs.Warned.{AreEarly}
 use Rattle.fdb_audit.proofs.Windows.{first_on, faults_on as all_faults_on, faults_stay, first_stays, told_on, told_stays, windows_on, windows_stay, windows_within}
 
@@ -31,6 +30,7 @@ unread asked start follower is = record {
   behind = is.names;
   telling = record {
     behind = is.at;
+    carried = is.carried;
     windows = [];
     taken = subst (AreTaken start follower.taking []) (sym (append-nil start.told)) is.taken;
     margin = is.margin;
@@ -43,8 +43,8 @@ unread asked start follower is = record {
 pub takes_on : (start : Start) (asked : AuditArguments) (old new : Follower) (read further : List (Result SaidLine Why)) (told : List ℕ) → IsTelling asked start old read told
     → AreMore (line_names old.reader) (line_names new.reader)
     → ((told : List Found) → AreTaken start old.taking read told → AreTaken start new.taking (read ++ further) told)
-    → new.taking.watch.margin ≡ old.taking.watch.margin → new.teller ≡ old.teller → new.behind ≡ old.behind → IsTelling asked start new (read ++ further) told
-takes_on start asked old new read further told has more takes margin teller behind =
+    → new.taking.watch.margin ≡ old.taking.watch.margin → new.teller ≡ old.teller → new.behind ≡ old.behind → new.before ≡ old.before → IsTelling asked start new (read ++ further) told
+takes_on start asked old new read further told has more takes margin teller behind before =
     let margin_asked = asked.opts.margin in
     let names = (line_names old.reader).clients in
     let text = told ++ string_bytes old.teller.text in
@@ -52,6 +52,7 @@ takes_on start asked old new read further told has more takes margin teller behi
     let within = windows_within start.numbers margin_asked asked.wanted read names windows text has.tells in
     record {
       behind = behind ∙ has.behind;
+      carried = subst (IsCarried start.before) (sym before) has.carried;
       windows = windows;
       taken = subst (λ list. AreTaken start new.taking (read ++ further) (start.told ++ list)) (sym (told_stays read further windows within)) (takes (start.told ++ told_in_all read windows) has.taken);
       margin = margin ∙ has.margin;
@@ -61,8 +62,8 @@ takes_on start asked old new read further told has more takes margin teller behi
         wanted = has.are.wanted;
         margin = has.are.margin;
         by_key = has.are.by_key;
-        first = has.are.first ∙ sym (first_stays start.numbers read further windows within);
-        totals = subst (HasTotals (members_asked asked) old.teller) (sym (faults_stay read further windows within)) has.are.totals;
+        first = has.are.first ∙ ap (option_or start.before.first) (sym (first_stays start.numbers read further windows within));
+        totals = subst (λ faults. HasTotals (members_asked asked) old.teller (start.before.told ++ faults)) (sym (faults_stay read further windows within)) has.are.totals;
       });
     }
 
@@ -72,48 +73,60 @@ pub fed : (start : Start) (asked : AuditArguments) (old new : Follower) (before 
     → ((text : List ℕ) → names_on old.reader (bytes ++ text) ≡ names_on new.reader text)
     → AreMore (line_names old.reader) (line_names new.reader)
     → ((read : List (Result SaidLine Why)) (told : List Found) → AreTaken start old.taking read told → AreTaken start new.taking (read ++ further) told)
-    → new.taking.watch.margin ≡ old.taking.watch.margin → new.teller ≡ old.teller → new.behind ≡ old.behind → HasFollowed asked start new (before ++ bytes) told
-fed start asked old new before bytes told further has goes behind more takes margin teller far =
+    → new.taking.watch.margin ≡ old.taking.watch.margin → new.teller ≡ old.teller → new.behind ≡ old.behind → new.before ≡ old.before
+    → HasFollowed asked start new (before ++ bytes) told
+fed start asked old new before bytes told further has goes behind more takes margin teller far carries =
     let read = has.read in
     record {
       read = read ++ further;
       goes = λ text. ap (lines_asked asked) (append_assoc before bytes text)
           ∙ (has.goes (bytes ++ text) ∙ (ap (λ l. read ++ l) (goes text) ∙ sym (append_assoc read further (lines_on new.reader text))));
       behind = λ text. ap (names_asked asked) (append_assoc before bytes text) ∙ (has.behind (bytes ++ text) ∙ behind text);
-      telling = takes_on start asked old new read further told has.telling more (takes read) margin teller far;
+      telling = takes_on start asked old new read further told has.telling more (takes read) margin teller far carries;
     }
 
 -- with lines that were kept, the first of all
 pub fed_first : (before start : Start) (asked : AuditArguments) (old new : Follower) (bytes : List ℕ) (lines : List (Result SaidLine Why)) → IsUnread asked before old
-    → start.behind ≡ before.behind → start.numbers ≡ before.numbers
+    → start.behind ≡ before.behind → start.numbers ≡ before.numbers → start.before ≡ before.before
     → ((text : List ℕ) → lines_on old.reader (bytes ++ text) ≡ lines ++ lines_on new.reader text)
     → ((text : List ℕ) → names_on old.reader (bytes ++ text) ≡ names_on new.reader text)
-    → AreTaken start new.taking lines start.told → new.taking.watch.margin ≡ old.taking.watch.margin → new.teller ≡ old.teller → new.behind ≡ old.behind
-    → HasFollowed asked start new bytes []
-fed_first before start asked old new bytes lines is far numbers goes behind takes margin teller still = record {
-  read = lines;
-  goes = λ text. is.goes (bytes ++ text) ∙ goes text;
-  behind = λ text. is.names (bytes ++ text) ∙ behind text;
-  telling = record {
-    behind = still ∙ (is.at ∙ sym far);
-    windows = [];
-    taken = subst (AreTaken start new.taking lines) (sym (append-nil start.told)) takes;
-    margin = margin ∙ is.margin;
-    tells = ap (λ (teller : Teller). string_bytes teller.text) teller ∙ is.text;
-    are = subst (λ teller. IsTold asked start teller lines []) (sym teller)
-        (record { wanted = is.are.wanted; margin = is.are.margin; by_key = is.are.by_key; first = is.are.first; totals = is.are.totals });
-  };
-}
+    → AreTaken start new.taking lines start.told → new.taking.watch.margin ≡ old.taking.watch.margin → new.teller ≡ old.teller → new.behind ≡ old.behind → new.before ≡ old.before
+    → (has : HasFollowed asked start new bytes []) × (has.telling.windows ≡ [])
+fed_first before start asked old new bytes lines is far numbers same goes behind takes margin teller still carries = (
+  record {
+    read = lines;
+    goes = λ text. is.goes (bytes ++ text) ∙ goes text;
+    behind = λ text. is.names (bytes ++ text) ∙ behind text;
+    telling = record {
+      behind = still ∙ (is.at ∙ sym far);
+      carried = subst (IsCarried start.before) (sym carries) (subst (λ (before : Before). IsCarried before old.before) (sym same) is.carried);
+      windows = [];
+      taken = subst (AreTaken start new.taking lines) (sym (append-nil start.told)) takes;
+      margin = margin ∙ is.margin;
+      tells = ap (λ (teller : Teller). string_bytes teller.text) teller ∙ is.text;
+      are = subst (λ teller. IsTold asked start teller lines []) (sym teller)
+          (record {
+            wanted = is.are.wanted;
+            margin = is.are.margin;
+            by_key = is.are.by_key;
+            first = is.are.first ∙ ap (λ (before : Before). option_or before.first None) (sym same);
+            totals = subst (λ (before : Before). HasTotals (members_asked asked) old.teller (before.told ++ [])) (sym same) is.are.totals;
+          });
+    };
+  },
+  refl,
+)
 
 -- with the line that had not ended, or none
 pub ended : (start : Start) (asked : AuditArguments) (old new : Follower) (bytes told : List ℕ) (further : List (Result SaidLine Why)) → HasFollowed asked start old bytes told
     → lines_on old.reader [] ≡ further → AreMore (line_names old.reader) (line_names new.reader)
     → ((read : List (Result SaidLine Why)) (told : List Found) → AreTaken start old.taking read told → AreTaken start new.taking (read ++ further) told)
-    → new.taking.watch.margin ≡ old.taking.watch.margin → new.teller ≡ old.teller → new.behind ≡ old.behind → IsTelling asked start new (lines_asked asked bytes) told
-ended start asked old new bytes told further has last more takes margin teller far =
+    → new.taking.watch.margin ≡ old.taking.watch.margin → new.teller ≡ old.teller → new.behind ≡ old.behind → new.before ≡ old.before
+    → IsTelling asked start new (lines_asked asked bytes) told
+ended start asked old new bytes told further has last more takes margin teller far carries =
     let read = has.read in
     let all : read ++ further ≡ lines_asked asked bytes = sym (ap (lines_asked asked) (sym (append-nil bytes)) ∙ (has.goes [] ∙ ap (λ l. read ++ l) last)) in
-    subst (λ read. IsTelling asked start new read told) all (takes_on start asked old new read further told has.telling more (takes read) margin teller far)
+    subst (λ read. IsTelling asked start new read told) all (takes_on start asked old new read further told has.telling more (takes read) margin teller far carries)
 
 -- with what is told more
 tells_on : (start : Start) (asked : AuditArguments) (old : Follower) (new : Teller) (read : List (Result SaidLine Why)) (told : List ℕ) (windows : List Window) (faults : List Found)
@@ -128,15 +141,24 @@ tells_on start asked old new read told windows faults tells more is =
     (windows_on start.numbers margin asked.wanted read names windows more.windows (told ++ string_bytes old.teller.text) more.text tells
     (subst (λ wanted. AreWindows start.numbers margin wanted read names more.windows more.text) (more.same.wanted ∙ is) more.told))
 
+-- the first of all, where one was told before
+first_of_three : {X : Type 0} (one two three : Option X) → option_or (option_or one two) three ≡ option_or one (option_or two three)
+first_of_three None two three = refl
+first_of_three (Some one) two three = refl
+
 are_on : (start : Start) (asked : AuditArguments) (old new : Teller) (margin : ℕ) (read : List (Result SaidLine Why)) (names : List (List ℕ)) (windows : List Window) (faults : List Found)
     → IsTold asked start old read windows → (more : TellsOn start.numbers old new margin read names faults) → IsTold asked start new read (windows ++ more.windows)
 are_on start asked old new margin read names windows faults are more = record {
   wanted = more.same.wanted ∙ are.wanted;
   margin = more.same.margin ∙ are.margin;
   by_key = ap is_some more.same.key ∙ are.by_key;
-  first = more.first ∙ (ap (λ first. option_or first (first_told start.numbers read more.windows)) are.first ∙ sym (first_on start.numbers read windows more.windows));
-  totals = subst (HasTotals (members_asked asked) new) (sym (all_faults_on read windows more.windows))
-      (more.counts (members_asked asked) (faults_told read windows) are.totals);
+  first =
+      let its = first_told start.numbers read in
+      more.first ∙ (ap (λ first. option_or first (its more.windows)) are.first
+      ∙ (first_of_three start.before.first (its windows) (its more.windows) ∙ ap (option_or start.before.first) (sym (first_on start.numbers read windows more.windows))));
+  totals = subst (HasTotals (members_asked asked) new)
+      (append_assoc start.before.told (faults_told read windows) (faults_told read more.windows) ∙ ap (λ faults. start.before.told ++ faults) (sym (all_faults_on read windows more.windows)))
+      (more.counts (members_asked asked) (start.before.told ++ faults_told read windows) are.totals);
 }
 
 faults_on : (start : Start) (old new : Teller) (margin : ℕ) (read : List (Result SaidLine Why)) (names : List (List ℕ)) (windows : List Window) (faults : List Found)
@@ -149,11 +171,13 @@ faults_on start old new margin read names windows faults more =
 -- with what is told when a watch settles
 pub settled : (start : Start) (asked : AuditArguments) (old new : Follower) (read : List (Result SaidLine Why)) (told : List ℕ) (faults : List Found) → (is : IsTelling asked start old read told)
     → new.reader ≡ old.reader → AreTaken start new.taking read ((start.told ++ told_in_all read is.windows) ++ faults) → new.taking.watch.margin ≡ old.taking.watch.margin
-    → TellsOn start.numbers old.teller new.teller asked.opts.margin read (line_names old.reader).clients faults → new.behind ≡ old.behind → IsTelling asked start new read told
-settled start asked old new read told faults is reader takes margin more behind =
+    → TellsOn start.numbers old.teller new.teller asked.opts.margin read (line_names old.reader).clients faults → new.behind ≡ old.behind → new.before ≡ old.before
+    → IsTelling asked start new read told
+settled start asked old new read told faults is reader takes margin more behind before =
     let names = (line_names old.reader).clients in
     record {
       behind = behind ∙ is.behind;
+      carried = subst (IsCarried start.before) (sym before) is.carried;
       windows = is.windows ++ more.windows;
       taken = subst (AreTaken start new.taking read) (faults_on start old.teller new.teller asked.opts.margin read names is.windows faults more) takes;
       margin = margin ∙ is.margin;
@@ -162,7 +186,7 @@ settled start asked old new read told faults is reader takes margin more behind 
       are = are_on start asked old.teller new.teller asked.opts.margin read names is.windows faults is.are more;
     }
 
-counted_for : (start : Start) (old : Follower) (read : List (Result SaidLine Why)) {told : List Found} → AreTaken start old.taking read told → (new : Follower)
+pub counted_for : (start : Start) (old : Follower) (read : List (Result SaidLine Why)) {told : List Found} → AreTaken start old.taking read told → (new : Follower)
     → new.taking.counts ≡ old.taking.counts → new.taking.numbering ≡ old.taking.numbering → IsCounted start read (counted_of new.taking)
 counted_for start old read are new counts numbering = record {
   lines = ap (λ (counts : Counts). counts.lines) counts ∙ are.counted.lines;
@@ -193,14 +217,15 @@ late_for start old read are new counts =
 
 -- and when it settles for good
 pub settled_all : (start : Start) (asked : AuditArguments) (ends : Bool) (old new : Follower) (read : List (Result SaidLine Why)) (told : List ℕ) (faults : List Found) → (is : IsTelling asked start old read told)
-    → new.reader ≡ old.reader → TellsOn start.numbers old.teller new.teller asked.opts.margin read (line_names old.reader).clients faults → new.behind ≡ old.behind
+    → new.reader ≡ old.reader → TellsOn start.numbers old.teller new.teller asked.opts.margin read (line_names old.reader).clients faults → new.behind ≡ old.behind → new.before ≡ old.before
     → new.taking.counts ≡ old.taking.counts → new.taking.numbering ≡ old.taking.numbering
     → (start.early ≡ 0 → old.taking.counts.early ≡ 0 → IsComplete ends asked.opts.margin read ((start.told ++ told_in_all read is.windows) ++ faults))
     → HasToldAll asked start ends new read told
-settled_all start asked ends old new read told faults is reader more behind counts numbering whole =
+settled_all start asked ends old new read told faults is reader more behind before counts numbering whole =
     let names = (line_names old.reader).clients in
     record {
       behind = behind ∙ is.behind;
+      carried = subst (IsCarried start.before) (sym before) is.carried;
       windows = is.windows ++ more.windows;
       tells = subst (λ reader. AreWindows start.numbers asked.opts.margin asked.wanted read (line_names reader).clients (is.windows ++ more.windows) (told ++ string_bytes new.teller.text)) (sym reader)
           (tells_on start asked old new.teller read told is.windows faults is.tells more is.are.wanted);
@@ -223,6 +248,7 @@ pub told_so_far : (start : Start) (asked : AuditArguments) (old : Follower) (rea
 told_so_far start asked old read told is each_once = (
   record {
     behind = is.behind;
+    carried = is.carried;
     windows = is.windows;
     tells = is.tells;
     are = is.are;
@@ -251,15 +277,18 @@ same_arguments asked start last behind margin by_key =
     ∙ (ap (λ n. make start.behind n (is_some last.teller.key)) margin ∙ ap (make start.behind asked.opts.margin) by_key)
 
 -- what is told of lines is told of a text that has them
-pub all_told : (asked : AuditArguments) (start : Start) (ends : Bool) (last : Follower) (bytes told text end : List ℕ) (found : Option LogFault) (last_early : Option ℕ)
+pub all_told : (asked : AuditArguments) (start : Start) (ends : Bool) (last : Follower) (bytes told text end : List ℕ) (all : Counted) (found : Option LogFault) (last_early : Option ℕ)
     → (is : HasToldAll asked start ends last (lines_asked asked bytes) told) → names_asked asked bytes ≡ line_names last.reader
-    → text ≡ string_bytes last.teller.text ++ end → found ≡ last.teller.first → last_early ≡ last.taking.counts.last_early
-    → IsEnd (not (is_some last.teller.first) && not last.teller.wanted.json) last.teller.wanted.totals last.teller.wanted.json (counted_of last.taking) (told_with last.behind last.teller (members_asked asked))
-    (map printed (line_names last.reader).clients) (faults_told (lines_asked asked bytes) is.windows) end
+    → text ≡ string_bytes last.teller.text ++ end → found ≡ last.teller.first
+    → all ≡ counted_on (counted_in last.before.counts last.before.refused) (counted_of last.taking)
+    → last_early ≡ option_or last.taking.counts.last_early last.before.counts.last_early
+    → IsEnd (not (is_some last.teller.first) && not last.teller.wanted.json) last.teller.wanted.totals last.teller.wanted.json all (told_with last.behind last.teller (members_asked asked))
+    (start.before.told ++ faults_told (lines_asked asked bytes) is.windows) end
     → (followed : IsFollowed asked start ends bytes (told ++ text) found last_early) × (followed.windows ≡ is.windows) × (followed.counts ≡ counted_of last.taking)
-all_told asked start ends last bytes told text end found last_early is names texts first early end_is =
+all_told asked start ends last bytes told text end all found last_early is names texts first counts early end_is =
     let read = lines_asked asked bytes in
-    let faults = faults_told read is.windows in (
+    let faults = start.before.told ++ faults_told read is.windows in
+    let so : all ≡ counted_on start.before.counts (counted_of last.taking) = counts ∙ ap (λ (before : Counted). counted_on before (counted_of last.taking)) is.carried.counts in (
       record {
         windows = is.windows;
         told = told ++ string_bytes last.teller.text;
@@ -270,19 +299,20 @@ all_told asked start ends last bytes told text end found last_early is names tex
         first = first ∙ is.are.first;
         counted = is.counted;
         end_is =
-            subst (λ found. IsEnd (not (is_some found) && not asked.wanted.json) asked.wanted.totals asked.wanted.json (counted_of last.taking) (followed_by asked start.behind)
-            (map printed (names_asked asked bytes).clients) faults end) (sym first)
-            (subst (λ names. IsEnd (not (is_some last.teller.first) && not asked.wanted.json) asked.wanted.totals asked.wanted.json (counted_of last.taking) (followed_by asked start.behind)
-            (map printed names.clients) faults end) (sym names)
-            (subst (λ arguments. IsEnd (not (is_some last.teller.first) && not asked.wanted.json) asked.wanted.totals asked.wanted.json (counted_of last.taking) arguments
-            (map printed (line_names last.reader).clients) faults end) (same_arguments asked start last is.behind is.are.margin is.are.by_key)
-            (subst (λ wanted. IsEnd (not (is_some last.teller.first) && not wanted.json) wanted.totals wanted.json (counted_of last.taking) (told_with last.behind last.teller (members_asked asked))
-            (map printed (line_names last.reader).clients) faults end) is.are.wanted end_is)));
+            subst (λ found. IsEnd (not (is_some found) && not asked.wanted.json) asked.wanted.totals asked.wanted.json (counted_on start.before.counts (counted_of last.taking)) (followed_by asked start.behind) faults end) (sym first)
+            (subst (λ arguments. IsEnd (not (is_some last.teller.first) && not asked.wanted.json) asked.wanted.totals asked.wanted.json (counted_on start.before.counts (counted_of last.taking)) arguments faults end)
+            (same_arguments asked start last is.behind is.are.margin is.are.by_key)
+            (subst (λ wanted. IsEnd (not (is_some last.teller.first) && not wanted.json) wanted.totals wanted.json (counted_on start.before.counts (counted_of last.taking)) (told_with last.behind last.teller (members_asked asked)) faults end)
+            is.are.wanted
+            (subst (λ (all : Counted). IsEnd (not (is_some last.teller.first) && not last.teller.wanted.json) last.teller.wanted.totals last.teller.wanted.json all (told_with last.behind last.teller (members_asked asked)) faults end)
+            so end_is)));
         whole = is.whole;
         before = is.before;
         early = is.early;
         ahead = is.ahead;
-        came = subst (AreEarly start.numbers.more read last.taking.counts.early last.taking.counts.judged) (sym early) is.came;
+        last = last.taking.counts.last_early;
+        came = is.came;
+        last_is = early ∙ ap (option_or last.taking.counts.last_early) is.carried.last_early;
         late = is.late;
       },
       refl,

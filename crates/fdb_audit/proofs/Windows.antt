@@ -1,11 +1,12 @@
 -- What is told of a log that is followed, window by window: windows follow one another, and stay as they are while more is read.
+use Rattle.std.specs.Prelude.{◌==◌}
 use Rattle.std.proofs.Common.{◌≡◌, ◌∙◌, ℕ, zero, suc, ◌<◌, ◌≤◌, Bool, true, false, cond, List, [], ◌∷◌, ◌++◌, All, ap, append-nil, append_assoc, arith, inl, inr, length, length-append, map, option_map, refl, slice_get, slice_index, slice_index_or, string_bytes, subst, sym, take, Option, None, Some, Result}
 use Rattle.std.proofs.lemmas.Bool.{cases_lt}
 use Rattle.std.proofs.lemmas.List.{get_or_append_left, get_or_past, get_or_push, length-map, take_all, take-append-le}
 use Rattle.std.proofs.lemmas.List.Elements.{All-append, All-cons, All-map, All-nil}
 use Rattle.std.proofs.lemmas.Grind.{flat_map-append}
 use Rattle.std.specs.List.{flat_map}
-use Rattle.std.specs.Option.{option_or}
+use Rattle.std.specs.Option.{option_or, option_eq}
 use Rattle.fdb_lines.specs.declared.fault.Fault.{Fault}
 use Rattle.fdb_lines.specs.declared.fault.Found.{Found}
 use Rattle.fdb_lines.specs.declared.key_part.KeyPart.{KeyPart}
@@ -13,7 +14,7 @@ use Rattle.fdb_lines.specs.declared.key_part.SettledKey.{SettledKey}
 use Rattle.fdb_lines.specs.declared.line.Line.{Line}
 use Rattle.fdb_lines.specs.declared.reason.Finding.{Finding}
 use Rattle.fdb_lines.specs.KeyParts.{lines_of_one}
-use Rattle.fdb_lines.specs.Keys.{key_at, placed_found, places_below, places_of, same_key}
+use Rattle.fdb_lines.specs.Keys.{key_at, placed_found, places_below, places_of}
 use Rattle.fdb_lines.specs.KeyWatch.{AreTold, IsToldOf}
 use Rattle.fdb_lines.specs.Lines.{line_at, lines_in}
 use Rattle.fdb_lines.specs.Log.{lines_of}
@@ -180,7 +181,7 @@ place_more before n i false within = rw append-nil (omega arith)
 
 place_within : (keys : List (Option ℕ)) (key : Option ℕ) (n i : ℕ) → slice_index (places_below keys key n) i ≤ n
 place_within keys key zero i = let past : slice_index (places_below keys key zero) i ≡ 0 = get_or_past {X = ℕ} [] i 0 (omega arith) in omega (arith, past)
-place_within keys key (suc n) i = place_more (places_below keys key n) n i (same_key (key_at keys n) key) (place_within keys key n i)
+place_within keys key (suc n) i = place_more (places_below keys key n) n i (option_eq ◌==◌ (key_at keys n) key) (place_within keys key n i)
 
 -- ---- what is told of a key
 
@@ -248,7 +249,7 @@ first_of it found = option_map (λ (finding : Finding). fault_of it.numbers (fou
 
 -- faults as they are counted
 abbrev pub faults_of : PrintedLog → List Finding → List ToldFault
-faults_of it found = map (λ (finding : Finding). told_at it.lines it.beside finding.found) found
+faults_of it found = map (λ (finding : Finding). told_at it.lines it.names it.beside finding.found) found
 
 pub tells_of : (kept : KeptNumbers) (old new : Teller) (margin : ℕ) (to : Option ℕ) (read : List (Result SaidLine Why)) (names : List (List ℕ)) (entry : SettledKey) (part : KeyPart) (beside : List Beside) (it : PrintedLog)
     → part.watch.margin ≡ margin → IsToldOf to (lines_taken read) (keys_taken read) entry part → it ≡ shown_of kept read names entry beside

@@ -1,5 +1,5 @@
 -- What is told of a log that is followed as it grows. (this product's own)
-use Rattle.std.specs.Prelude.{◌≡◌, ℕ, zero, suc, ◌+◌, ◌≤◌, ◌||◌, nat_le, not, Bool, true, false, List, [], ◌∷◌, ◌++◌, All, Option, None, Some, codes, count_by, drop, length, map, nat_lt, option_map, slice_get, slice_index, take, unwrap_or, Result, Ok, Err, if◌then◌else◌}
+use Rattle.std.specs.Prelude.{◌≡◌, ℕ, zero, suc, ◌+◌, ◌-◌, ◌^◌, ◌≤◌, ◌||◌, nat_le, not, Bool, true, false, List, [], ◌∷◌, ◌++◌, All, Option, None, Some, codes, count_by, drop, length, map, min, nat_lt, option_map, slice_get, slice_index, take, unwrap_or, Result, Ok, Err, if◌then◌else◌}
 use Rattle.std.specs.List.{flat_map}
 use Rattle.std.specs.Option.{option_or}
 use Rattle.fdb_lines.specs.declared.fault.Found.{Found}
@@ -54,10 +54,11 @@ last_refused number last [] = last
 last_refused number last (Ok said ∷ read) = last_refused (number + 1) last read
 last_refused number last (Err why ∷ read) = last_refused (number + 1) (Some (record { line = number; why = why })) read
 
--- that there is no line, where none is taken
-abbrev pub no_line : List SaidLine → Option ReadError
-no_line [] = Some (record { line = 0; why = Empty })
-no_line (said ∷ taken) = None
+-- that there is no line, where none is taken, and none was before
+abbrev pub no_line : List SaidLine → ℕ → Option ReadError
+no_line [] zero = Some (record { line = 0; why = Empty })
+no_line [] (suc before) = None
+no_line (said ∷ taken) before = None
 
 -- Of what was read before, lines that were kept of it come first: each with its number, counted from 1; and there were so many more.
 pub record KeptNumbers : Type 0 where
@@ -68,9 +69,37 @@ pub record KeptNumbers : Type 0 where
 abbrev pub none_kept : KeptNumbers
 none_kept = record { numbers = []; more = 0 }
 
+-- how many lines were taken, in all and of each kind; how many were refused; how many began before what had been settled, and
+-- how many of these were judged; and how many ends were found to be ahead
+pub record Counted : Type 0 where
+  pub lines : ℕ
+  pub reads : ℕ
+  pub commits : ℕ
+  pub asks : ℕ
+  pub reports : ℕ
+  pub refused : ℕ
+  pub early : ℕ
+  pub judged : ℕ
+  pub ahead : ℕ
+
+-- What an earlier piece of the same watch has counted: how much was read; the last line that was refused, and the number of the
+-- last that came early, if there is one; the first fault that was told, and all of them, as they are counted.
+pub record Before : Type 0 where
+  pub counts : Counted
+  pub refused : Option ReadError
+  pub last_early : Option ℕ
+  pub first : Option LogFault
+  pub told : List ToldFault
+
+abbrev pub none_counted : Counted
+none_counted = record { lines = 0; reads = 0; commits = 0; asks = 0; reports = 0; refused = 0; early = 0; judged = 0; ahead = 0 }
+
+abbrev pub none_before : Before
+none_before = record { counts = none_counted; refused = None; last_early = None; first = None; told = [] }
+
 -- From where a log is followed: how far behind the newest end a line that comes may begin; whether that is from its beginning; up
 -- to when all had been told; the numbers of the lines that were kept of what was read before, and of these how many lines they are,
--- how many had come early, and which faults had been told.
+-- how many had come early, and which faults had been told; and what an earlier piece of the same watch has counted.
 pub record Start : Type 0 where
   pub behind : ℕ
   pub anew : Bool
@@ -79,10 +108,20 @@ pub record Start : Type 0 where
   pub lines : ℕ
   pub early : ℕ
   pub told : List Found
+  pub before : Before
 
 -- none of the lines that have these numbers has been read yet
 abbrev pub start_with : ℕ → KeptNumbers → Start
-start_with behind numbers = record { behind = behind; anew = true; from = 0; numbers = numbers; lines = 0; early = 0; told = [] }
+start_with behind numbers = record {
+  behind = behind;
+  anew = true;
+  from = 0;
+  numbers = numbers;
+  lines = 0;
+  early = 0;
+  told = [];
+  before = none_before;
+}
 
 -- nothing was read before
 abbrev pub fresh : ℕ → Start
@@ -97,8 +136,9 @@ abbrev pub early_at : ℕ → List Line → ℕ
 early_at at lines = count_by (λ line. nat_lt (began line) at) lines
 
 -- why a part of a log is refused, if it is: the last line that is, or that none is taken
-abbrev pub left_out : KeptNumbers → List (Result SaidLine Why) → Option ReadError
-left_out kept read = option_or (last_refused (kept.more + 1) None read) (no_line (taken read))
+abbrev pub left_out : Start → List (Result SaidLine Why) → Option ReadError
+left_out start read =
+    option_or (last_refused (start.numbers.more + 1) start.before.refused read) (no_line (taken read) start.before.counts.lines)
 
 -- The number of a line among all, counted from 1, by how many were taken above it: these, those that were not kept, and those
 -- that were refused above.
@@ -180,28 +220,16 @@ told_in read window = map (λ finding. placed_found (places_in read window) (fou
 abbrev pub told_in_all : List (Result SaidLine Why) → List Window → List Found
 told_in_all read windows = flat_map (λ (window : Window). told_in (take window.read read) window) windows
 
--- the same as they are counted: each by its kind, its client and what was printed beside it
+-- the same as they are counted: each by its kind, its client as it was printed, and what was printed beside it
 abbrev pub faults_at : List (Result SaidLine Why) → Window → List ToldFault
 faults_at read window =
-    map (λ (finding : Finding). told_at (lines_in (lines_taken read) (places_in read window)) window.beside finding.found) window.found
+    let lines = lines_in (lines_taken read) (places_in read window) in
+    map (λ (finding : Finding). told_at lines (map printed window.names) window.beside finding.found) window.found
 
 abbrev pub faults_told : List (Result SaidLine Why) → List Window → List ToldFault
 faults_told read windows = flat_map (λ (window : Window). faults_at (take window.read read) window) windows
 
 -- ---- what is printed at the end
-
--- how many lines were taken, in all and of each kind; how many were refused; how many began before what had been settled, and
--- how many of these were judged; and how many ends were found to be ahead
-pub record Counted : Type 0 where
-  pub lines : ℕ
-  pub reads : ℕ
-  pub commits : ℕ
-  pub asks : ℕ
-  pub reports : ℕ
-  pub refused : ℕ
-  pub early : ℕ
-  pub judged : ℕ
-  pub ahead : ℕ
 
 pub record IsCounted (start : Start) (read : List (Result SaidLine Why)) (counts : Counted) : Type 0 where
   pub lines : counts.lines ≡ length (lines_since start read)
@@ -210,6 +238,28 @@ pub record IsCounted (start : Start) (read : List (Result SaidLine Why)) (counts
   pub asks : counts.asks ≡ how_many is_ask (lines_since start read)
   pub reports : counts.reports ≡ how_many is_report (lines_since start read)
   pub refused : counts.refused ≡ length (taken_above 0 read)
+
+-- a count that may be full, and so many more
+abbrev pub sum_of : ℕ → ℕ → ℕ
+sum_of before more = min (before + more) (2 ^ 64 - 1)
+
+-- how much was read in all, by what was read before
+abbrev pub counted_on : Counted → Counted → Counted
+counted_on before counts = record {
+  lines = sum_of before.lines counts.lines;
+  reads = sum_of before.reads counts.reads;
+  commits = sum_of before.commits counts.commits;
+  asks = sum_of before.asks counts.asks;
+  reports = sum_of before.reports counts.reports;
+  refused = sum_of before.refused counts.refused;
+  early = sum_of before.early counts.early;
+  judged = sum_of before.judged counts.judged;
+  ahead = sum_of before.ahead counts.ahead;
+}
+
+-- so much was read, with what an earlier piece has counted
+abbrev pub AreCountedOn : Start → List (Result SaidLine Why) → Counted → Type 0
+AreCountedOn start read all = (counts : Counted) × IsCounted start read counts × (all ≡ counted_on start.before.counts counts)
 
 -- of lines that came early it is said how many were judged, where there are some
 abbrev pub judged_figures : ℕ → ℕ → List Figure
@@ -251,8 +301,8 @@ total_head true counts asked = line (total_object (counted_figures counts) (foll
 
 -- What is printed behind all that was told: that no fault was, in words, or that none was but lines came early; or the totals,
 -- where they are wanted.
-abbrev pub IsEnd : (quiet totals json : Bool) → Counted → FollowArguments → List (List ℕ) → List ToldFault → List ℕ → Type 0
-IsEnd true totals json counts asked names told text = text ≡ line (figures_words (verdict_of counts.early) (counted_figures counts))
-IsEnd false false json counts asked names told text = text ≡ []
-IsEnd false true json counts asked names told text =
-    (totals : List ℕ) × AreTotals json names asked.members told totals × (text ≡ total_head json counts asked ++ totals)
+abbrev pub IsEnd : (quiet totals json : Bool) → Counted → FollowArguments → List ToldFault → List ℕ → Type 0
+IsEnd true totals json counts asked told text = text ≡ line (figures_words (verdict_of counts.early) (counted_figures counts))
+IsEnd false false json counts asked told text = text ≡ []
+IsEnd false true json counts asked told text =
+    (totals : List ℕ) × AreTotals json asked.members told totals × (text ≡ total_head json counts asked ++ totals)

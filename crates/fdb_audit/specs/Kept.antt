@@ -15,7 +15,7 @@ use Rattle.fdb_log_reader.specs.Reading.{EndsALine, lines_in}
 use Rattle.fdb_audit.specs.declared.arguments.AuditArguments.{AuditArguments}
 use Rattle.fdb_audit.specs.declared.fault.LogFault.{LogFault}
 use Rattle.fdb_audit.specs.declared.taking.Taking.{Taking}
-use Rattle.fdb_audit.specs.Following.{KeptNumbers, Start, early_at, keys_taken, lines_taken, number_in, taken, told_in_all}
+use Rattle.fdb_audit.specs.Following.{KeptNumbers, Start, early_at, keys_taken, lines_taken, none_before, number_in, taken, told_in_all}
 use Rattle.fdb_audit.specs.Taken.{AreTaken}
 use Rattle.fdb_audit.specs.Watched.{IsFollowed, lines_asked, names_asked}
 
@@ -68,6 +68,7 @@ start_from behind margin kept read = record {
   lines = length read;
   early = early_at kept.settled (lines_taken (drop kept.told read));
   told = audited_to margin kept.settled (lines_taken (take kept.told read)) (keys_taken (take kept.told read));
+  before = none_before;
 }
 
 -- and by the text that keeps them

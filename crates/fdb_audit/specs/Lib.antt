@@ -12,9 +12,12 @@ pub mod Warned
 pub mod Tallied
 pub mod Taken
 pub mod Watched
-pub mod Progress
 pub mod Kept
+pub mod GoingOn
+pub mod Progress
 pub mod Pieces
+pub mod AllPieces
 pub mod Joined
+pub mod KeptFile
 pub mod Program
 pub mod private

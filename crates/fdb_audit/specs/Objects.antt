@@ -1,8 +1,6 @@
 -- What is printed of a log as JSON, an object a line (RFC 8259). (this product's own)
 use Rattle.std.specs.Prelude.{ℕ, ◌++◌, ◌∷◌, if◌then◌else◌, Bool, true, List, [], Option, None, Some, codes, decimal, slice_get}
 use Rattle.std.specs.List.{flat_map}
-use Rattle.fdb_lines.specs.declared.fault.Fault.{Fault}
-use Rattle.fdb_lines.specs.declared.fault.Fault.TheVariants.{Order, Wrong, NotAbove, Twice, Stray}
 use Rattle.fdb_lines.specs.declared.late.Late.{Late}
 use Rattle.fdb_lines.specs.declared.line.Operation.{Operation}
 use Rattle.fdb_lines.specs.declared.line.Operation.TheVariants.{Read, Commit, Ask, Report, Learn}
@@ -15,6 +13,7 @@ use Rattle.fdb_lines.specs.declared.reason.Reason.TheVariants.{Known, Unreported
 use Rattle.fdb_lines.specs.declared.reason.Witness.{Witness}
 use Rattle.fdb_lines.specs.declared.step.OrderStep.{OrderStep}
 use Rattle.fdb_lines.specs.Lines.{line_at}
+use Rattle.fdb_lines.specs.Text.{fault_name}
 use Rattle.fdb_log_reader.specs.Columns.{text_at}
 use Rattle.fdb_audit.specs.Figures.{Figure, figure, figures_text, step_figures}
 use Rattle.fdb_audit.specs.Text.{Beside, PrintedLog, client_or, name_or_number, number_at}
@@ -81,16 +80,9 @@ abbrev pub late_field : PrintedLog → Option Late → List ℕ
 late_field it None = []
 late_field it (Some late) = codes ",\"late\":" ++ decimal late.by ++ codes ",\"first\":" ++ line_object it late.line
 
-abbrev pub fault_word : Fault → List ℕ
-fault_word Order = codes "Order"
-fault_word Wrong = codes "Wrong"
-fault_word NotAbove = codes "NotAbove"
-fault_word Twice = codes "Twice"
-fault_word Stray = codes "Stray"
-
 abbrev pub fault_object : PrintedLog → Finding → List ℕ
 fault_object it finding =
-    codes "{\"fault\":\"" ++ fault_word finding.found.fault ++ codes "\",\"at\":" ++ line_object it finding.found.line
+    codes "{\"fault\":\"" ++ fault_name finding.found.fault ++ codes "\",\"at\":" ++ line_object it finding.found.line
     ++ late_field it finding.late ++ reason_field it finding.reason ++ codes "}"
 
 -- ---- an order

@@ -20,13 +20,13 @@ use Rattle.fdb_audit.specs.declared.judged.Wanted.{Wanted}
 use Rattle.fdb_audit.specs.declared.refused.LogsRefused.{LogsRefused}
 use Rattle.fdb_audit.specs.declared.refused.LogsRefused.TheVariants.{Early, Log}
 use Rattle.fdb_audit.specs.declared.refused.LogsRefused.TheVariants.{Kept as Of_kept}
-use Rattle.fdb_audit.specs.Following.{Start, fresh, left_out}
+use Rattle.fdb_audit.specs.Following.{Start, fresh}
 use Rattle.fdb_audit.specs.Kept.{start_of}
+use Rattle.fdb_audit.specs.KeptFile.{KeepingFails}
 use Rattle.fdb_audit.specs.declared.audit_program.AuditIntake.{AuditIntake}
 use Rattle.fdb_audit.specs.declared.audit_program.AuditIntake.TheVariants.{Whole, Followed}
 use Rattle.fdb_audit.specs.declared.audit_program.TheConstants.{MAX_LOG_BYTES}
 use Rattle.fdb_audit.specs.Progress.{HasPrinted, IsPrinted}
-use Rattle.fdb_audit.specs.Watched.{lines_asked}
 
 -- an argument that gives a text, as clap is given it
 abbrev pub text_rule : Text → Rule
@@ -121,11 +121,7 @@ HasTaken asked (Followed log) bytes told =
     (behind : ℕ) × (asked.follow ≡ Some behind) × (kept : List ℕ) × MayBeKept asked kept
     × HasPrinted asked (started asked behind kept) log (kept ++ bytes) told
 
--- why a part of a text is refused, if it is: the last line that is, or that none is taken
-abbrev pub refused_of : AuditArguments → Start → List ℕ → Option ReadError
-refused_of asked start text = left_out start.numbers (lines_asked asked text)
-
--- and why not all of it was judged: for that, or the last line that came early
+-- why not all of a log was judged: the last line that is refused, or that none is taken, or the last line that came early
 abbrev pub refusal_of : Option ReadError → Option ℕ → Option LogsRefused
 refusal_of refused last_early = option_or (option_map Log refused) (option_map Early last_early)
 
@@ -133,9 +129,9 @@ refusal_of refused last_early = option_or (option_map Log refused) (option_map E
 abbrev pub PrintsBy : Option ℕ → AuditArguments → List ℕ → List ℕ → Option LogFault → Option LogsRefused → Type 0
 PrintsBy None asked bytes text found refused = Prints asked bytes text found × (refused ≡ None)
 PrintsBy (Some behind) asked bytes text found refused =
-    (kept : List ℕ) × MayBeKept asked kept × (last_early : Option ℕ)
-    × IsPrinted asked (started asked behind kept) (not (is_some asked.keep)) (kept ++ bytes) text found last_early
-    × (refused ≡ refusal_of (refused_of asked (started asked behind kept) (kept ++ bytes)) last_early)
+    (kept : List ℕ) × MayBeKept asked kept × (error : Option ReadError) × (last_early : Option ℕ)
+    × IsPrinted asked (started asked behind kept) (not (is_some asked.keep)) (kept ++ bytes) text found error last_early
+    × (refused ≡ refusal_of error last_early)
 
 -- why it is refused, or why a part of it is, or that not all of it was judged; or what was kept is
 abbrev pub RefusesBy : Option ℕ → AuditArguments → List ℕ → LogsRefused → Type 0
@@ -143,11 +139,11 @@ RefusesBy None asked bytes (Log error) = (error.why ≢ Memory) × (reading_aske
 RefusesBy None asked bytes (Early number) = ⊥
 RefusesBy None asked bytes (Of_kept refused) = ⊥
 RefusesBy (Some behind) asked bytes (Log error) =
-    (kept : List ℕ) × MayBeKept asked kept × (refused_of asked (started asked behind kept) (kept ++ bytes) ≡ Some error)
+    (kept : List ℕ) × MayBeKept asked kept × (text : List ℕ) × (found : Option LogFault) × (last_early : Option ℕ)
+    × IsPrinted asked (started asked behind kept) (not (is_some asked.keep)) (kept ++ bytes) text found (Some error) last_early
 RefusesBy (Some behind) asked bytes (Early number) =
-    (kept : List ℕ) × MayBeKept asked kept × (refused_of asked (started asked behind kept) (kept ++ bytes) ≡ None)
-    × (text : List ℕ) × (found : Option LogFault)
-    × IsPrinted asked (started asked behind kept) (not (is_some asked.keep)) (kept ++ bytes) text found (Some number)
+    (kept : List ℕ) × MayBeKept asked kept × (text : List ℕ) × (found : Option LogFault)
+    × IsPrinted asked (started asked behind kept) (not (is_some asked.keep)) (kept ++ bytes) text found None (Some number)
 RefusesBy (Some behind) asked bytes (Of_kept refused) = is_some asked.keep ≡ true
 
 -- Neither --complete nor --history suits --follow, --keep suits nothing else, --position suits --keep alone, and --numbers suits neither --follow nor --history. It prints what an audit of the log finds that the bytes stand for,
@@ -166,7 +162,7 @@ audit = record {
   asks = IsAsked;
   tells = λ arguments. is_set (codes "progress") command arguments;
   warns = λ arguments. is_some (number_named (codes "follow") arguments);
-  keeps = λ arguments. is_some (first_of (codes "keep") (matches_of command arguments));
+  fails = λ arguments fault. KeepingFails (first_of (codes "keep") (matches_of command arguments)) fault;
   taken = HasTaken;
   prints = λ arguments bytes text found refused. (asked : AuditArguments) × IsAsked arguments asked
       × PrintsBy asked.follow asked bytes text found refused;

@@ -1,15 +1,18 @@
 -- How far a log has been followed, as it is printed in between. (this product's own)
-use Rattle.std.specs.Prelude.{◌≡◌, ◌++◌, ℕ, Bool, true, List, [], ◌∷◌, All, IfSome, Option, None, Some, Result, codes}
+use Rattle.std.specs.Prelude.{◌≡◌, ◌++◌, ℕ, zero, suc, Bool, true, List, [], ◌∷◌, All, IfSome, Option, None, Some, Result, codes}
 use Rattle.std.specs.List.{flat_map}
+use Rattle.fdb_log_reader.specs.declared.error.ReadError.{ReadError}
 use Rattle.fdb_log_reader.specs.declared.error.Why.{Why}
 use Rattle.fdb_log_reader.specs.ReadLine.{SaidLine}
 use Rattle.fdb_audit.specs.Figures.{Figure, figure, figures_text}
-use Rattle.fdb_audit.specs.Following.{Counted, IsCounted, Start, counted_figures}
+use Rattle.fdb_audit.specs.Following.{AreCountedOn, Counted, Start, counted_figures, left_out}
+use Rattle.fdb_audit.specs.GoingOn.{GoesOn}
 use Rattle.fdb_audit.specs.Text.{line}
-use Rattle.fdb_audit.specs.Watched.{HasFollowed, IsFollowed, lines_asked}
+use Rattle.fdb_audit.specs.Watched.{AskForTheSame, HasFollowed, IsFollowed, lines_asked}
 use Rattle.fdb_audit.specs.declared.arguments.AuditArguments.{AuditArguments}
 use Rattle.fdb_audit.specs.declared.fault.LogFault.{LogFault}
 use Rattle.fdb_audit.specs.declared.followed_log.FollowedLog.{FollowedLog}
+use Rattle.fdb_audit.specs.declared.follower.Follower.{Follower}
 use Rattle.fdb_audit.specs.declared.progress.Progress.{Progress}
 
 -- how much had been read
@@ -49,7 +52,7 @@ progress_text (Some it) = progress_object it
 -- for.
 pub record IsPart (asked : AuditArguments) (start : Start) (bytes : List ℕ) (part : Part) : Type 0 where
   pub first : (text : List ℕ) → (rest : List (Result SaidLine Why)) × (lines_asked asked (bytes ++ text) ≡ part.read ++ rest)
-  pub counts : IfSome part.progress (λ it. (asked.wanted.json ≡ true) × IsCounted start part.read (counted_by it))
+  pub counts : IfSome part.progress (λ it. (asked.wanted.json ≡ true) × AreCountedOn start part.read (counted_by it))
 
 -- What is told of these bytes is printed in parts, behind some of which stands how far the log was followed then.
 abbrev pub IsToldWith : AuditArguments → Start → (bytes told text : List ℕ) → Type 0
@@ -57,12 +60,34 @@ IsToldWith asked start bytes told text =
     (parts : List Part) × (told ≡ flat_map (λ (part : Part). part.told) parts) × (text ≡ flat_map (λ (part : Part). part.told ++ progress_text part.progress) parts)
     × All (IsPart asked start bytes) parts
 
+-- A watch has gone on so many times while it read these bytes: this is printed of each piece of them, and of what is left, behind the
+-- text that keeps the lines of what came before, what the last says.
+abbrev pub ArePieces : AuditArguments → (Start → (bytes text : List ℕ) → Type 0) → (times : ℕ) → Start → (bytes text : List ℕ) → Type 0
+ArePieces asked Last zero start bytes text = Last start bytes text
+ArePieces asked Last (suc times) start bytes text =
+    (piece rest first more told kept : List ℕ) × (bytes ≡ piece ++ rest) × (text ≡ first ++ more)
+    × (next : Start) × GoesOn asked start piece told kept next × IsToldWith asked start piece told first
+    × ArePieces asked Last times next (kept ++ rest) more
+
+-- This is printed of bytes that have been read, of which a watch has not gone on.
+pub record PrintedSoFar (asked : AuditArguments) (follower : Follower) (start : Start) (bytes text : List ℕ) : Type 0 where
+  pub told : List ℕ
+  pub followed : HasFollowed asked start follower bytes told
+  pub told_with : IsToldWith asked start bytes told text
+
 -- This is printed of these bytes, which have been read.
 abbrev pub HasPrinted : AuditArguments → Start → FollowedLog → (bytes text : List ℕ) → Type 0
 HasPrinted asked start log bytes text =
-    (log.reporter.objects ≡ asked.wanted.json) × (told : List ℕ) × HasFollowed asked start log.follower bytes told × IsToldWith asked start bytes told text
+    (log.reporter.objects ≡ asked.wanted.json) × AskForTheSame asked log.asked
+    × (times : ℕ) × ArePieces asked (PrintedSoFar asked log.follower) times start bytes text
 
--- And so this is of all of them, at their end.
-abbrev pub IsPrinted : AuditArguments → Start → (ends : Bool) → (bytes text : List ℕ) → Option LogFault → Option ℕ → Type 0
-IsPrinted asked start ends bytes text found last_early =
-    (told : List ℕ) × IsFollowed asked start ends bytes told found last_early × IsToldWith asked start bytes told text
+-- And this at their end, where the last line that is refused is this one, and the last that came early has this number.
+pub record PrintedAll (asked : AuditArguments) (ends : Bool) (found : Option LogFault) (refused : Option ReadError) (last_early : Option ℕ) (start : Start) (bytes text : List ℕ) : Type 0 where
+  pub told : List ℕ
+  pub followed : IsFollowed asked start ends bytes told found last_early
+  pub told_with : IsToldWith asked start bytes told text
+  pub left : refused ≡ left_out start (lines_asked asked bytes)
+
+abbrev pub IsPrinted : AuditArguments → Start → (ends : Bool) → (bytes text : List ℕ) → Option LogFault → Option ReadError → Option ℕ → Type 0
+IsPrinted asked start ends bytes text found refused last_early =
+    (times : ℕ) × ArePieces asked (PrintedAll asked ends found refused last_early) times start bytes text

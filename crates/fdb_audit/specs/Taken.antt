@@ -8,16 +8,17 @@ use Rattle.fdb_lines.specs.Summary.{how_many}
 use Rattle.fdb_lines.specs.ToldByKey.{HasTold}
 use Rattle.fdb_log_reader.specs.declared.error.Why.{Why}
 use Rattle.fdb_log_reader.specs.ReadLine.{SaidLine}
+use Rattle.fdb_audit.specs.declared.carried.Carried.{Carried}
 use Rattle.fdb_audit.specs.declared.counts.Counts.{Counts}
 use Rattle.fdb_audit.specs.declared.numbering.Numbering.{Numbering}
 use Rattle.fdb_audit.specs.declared.taking.Taking.{Taking}
 use Rattle.fdb_audit.specs.declared.teller.Teller.{Teller}
 use Rattle.fdb_audit.specs.declared.beside.Column.{Column}
 use Rattle.fdb_audit.specs.declared.told_faults.ToldFaults.{ToldFaults}
-use Rattle.fdb_audit.specs.Tallied.{HasClients, HasKinds, HasTextsIn}
-use Rattle.fdb_audit.specs.ToldFaults.{ToldFault}
+use Rattle.fdb_audit.specs.Tallied.{HasKinds, HasTexts, HasTextsIn}
+use Rattle.fdb_audit.specs.ToldFaults.{ToldFault, client_of}
 use Rattle.fdb_audit.specs.Warned.{AreEarly, IsSaid}
-use Rattle.fdb_audit.specs.Following.{Counted, KeptNumbers, Start, early_at, keys_taken, last_refused, lines_since, lines_taken, taken, taken_above}
+use Rattle.fdb_audit.specs.Following.{Before, Counted, KeptNumbers, Start, early_at, keys_taken, last_refused, lines_since, lines_taken, taken, taken_above}
 use Rattle.fdb_audit.specs.Clocks.{ahead_end, ahead_in, believed_end, newest_end, others_end, out_of_reach}
 use Rattle.fdb_audit.specs.declared.clocks.Clocks.{Clocks}
 use Rattle.fdb_audit.specs.declared.clocks.Leader.{Leader}
@@ -102,7 +103,7 @@ HasWarned start taking read warned = IsSaid start read taking.counts.early takin
 -- These faults are counted: in all, by their clients, and by what was printed of these members.
 pub record HasCounted (members : List (List ℕ)) (faults : ToldFaults) (told : List ToldFault) : Type 0 where
   pub kinds : HasKinds faults.kinds (map (λ (it : ToldFault). it.kind) told)
-  pub clients : HasClients faults.clients told
+  pub clients : HasTexts client_of told faults.clients
   pub texts : HasTextsIn members told faults.texts.items
   pub columns : map (λ (column : Column). string_bytes column.member) faults.columns.items ≡ members
 
@@ -129,3 +130,9 @@ counted_in counts refused = record {
 
 abbrev pub counted_of : Taking → Counted
 counted_of taking = counted_in taking.counts (length taking.numbering.above.items)
+
+-- This is carried of what an earlier piece has counted, but for the faults that were told.
+pub record IsCarried (before : Before) (carried : Carried) : Type 0 where
+  pub counts : counted_in carried.counts carried.refused ≡ before.counts
+  pub refused : carried.last_refused ≡ before.refused
+  pub last_early : carried.counts.last_early ≡ before.last_early

@@ -7,8 +7,7 @@ use Rattle.fdb_lines.specs.declared.fault.Fault.TheVariants.{Order, Wrong, NotAb
 use Rattle.fdb_log_reader.specs.Numbers.{number_in}
 use Rattle.fdb_audit.specs.Counting.{how_many_of}
 use Rattle.fdb_audit.specs.Groups.{kinds_of, number_of, of_group, Owned}
-use Rattle.fdb_audit.specs.ToldFaults.{ToldFault, by_client, by_text}
-use Rattle.fdb_audit.specs.declared.client_groups.ClientGroups.{ClientGroups}
+use Rattle.fdb_audit.specs.ToldFaults.{ToldFault, by_text, text_of}
 use Rattle.fdb_audit.specs.declared.groups.Group.{Group}
 use Rattle.fdb_audit.specs.declared.groups.Tally.{Tally}
 use Rattle.fdb_audit.specs.declared.text_groups.TextGroups.{TextGroups}
@@ -43,12 +42,6 @@ pub record HasTallied (tally : Tally) (owned : List Owned) : Type 0 where
   pub all : (group : Option ℕ) → 0 < length (of_group owned group) → Contains tally.owners.items group
   pub counts : (group : Option ℕ) → HasKinds (kinds_at tally (number_of group)) (kinds_of (of_group owned group))
 
--- the faults that were told are counted by their clients, as far as there is room
-pub record HasClients (groups : ClientGroups) (told : List ToldFault) : Type 0 where
-  pub tally : HasTallied groups.tally (by_client told).owned
-  pub clients : groups.clients ≡ (by_client told).clients
-  pub more : groups.more ≡ (by_client told).more
-
 -- the texts that have numbers, and that each has its own
 abbrev pub texts_in : TextGroups → List (List ℕ)
 texts_in groups = map string_bytes groups.texts.items
@@ -56,14 +49,14 @@ texts_in groups = map string_bytes groups.texts.items
 abbrev pub AreNumbered : TextGroups → Type 0
 AreNumbered groups = (text : List ℕ) → get_by_text groups.numbers text ≡ number_in (texts_in groups) text
 
--- and by what was printed of a member
-pub record HasTexts (member : ℕ) (told : List ToldFault) (groups : TextGroups) : Type 0 where
-  pub texts : texts_in groups ≡ (by_text member told).texts
+-- the faults that were told are counted by their texts, as far as there is room
+pub record HasTexts (its : ToldFault → Option (List ℕ)) (told : List ToldFault) (groups : TextGroups) : Type 0 where
+  pub texts : texts_in groups ≡ (by_text its told).texts
   pub numbers : AreNumbered groups
-  pub tally : HasTallied groups.tally (by_text member told).owned
-  pub more : groups.more ≡ (by_text member told).more
+  pub tally : HasTallied groups.tally (by_text its told).owned
+  pub more : groups.more ≡ (by_text its told).more
 
--- and so of each of these members
+-- by what was printed of each of these members
 pub record HasTextsIn (members : List (List ℕ)) (told : List ToldFault) (texts : List TextGroups) : Type 0 where
   pub members_are : map (λ (groups : TextGroups). string_bytes groups.member) texts ≡ members
-  pub each : (member : ℕ) (other : TextGroups) → member < length texts → HasTexts member told (slice_index_or texts member other)
+  pub each : (member : ℕ) (other : TextGroups) → member < length texts → HasTexts (text_of member) told (slice_index_or texts member other)

@@ -177,7 +177,7 @@ abbrev pub fault_of : List ℕ → Found → LogFault
 fault_of numbers found = record { fault = found.fault; number = number_at numbers found.line }
 
 abbrev pub fault_text : LogFault → List ℕ
-fault_text it = fault_name it.fault ++ decimal it.number
+fault_text it = fault_name it.fault ++ codes " " ++ decimal it.number
 
 -- a fault by its name and line, and why it stands
 abbrev pub finding_text : PrintedLog → Finding → List ℕ

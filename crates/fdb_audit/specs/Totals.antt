@@ -2,13 +2,13 @@
 use Rattle.std.specs.Prelude.{ℕ, ◌++◌, ◌∷◌, Bool, true, false, List, [], Option, None, Some, codes, length, slice_get}
 use Rattle.fdb_lines.specs.declared.fault.Fault.{Fault}
 use Rattle.fdb_lines.specs.declared.fault.Fault.TheVariants.{Order, Wrong, NotAbove, Twice, Stray}
+use Rattle.fdb_lines.specs.Text.{fault_name}
 use Rattle.fdb_audit.specs.Counting.{how_many_of}
 use Rattle.fdb_audit.specs.Figures.{Figure, figure, figures_text}
-use Rattle.fdb_audit.specs.Objects.{fault_word}
 use Rattle.fdb_audit.specs.Text.{Beside}
 
 abbrev pub kind_figure : Fault → List Fault → Figure
-kind_figure fault faults = figure (fault_word fault) (how_many_of fault faults)
+kind_figure fault faults = figure (fault_name fault) (how_many_of fault faults)
 
 -- how many there are, in all and of each kind
 abbrev pub fault_figures : List Fault → List Figure

@@ -1,5 +1,6 @@
 -- What has been told of a text whose log is followed. (this product's own)
 use Rattle.std.specs.Prelude.{◌≡◌, ℕ, ◌<◌, ◌≤◌, ◌&&◌, ◌++◌, Bool, true, false, not, All, IsPermutation, List, Option, is_some, map, nat_lt, option_map, option_to_list, string_bytes, Result}
+use Rattle.std.specs.Option.{option_or}
 use Rattle.fdb_lines.specs.declared.fault.Found.{Found}
 use Rattle.fdb_lines.specs.ToldByKey.{audited, audited_to}
 use Rattle.fdb_log_reader.specs.declared.error.Why.{Why}
@@ -11,9 +12,9 @@ use Rattle.fdb_audit.specs.declared.arguments.AuditArguments.{AuditArguments}
 use Rattle.fdb_audit.specs.declared.fault.LogFault.{LogFault}
 use Rattle.fdb_audit.specs.declared.follower.Follower.{Follower}
 use Rattle.fdb_audit.specs.declared.teller.Teller.{Teller}
-use Rattle.fdb_audit.specs.Following.{AreWindows, Counted, FollowArguments, IsCounted, IsEnd, Start, Window, early_at, faults_told, first_told, keys_taken, lines_since, lines_taken, told_in_all}
+use Rattle.fdb_audit.specs.Following.{AreWindows, Counted, FollowArguments, IsCounted, IsEnd, Start, Window, counted_on, early_at, faults_told, first_told, keys_taken, lines_since, lines_taken, told_in_all}
 use Rattle.fdb_audit.specs.Clocks.{ahead_in, out_of_reach}
-use Rattle.fdb_audit.specs.Taken.{AreTaken, HasTotals, HasWarned, counted_of}
+use Rattle.fdb_audit.specs.Taken.{AreTaken, HasTotals, HasWarned, IsCarried, counted_of}
 use Rattle.fdb_audit.specs.Warned.{AreEarly, IsSaid}
 
 -- what becomes of the lines of a text, as it is asked for
@@ -29,6 +30,13 @@ abbrev pub members_asked : AuditArguments → List (List ℕ)
 members_asked asked =
     option_to_list (option_map (λ name. printed (string_bytes name)) asked.key) ++ map (λ name. printed (string_bytes name)) asked.shown.items
 
+-- Both ask for the same of a log that is followed.
+pub record AskForTheSame (asked other : AuditArguments) : Type 0 where
+  pub opts : other.opts ≡ asked.opts
+  pub wanted : other.wanted ≡ asked.wanted
+  pub key : option_map string_bytes other.key ≡ option_map string_bytes asked.key
+  pub shown : map string_bytes other.shown.items ≡ map string_bytes asked.shown.items
+
 -- by which arguments a log is followed
 abbrev pub followed_by : AuditArguments → ℕ → FollowArguments
 followed_by asked behind = record { behind = behind; margin = asked.opts.margin; by_key = is_some asked.key; members = members_asked asked }
@@ -38,12 +46,13 @@ pub record IsTold (asked : AuditArguments) (start : Start) (teller : Teller) (re
   pub wanted : teller.wanted ≡ asked.wanted
   pub margin : teller.margin ≡ asked.opts.margin
   pub by_key : is_some teller.key ≡ is_some asked.key
-  pub first : teller.first ≡ first_told start.numbers read windows
-  pub totals : HasTotals (members_asked asked) teller (faults_told read windows)
+  pub first : teller.first ≡ option_or start.before.first (first_told start.numbers read windows)
+  pub totals : HasTotals (members_asked asked) teller (start.before.told ++ faults_told read windows)
 
 -- These lines were read, and this text has been told of them, but for what is told next.
 pub record IsTelling (asked : AuditArguments) (start : Start) (follower : Follower) (read : List (Result SaidLine Why)) (told : List ℕ) : Type 0 where
   pub behind : follower.behind ≡ start.behind
+  pub carried : IsCarried start.before follower.before
   pub windows : List Window
   pub taken : AreTaken start follower.taking read (start.told ++ told_in_all read windows)
   pub margin : follower.taking.watch.margin ≡ asked.opts.margin
@@ -62,6 +71,7 @@ pub record HasSaid (asked : AuditArguments) (start : Start) (follower : Follower
   pub read : List (Result SaidLine Why)
   pub goes : (text : List ℕ) → lines_asked asked (bytes ++ text) ≡ read ++ lines_on follower.reader text
   pub behind : follower.behind ≡ start.behind
+  pub carried : IsCarried start.before follower.before
   pub told : List Found
   pub taken : AreTaken start follower.taking read told
   pub said : HasWarned start follower.taking read warned
@@ -69,7 +79,8 @@ pub record HasSaid (asked : AuditArguments) (start : Start) (follower : Follower
 -- At its end this was said of all lines, where the last that came early has this number, if one did.
 abbrev pub HasSaidAll : AuditArguments → Start → List ℕ → Option ℕ → List ℕ → Type 0
 HasSaidAll asked start bytes last_early text =
-    (early ahead : ℕ) × IsSaid start (lines_asked asked bytes) early ahead text × (is_some last_early ≡ nat_lt 0 early)
+    (early ahead : ℕ) × (last : Option ℕ) × IsSaid start (lines_asked asked bytes) early ahead text
+    × (is_some last ≡ nat_lt 0 early) × (last_early ≡ option_or last start.before.last_early)
 
 -- At the end of a log has been told, each fault once, what an audit of all lines finds; where it is to be followed on, what that
 -- finds at lines that began before some moment.
@@ -77,8 +88,8 @@ abbrev pub IsComplete : Bool → ℕ → List (Result SaidLine Why) → List Fou
 IsComplete true margin read told = IsPermutation told (audited margin (lines_taken read) (keys_taken read))
 IsComplete false margin read told = (to : ℕ) × IsPermutation told (audited_to margin to (lines_taken read) (keys_taken read))
 
--- What is told of all lines of a text, window by window, and at the end how much was read; the first fault, if one was told, and
--- the number of the last line that came early, if one did. Where none came early, it is whole; from its beginning no more came early
+-- What is told of all lines of a text, window by window, and at the end how much was read, with what an earlier piece has counted;
+-- the first fault, if one was told, and the number of the last line that came early, if one did. Where none came early, it is whole; from its beginning no more came early
 -- than began out of reach, and so many were ahead as are of what was known; and no fewer came early than began before that up to
 -- which all had been told.
 pub record IsFollowed (asked : AuditArguments) (start : Start) (ends : Bool) (bytes text : List ℕ) (found : Option LogFault) (last_early : Option ℕ) : Type 0 where
@@ -89,19 +100,22 @@ pub record IsFollowed (asked : AuditArguments) (start : Start) (ends : Bool) (by
   pub end : List ℕ
   pub text_is : text ≡ told ++ end
   pub tells : AreWindows start.numbers asked.opts.margin asked.wanted (lines_asked asked bytes) (names_asked asked bytes).clients windows told
-  pub first : found ≡ first_told start.numbers (lines_asked asked bytes) windows
+  pub first : found ≡ option_or start.before.first (first_told start.numbers (lines_asked asked bytes) windows)
   pub counted : IsCounted start (lines_asked asked bytes) counts
-  pub end_is : IsEnd (not (is_some found) && not asked.wanted.json) asked.wanted.totals asked.wanted.json counts (followed_by asked start.behind)
-      (map printed (names_asked asked bytes).clients) (faults_told (lines_asked asked bytes) windows) end
+  pub end_is : IsEnd (not (is_some found) && not asked.wanted.json) asked.wanted.totals asked.wanted.json (counted_on start.before.counts counts)
+      (followed_by asked start.behind) (start.before.told ++ faults_told (lines_asked asked bytes) windows) end
   pub whole : start.early ≡ 0 → counts.early ≡ 0 → IsComplete ends asked.opts.margin (lines_asked asked bytes) (start.told ++ told_in_all (lines_asked asked bytes) windows)
   pub early : start.anew ≡ true → counts.early ≤ out_of_reach start.behind (lines_taken (lines_asked asked bytes))
   pub ahead : start.anew ≡ true → counts.ahead ≡ ahead_in start.behind (lines_taken (lines_asked asked bytes))
-  pub came : AreEarly start.numbers.more (lines_asked asked bytes) counts.early counts.judged last_early
+  pub last : Option ℕ
+  pub came : AreEarly start.numbers.more (lines_asked asked bytes) counts.early counts.judged last
+  pub last_is : last_early ≡ option_or last start.before.last_early
   pub late : early_at start.from (lines_since start (lines_asked asked bytes)) ≤ counts.early
 
 -- all that is told of these lines has been told, but for what is told next
 pub record HasToldAll (asked : AuditArguments) (start : Start) (ends : Bool) (follower : Follower) (read : List (Result SaidLine Why)) (told : List ℕ) : Type 0 where
   pub behind : follower.behind ≡ start.behind
+  pub carried : IsCarried start.before follower.before
   pub windows : List Window
   pub tells : AreWindows start.numbers asked.opts.margin asked.wanted read (line_names follower.reader).clients windows (told ++ string_bytes follower.teller.text)
   pub are : IsTold asked start follower.teller read windows

@@ -7,6 +7,7 @@ ghost use Rattle.clap.specs.Words.{Text, app_of, first_of, matches_of, rule_of, 
 ghost use Rattle.fdb_command.specs.Arguments.{AreMatches};
 ghost use Rattle.fdb_audit.specs.Program.{command, is_comma, members_named, text_rule};
 ghost use Rattle.fdb_audit.specs.Program.{IsWanted};
+ghost use Rattle.fdb_audit.specs.Watched.{AskForTheSame};
 
 use crate::judged::Wanted;
 use clap::{Arg, ArgMatches, Command};
@@ -19,45 +20,59 @@ const VERSION: &str = "0.4.0 (logic dac8208d650f15bf)";
 
 /// What the help ends with: the statuses, and where a log's format is told.
 const AFTER_HELP: &str = "Exit status:
-  0  no fault was found, or this is the help
-  1  the log is refused: Empty, TooLong, TooMany, NotJson, NoCall, TwoCalls, SomeTimes or BadMember
-  2  the words are refused
-  3  want of memory
-  4  the audit found a fault
-  5  reading or writing failed
+  0  no fault was found, or help or version was asked for
+  1  the log is refused, or a line of it, or what FILE keeps; or a watch got a line that began
+     before what it had judged for good
+  2  the arguments are refused
+  3  memory ran out
+  4  a fault was found
+  5  reading or writing failed, or another watch keeps in FILE
 
-With --follow the file LOGS is read to its end; tail -F LOGS | fdb_audit --follow N goes on.
-With --split P it cuts a log into parts by key: fdb_audit --split 1 --help tells how.
-docs/FORMATS.md has the format of the log, and what each refusal and fault means.";
+On each status but 0 the last line on standard error says why. For status 1 it has one of these
+words: Empty, TooLong, TooMany, NotJson, NoCall, TwoCalls, SomeTimes or BadMember; with --follow
+also Early. If what FILE keeps is refused, mostly as NotKept, the line above it says why, and the
+last one names FILE.
+
+With --follow a watch of a file ends where the file ends. To watch a file that grows, call
+tail -F LOGS | fdb_audit --follow N. --keep needs --follow, and --position needs --keep. --follow
+does not suit --complete, --history and --numbers, nor --numbers --history.
+
+With --split a log is cut into parts by key, and not judged: fdb_audit --split 1 --help tells how.
+
+docs/LOG.md has the format of the log and what each refusal and fault means (where the package is
+installed, man fdb_audit_log has it), and docs/STATUSES.md how the program ends.";
 
 const COMPLETE_HELP: &str = "The log has the calls of all clients, and all began at version START";
 
-const MARGIN_HELP: &str = "How far the clocks of two clients may be apart [default: 0]";
+const MARGIN_HELP: &str = "How far clients' clocks may be apart, in the times' unit [default: 0]";
 
-const FOLLOW_HELP: &str = "Watch the log as it grows: lines may begin N behind the newest end";
+const FOLLOW_HELP: &str =
+    "Watch a growing log; a call may begin up to N before the newest end of one";
 
-const KEEP_HELP: &str = "Go on from the lines in FILE, and keep there those that yet matter";
+const KEEP_HELP: &str = "Go on from what FILE keeps, and keep in it what later lines may need";
 
-const POSITION_HELP: &str = "Keep in FILE, too, what the last line has in this member";
+const POSITION_HELP: &str = "Keep in FILE also the text that the last line has in this member";
 
-const KEY_HELP: &str = "The member that names a line's key: each key is judged by itself";
+const KEY_HELP: &str = "The member that names a line's key; each key's lines are judged alone";
 
-const SHOW_HELP: &str = "Members, parted by commas, that are printed with each line that is told";
+const SHOW_HELP: &str = "The members to print with each line of a fault, parted by commas";
 
-const NUMBERS_HELP: &str = "The member that has a line's own number: lines are told by it";
+const NUMBERS_HELP: &str = "The member that has a line's own number, by which faults name it";
 
 /// What the flags say: `opts` by `--complete` and `--margin`, `wanted` by `--history`, `--all`,
 /// `--summary` and `--json`.
 #[derive(Debug, Drop)]
 pub struct AuditArguments {
     pub opts: AuditOpts,
-    /// How far behind the newest end a line that comes may begin, where the log is to be followed as
-    /// it grows.
+    /// How far behind the newest end of a call a line that comes may begin, in the unit of the
+    /// log's times, where the log is to be followed as it grows; none where it is not.
     pub follow: Option<u64>,
     pub wanted: Wanted,
-    /// Where the lines are kept of a log that is followed, if they are to be.
+    /// The name of the file in which the lines of a followed log are kept, where `--keep` names
+    /// one.
     pub keep: Option<String>,
-    /// The member of which the last line's text is kept with them, if one is.
+    /// The member of which the file of `--keep` is to have what the last line says, if there is
+    /// one.
     pub position: Option<String>,
     /// The member that names a line's key, if each key is to be judged by itself.
     pub key: Option<String>,
@@ -67,6 +82,28 @@ pub struct AuditArguments {
     pub numbers: Option<String>,
     /// Whether `--progress` is given: then standard error tells how far the log has been read.
     pub progress: bool,
+}
+
+impl AuditArguments {
+    /// The same, as far as a log is followed by it.
+    pub(crate) fn for_following(&self, alloc: Global) -> Result<Self, AllocError>
+        ensures { IfOk result (λ other. AskForTheSame self.now other) }
+    {
+        let key = owned(alloc, self.key.as_deref())?;
+        let position = owned(alloc, self.position.as_deref())?;
+        let shown = copied(alloc, &self.shown)?;
+        Ok(AuditArguments {
+            opts: self.opts,
+            follow: self.follow,
+            wanted: self.wanted,
+            keep: None,
+            position,
+            key,
+            shown,
+            numbers: None,
+            progress: self.progress,
+        })
+    }
 }
 
 /// What the flags say that are no numbers: what is printed.
@@ -130,6 +167,17 @@ pub(crate) fn owned(alloc: Global, text: Option<&str>) -> Result<Option<String>,
     }
 }
 
+/// Copies of some names.
+fn copied(alloc: Global, names: &[String]) -> Result<Vec<String>, AllocError>
+    ensures { IfOk result (λ copies. map string_bytes copies.items ≡ map string_bytes names.now) }
+{
+    let mut copies = Vec::new(alloc);
+    for name in names {
+        copies.push(String::from_str(alloc, name)?)?;
+    }
+    Ok(copies)
+}
+
 /// The members that a text names, parted by commas, as `--show` gives them; none where there is no
 /// text. It fails only where memory is refused.
 pub fn member_names(alloc: Global, text: Option<&str>) -> Result<Vec<String>, AllocError>
@@ -171,7 +219,7 @@ pub(crate) fn command<'a>(alloc: Global) -> Result<Command<'a>, AllocError>
     .arg(file_argument(
         alloc,
         "LOGS",
-        "The file that has the log, JSON Lines; standard input, if left out",
+        "The file with the log, as JSON Lines; without it standard input is read",
     ))?
     .arg(number_argument(alloc, "complete", 0, i64::MAX, "START", COMPLETE_HELP))?
     .arg(number_argument(alloc, "margin", 0, i64::MAX, "N", MARGIN_HELP))?
@@ -184,22 +232,22 @@ pub(crate) fn command<'a>(alloc: Global) -> Result<Command<'a>, AllocError>
     .arg(flag_argument(
         alloc,
         "all",
-        "Write all faults, and not the first alone, and totals",
+        "Write every fault, not only the first, and totals",
     ))?
-    .arg(flag_argument(alloc, "summary", "Write totals in place of faults"))?
+    .arg(flag_argument(alloc, "summary", "Write totals, and no faults"))?
     .arg(flag_argument(
         alloc,
         "json",
-        "Write JSON objects, one a line, of all faults",
+        "Write JSON, one object a line: every fault, and totals",
     ))?
     .arg(flag_argument(
         alloc,
         "history",
-        "Write an order that explains the lines, too",
+        "Write also an order of the calls that explains the log",
     ))?
     .arg(flag_argument(
         alloc,
         "progress",
-        "Tell on standard error how far the log has been read",
+        "Say on standard error how far the log has been read",
     ))
 }

@@ -2,12 +2,14 @@
 
 ghost use Rattle.std.specs.Prelude.{◌≡◌, ◌≢◌, ◌++◌, ℕ, [], IfErr, IfOk, List, MatchResult};
 ghost use Rattle.std.specs.Prelude.{◌⊎◌, ◌&&◌, ◌||◌, is_some, map, string_bytes, IsOkAnd};
-ghost use Rattle.std.specs.Prelude.{None, Option, not, true};
+ghost use Rattle.std.specs.Prelude.{None, Option, not, option_map};
 ghost use Rattle.std.specs.Thread.{IsSync};
 ghost use Rattle.clap.specs.Words.{Text};
 ghost use Rattle.fdb_audit.specs.Program.{audit, HasRead, HasTaken, IsAsked, IsWhole, Prints};
 ghost use Rattle.fdb_audit.specs.Following.{Start};
-ghost use Rattle.fdb_audit.specs.Program.{PrintsBy, refusal_of, refused_of};
+ghost use Rattle.fdb_audit.specs.private.Kept.{MayFail};
+ghost use Rattle.fdb_audit.specs.Program.{PrintsBy, refusal_of};
+ghost use Rattle.fdb_log_reader.specs.declared.error.ReadError.{ReadError};
 ghost use Rattle.fdb_audit.specs.Progress.{HasPrinted, IsPrinted};
 ghost use Rattle.fdb_command.specs.Driving.{IsBegun, IsDriven, Stops};
 
@@ -22,7 +24,7 @@ use fdb_command::{ArgumentsFault, Failure, Output, Program, Told, is_given, numb
 use fdb_lines::AuditOpts;
 use fdb_log_reader::{LogReader, ReadError, Why};
 use std::alloc::{AllocError, Global};
-use std::fs::Files;
+use std::fs::{File, Files};
 use std::io;
 use std::io::{Read, Write};
 use std::thread::Threads;
@@ -90,7 +92,7 @@ impl Program for Audit {
         })
     }
 
-    fn begin<R: Files>(
+    fn begin<R: Files<File = File>>(
         &self,
         rt: &R,
         alloc: Global,
@@ -153,7 +155,7 @@ impl Program for Audit {
     ) -> Result<AuditIntake, Failure<LogsRefused, LogFault>> {
         match intake {
             AuditIntake::Followed(log) => {
-                let next = log.keep(rt, asked.keep.is_some())?;
+                let next = log.keep(rt, asked.keep.as_deref())?;
                 Ok(AuditIntake::Followed(next))
             }
             intake => Ok(intake),
@@ -238,19 +240,22 @@ fn followed<R: Files>(
     log: FollowedLog,
 ) -> Result<Output<LogsRefused, LogFault>, Failure<LogsRefused, LogFault>>
     ensures told { IfOk result (λ it. (start : Start) → (bytes told : List ℕ)
-        → HasPrinted asked.now start log bytes told → (last_early : Option ℕ)
-        × IsPrinted asked.now start (not (is_some asked.now.keep)) bytes
-        (told ++ it.text.items) it.found last_early
-        × (it.refused ≡ refusal_of (refused_of asked.now start bytes) last_early)) }
-    ensures stops { IfErr result (λ fault. (fault ≡ Failure.Memory)
-        ⊎ ((fault ≡ Failure.Writing) × (is_some asked.now.keep ≡ true))) }
+        → HasPrinted asked.now start log bytes told → (error : Option ReadError)
+        × (last_early : Option ℕ) × IsPrinted asked.now start (not (is_some asked.now.keep)) bytes
+        (told ++ it.text.items) it.found error last_early
+        × (it.refused ≡ refusal_of error last_early)) }
+    ensures stops { IfErr result (MayFail (option_map string_bytes asked.now.keep)) }
 {
-    let it = if asked.keep.is_some() {
-        log.stop(rt)?
-    } else {
-        log.finish()?
-    };
-    Ok(answered(it))
+    match asked.keep.as_deref() {
+        Some(file) => {
+            let it = log.stop(rt, file)?;
+            Ok(answered(it))
+        }
+        None => {
+            let it = log.finish()?;
+            Ok(answered(it))
+        }
+    }
 }
 
 /// What is left to be said as an answer.
@@ -300,7 +305,7 @@ fn judged<R: Threads + Sync>(
 /// Audits the log of the file that the arguments name or else of the input, and writes what is
 /// found to `out`; or writes the help there. Answers the status of the program, as
 /// [`fdb_command::drive`] says. Unless the log is followed, nothing is written where it is refused.
-pub fn drive<R: Files + Clock + Threads + Sync, I: Read, O: Write, E: Write>(
+pub fn drive<R: Files<File = File> + Clock + Threads + Sync, I: Read, O: Write, E: Write>(
     rt: &R,
     alloc: Global,
     arguments: io::Result<Vec<String>>,

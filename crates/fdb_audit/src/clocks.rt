@@ -82,6 +82,17 @@ impl Clocks {
         }
     }
 
+    /// Goes on from others that have heard more lines: what was believed stays so, and what was found to
+    /// be ahead.
+    pub(crate) fn carry(&mut self, others: &Clocks) {
+        self.believed = others.believed;
+        self.newest = self.newest.max(others.newest);
+        self.ahead = others.ahead;
+        if others.are_many() && self.second.is_none() {
+            self.second = Some(0);
+        }
+    }
+
     /// Hears a line that comes: by how much another client's line above it is ahead of it, where that
     /// is more than a line may be behind, and was not found of one as new; else 0.
     pub(crate) fn hear(&mut self, line: &Line) -> u64

@@ -1,11 +1,12 @@
 //! How much of a log has been followed.
 
 ghost use Rattle.std.specs.Prelude.{◌≡◌, ◌+◌, ◌-◌, ◌<◌, ◌^◌, ◌++◌, ◌∷◌, [], List, map, min, nat_lt};
-ghost use Rattle.std.specs.Prelude.{IfOk, None, length};
+ghost use Rattle.std.specs.Prelude.{IfOk, None, length, ℕ};
+ghost use Rattle.std.specs.Option.{option_or};
 ghost use Rattle.fdb_lines.specs.declared.line.Line.{Line};
 ghost use Rattle.fdb_lines.specs.Before.{began};
 ghost use Rattle.fdb_lines.specs.Lines.{is_ask, is_commit, is_read, is_report, kind_of};
-ghost use Rattle.fdb_audit.specs.Following.{counted_figures, verdict_of};
+ghost use Rattle.fdb_audit.specs.Following.{counted_figures, counted_on, sum_of, verdict_of};
 ghost use Rattle.fdb_audit.specs.Taken.{AreCounted};
 ghost use Rattle.fdb_audit.specs.private.{figure_of};
 ghost use Rattle.fdb_audit.specs.private.Followed.{CameMore, counted_in, one_more};
@@ -123,6 +124,26 @@ impl Counts {
             Operation::Ask(_) => add_one(&mut self.asks),
             Operation::Report(_) => add_one(&mut self.reports),
             Operation::Learn(_) => {}
+        }
+    }
+
+    /// The same with those of lines that came behind. A count that is full stays full.
+    pub(crate) fn with(self, more: Counts) -> Counts
+        ensures counts { (before refused : ℕ)
+            → counted_in result (sum_of before refused)
+            ≡ counted_on (counted_in self before) (counted_in more refused) }
+        ensures last_early { result.last_early ≡ option_or more.last_early self.last_early }
+    {
+        Counts {
+            lines: self.lines.saturating_add(more.lines),
+            reads: self.reads.saturating_add(more.reads),
+            commits: self.commits.saturating_add(more.commits),
+            asks: self.asks.saturating_add(more.asks),
+            reports: self.reports.saturating_add(more.reports),
+            early: self.early.saturating_add(more.early),
+            judged: self.judged.saturating_add(more.judged),
+            last_early: more.last_early.or(self.last_early),
+            ahead: self.ahead.saturating_add(more.ahead),
         }
     }
 

@@ -20,14 +20,7 @@ impl fmt::Display for LogFault {
     ghost output = { λ it. Some (fault_text it) };
 
     fn fmt<W: fmt::Write>(&self, f: &mut fmt::Formatter<W>) -> fmt::Result {
-        let number = self.number;
-        match self.fault {
-            Fault::Order => write!(f, "Order {number}"),
-            Fault::Wrong => write!(f, "Wrong {number}"),
-            Fault::NotAbove => write!(f, "NotAbove {number}"),
-            Fault::Twice => write!(f, "Twice {number}"),
-            Fault::Stray => write!(f, "Stray {number}"),
-        }
+        write!(f, "{} {}", self.fault, self.number)
     }
 }
 

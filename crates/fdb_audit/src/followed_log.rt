@@ -1,24 +1,24 @@
 //! A log that the program follows, and the file in which it keeps the lines that yet matter.
 
-ghost use Rattle.std.specs.Prelude.{◌≡◌, ◌⊎◌, ◌++◌, ℕ, [], IfErr, IfOk, List, false};
-ghost use Rattle.std.specs.Prelude.{None, OnOk, is_some, string_bytes, true};
-ghost use Rattle.fdb_audit.specs.Following.{Start, left_out};
+ghost use Rattle.std.specs.Prelude.{◌≡◌, ◌++◌, ℕ, [], IfErr, IfOk, List, Some, false};
+ghost use Rattle.std.specs.Prelude.{◌≤◌, None, OnOk, length, option_map, string_bytes, true};
+ghost use Rattle.fdb_audit.specs.Following.{Start};
 ghost use Rattle.fdb_audit.specs.Kept.{start_of};
-ghost use Rattle.fdb_audit.specs.private.Kept.{MayStop};
+ghost use Rattle.fdb_audit.specs.private.Kept.{MayFail, MayStop};
 ghost use Rattle.fdb_audit.specs.Progress.{HasPrinted, IsPrinted};
-ghost use Rattle.fdb_audit.specs.Watched.{HasFollowed, lines_asked};
+ghost use Rattle.fdb_audit.specs.Watched.{HasFollowed};
 ghost use Rattle.fdb_audit.specs.declared.arguments.AuditArguments.{AuditArguments};
 
 use crate::arguments::AuditArguments;
 use crate::fault::LogFault;
 use crate::follower::{Followed, Follower, Said, Stopped};
-use crate::kept_file::{Keeper, read_kept};
+use crate::kept_file::{Keeper, failure, read_kept, refusal};
 use crate::pace::{Pace, SECOND, moment};
 use crate::progress::Reporter;
 use crate::refused::LogsRefused;
-use fdb_command::Failure;
+use fdb_command::{Access, Failure};
 use std::alloc::{AllocError, Global};
-use std::fs::Files;
+use std::fs::{File, Files};
 use std::time::Clock;
 
 /// What stops the program.
@@ -41,6 +41,10 @@ pub struct FollowedLog {
     pub(crate) reporter: Reporter,
     keeper: Option<Keeper>,
     settling: Pace,
+    /// By what it is followed.
+    asked: AuditArguments,
+    /// So many names are not many: twice as many as there were when it could not go on with fewer.
+    few_names: u64,
     /// Whether bytes have come since something was told: where none have, the log has ended.
     has_grown: bool,
 }
@@ -49,7 +53,7 @@ impl FollowedLog {
     ghost use Rattle.fdb_audit.specs.Program.{MayBeKept, started};
 
     /// A log of which nothing has been read, but for what was kept of it.
-    pub(crate) fn begin<R: Files>(
+    pub(crate) fn begin<R: Files<File = File>>(
         rt: &R,
         alloc: Global,
         asked: &AuditArguments,
@@ -57,7 +61,7 @@ impl FollowedLog {
     ) -> Result<Self, Stop>
         ensures begun { IfOk result (λ log. (kept : List ℕ) × MayBeKept asked.now kept
             × HasPrinted asked.now (started asked.now behind kept) log kept []) }
-        ensures stops { IfErr result (MayStop (is_some asked.now.keep)) }
+        ensures stops { IfErr result (MayStop (option_map string_bytes asked.now.keep)) }
     {
         match asked.keep.as_deref() {
             Some(file) => {
@@ -66,13 +70,14 @@ impl FollowedLog {
             }
             None => {
                 let follower = Follower::new(alloc, asked, behind)?;
-                Ok(FollowedLog::new(alloc, asked, follower, None))
+                let log = FollowedLog::new(alloc, asked, follower, None)?;
+                Ok(log)
             }
         }
     }
 
     /// A log that goes on from what was kept in a file, if there is one.
-    fn restore<R: Files>(
+    fn restore<R: Files<File = File>>(
         rt: &R,
         alloc: Global,
         asked: &AuditArguments,
@@ -81,13 +86,14 @@ impl FollowedLog {
     ) -> Result<Self, Stop>
         ensures begun { IfOk result (λ log. (text : List ℕ)
             × HasPrinted asked.now (start_of asked.now behind text) log text []) }
-        ensures stops { IfErr result (MayStop true) }
+        ensures stops { IfErr result (MayStop (Some file.now)) }
     {
-        let mut keeper = Keeper::new(alloc, asked, behind, file)?;
+        let mut keeper = Keeper::new(rt, alloc, asked, file)?;
         let text = read_kept(rt, alloc, file)?;
-        let follower = restored(alloc, asked, behind, &keeper, &text)?;
+        let follower = restored(alloc, asked, behind, file, &text)?;
         keeper.go_on(&text)?;
-        Ok(FollowedLog::new(alloc, asked, follower, Some(keeper)))
+        let log = FollowedLog::new(alloc, asked, follower, Some(keeper))?;
+        Ok(log)
     }
 
     /// A log of which nothing has been told.
@@ -96,21 +102,26 @@ impl FollowedLog {
         asked: &AuditArguments,
         follower: Follower,
         keeper: Option<Keeper>,
-    ) -> Self
-        ensures { (start : Start) → (bytes : List ℕ) → HasFollowed asked.now start follower bytes []
-            → HasPrinted asked.now start result bytes [] }
+    ) -> Result<Self, AllocError>
+        ensures { IfOk result (λ log. (start : Start) → (bytes : List ℕ)
+            → HasFollowed asked.now start follower bytes []
+            → HasPrinted asked.now start log bytes []) }
     {
-        FollowedLog {
+        let asked = asked.for_following(alloc)?;
+        Ok(FollowedLog {
             alloc,
             follower,
             reporter: Reporter::new(asked.wanted.json, asked.progress),
             keeper,
             settling: SETTLING,
+            asked,
+            few_names: 0,
             has_grown: false,
-        }
+        })
     }
 
-    /// Reads on. An error says that memory was refused.
+    /// Reads on, and where names are many, goes on from what is kept once a line has ended. An error
+    /// says that memory was refused.
     pub(crate) fn feed(&mut self, bytes: &[u8]) -> Result<(), AllocError>
         ensures { OnOk result ((asked : AuditArguments) → (start : Start)
             → (before text : List ℕ) → HasPrinted asked start self.old before text
@@ -118,13 +129,59 @@ impl FollowedLog {
     {
         self.has_grown = true;
         self.note_bytes(bytes)?;
+        if !self.has_many_names() {
+            return self.read(bytes);
+        }
+        let (line, rest) = bytes.split_at(first_end(bytes));
+        self.read(line)?;
+        self.go_on()?;
+        self.read(rest)
+    }
+
+    /// Whether it is to go on with fewer names.
+    fn has_many_names(&self) -> bool {
+        self.follower.name_count() > self.few_names && self.follower.has_many_names()
+    }
+
+    /// Reads bytes.
+    fn read(&mut self, bytes: &[u8]) -> Result<(), AllocError>
+        ensures { OnOk result ((asked : AuditArguments) → (start : Start)
+            → (before text : List ℕ) → HasPrinted asked start self.old before text
+            → HasPrinted asked start self.new (before ++ bytes.now) text) }
+    {
         self.follower.feed(bytes)
+    }
+
+    /// Goes on from what is kept, unless a line is open or something is left to be said.
+    fn go_on(&mut self) -> Result<(), AllocError>
+        ensures { OnOk result ((asked : AuditArguments) → (start : Start)
+            → (bytes text : List ℕ) → HasPrinted asked start self.old bytes text
+            → HasPrinted asked start self.new bytes text) }
+    {
+        if !self.follower.is_quiet() {
+            return Ok(());
+        }
+        let names = self.follower.name_count();
+        let goes_on = self.follower.go_on(&self.asked)?;
+        self.few_names = if goes_on { 0 } else { names.saturating_mul(2) };
+        self.note_nothing();
+        Ok(())
+    }
+
+    /// Notes that the file in which lines are kept has not all of it.
+    fn note_nothing(&mut self)
+        ensures same { (self.new.follower ≡ self.old.follower)
+            × (self.new.reporter ≡ self.old.reporter) × (self.new.asked ≡ self.old.asked) }
+    {
+        if let Some(keeper) = &mut self.keeper {
+            keeper.note_nothing();
+        }
     }
 
     /// Notes bytes, where what the last line has is to be kept.
     fn note_bytes(&mut self, bytes: &[u8]) -> Result<(), AllocError>
         ensures same { (self.new.follower ≡ self.old.follower)
-            × (self.new.reporter ≡ self.old.reporter) }
+            × (self.new.reporter ≡ self.old.reporter) × (self.new.asked ≡ self.old.asked) }
     {
         match &mut self.keeper {
             Some(keeper) => keeper.note_bytes(bytes),
@@ -153,7 +210,8 @@ impl FollowedLog {
         ensures told { IfOk result (λ said. (asked : AuditArguments) → (start : Start)
             → (bytes told : List ℕ) → HasFollowed asked start self.old.follower bytes told
             → HasFollowed asked start self.new.follower bytes (told ++ string_bytes said.text)) }
-        ensures reporter { self.new.reporter ≡ self.old.reporter }
+        ensures reporter { (self.new.reporter ≡ self.old.reporter)
+            × (self.new.asked ≡ self.old.asked) }
     {
         let unsettled = self.follower.unsettled();
         let has_time = self.has_grown && !unsettled.are_enough(is_idle);
@@ -174,35 +232,36 @@ impl FollowedLog {
         self.follower.line_count()
     }
 
-    /// Keeps the lines that yet matter, where that is asked for.
-    pub(crate) fn keep<R: Files + Clock>(mut self, rt: &R, keeps: bool) -> Result<Self, Stop>
+    /// Keeps the lines that yet matter in a file, if there is one to keep them in.
+    pub(crate) fn keep<R: Files + Clock>(mut self, rt: &R, file: Option<&str>) -> Result<Self, Stop>
         ensures same { IfOk result (λ next. (next.follower ≡ self.follower)
-            × (next.reporter ≡ self.reporter)) }
-        ensures stops { IfErr result (λ fault. (fault ≡ Failure.Memory)
-            ⊎ ((fault ≡ Failure.Writing) × (keeps ≡ true))) }
+            × (next.reporter ≡ self.reporter) × (next.asked ≡ self.asked)) }
+        ensures stops { IfErr result
+            (MayFail (option_map (λ file. file.now) file.entry)) }
     {
-        if keeps {
-            self.keep_now(rt)?;
+        if let Some(file) = file {
+            self.keep_now(rt, file)?;
         }
         Ok(self)
     }
 
     /// Keeps the lines that yet matter, if more were taken or it has settled since they were kept,
     /// and it is time to.
-    fn keep_now<R: Files + Clock>(&mut self, rt: &R) -> Result<(), Stop>
+    fn keep_now<R: Files + Clock>(&mut self, rt: &R, file: &str) -> Result<(), Stop>
         ensures same { (self.new.follower ≡ self.old.follower)
-            × (self.new.reporter ≡ self.old.reporter) }
-        ensures stops { IfErr result (λ fault. (fault ≡ Failure.Memory) ⊎ (fault ≡ Failure.Writing)) }
+            × (self.new.reporter ≡ self.old.reporter) × (self.new.asked ≡ self.old.asked) }
+        ensures stops { IfErr result (MayFail (Some file.now)) }
     {
         let Some(keeper) = &mut self.keeper else {
             return Ok(());
         };
         let begun = moment(rt);
         if keeper.is_due(&self.follower, begun) {
-            let Ok(text) = self.follower.kept()? else {
-                return Err(Failure::Writing);
+            let beside = keeper.members(false)?;
+            let Ok(text) = self.follower.kept(&beside)? else {
+                return Err(failure(self.alloc, Access::Writing, file));
             };
-            keeper.write(rt, &text, false)?;
+            keeper.write(rt, file, &text)?;
             keeper.note(&self.follower);
             keeper.pace.note(begun, moment(rt));
         }
@@ -213,10 +272,8 @@ impl FollowedLog {
     pub(crate) fn finish(self) -> Result<Followed, Stop>
         ensures told { IfOk result (λ it. (asked : AuditArguments) → (start : Start)
             → (bytes text : List ℕ) → HasPrinted asked start self bytes text → IsPrinted
-            asked start true bytes (text ++ string_bytes it.said.text) it.found it.last_early) }
-        ensures refused { IfOk result (λ it. (asked : AuditArguments) → (start : Start)
-            → (bytes text : List ℕ) → HasPrinted asked start self bytes text
-            → it.refused ≡ left_out start.numbers (lines_asked asked bytes)) }
+            asked start true bytes (text ++ string_bytes it.said.text) it.found it.refused
+            it.last_early) }
         ensures stops { IfErr result (λ fault. fault ≡ Failure.Memory) }
     {
         let front = self.front()?;
@@ -240,27 +297,46 @@ impl FollowedLog {
         Ok(said)
     }
 
-    /// Keeps the lines that yet matter, and says what is left to be said.
-    pub(crate) fn stop<R: Files>(self, rt: &R) -> Result<Followed, Stop>
+    /// What the first line that is kept at the end of the log has beside what it is.
+    fn beside(&self) -> Result<String, AllocError> {
+        match &self.keeper {
+            Some(keeper) => keeper.members(true),
+            None => Ok(String::new(self.alloc)),
+        }
+    }
+
+    /// Keeps the lines that yet matter in a file, and says what is left to be said.
+    pub(crate) fn stop<R: Files>(self, rt: &R, file: &str) -> Result<Followed, Stop>
         ensures told { IfOk result (λ it. (asked : AuditArguments) → (start : Start)
             → (bytes text : List ℕ) → HasPrinted asked start self bytes text → IsPrinted
-            asked start false bytes (text ++ string_bytes it.said.text) it.found it.last_early) }
-        ensures refused { IfOk result (λ it. (asked : AuditArguments) → (start : Start)
-            → (bytes text : List ℕ) → HasPrinted asked start self bytes text
-            → it.refused ≡ left_out start.numbers (lines_asked asked bytes)) }
-        ensures stops { IfErr result (λ fault. (fault ≡ Failure.Memory) ⊎ (fault ≡ Failure.Writing)) }
+            asked start false bytes (text ++ string_bytes it.said.text) it.found it.refused
+            it.last_early) }
+        ensures stops { IfErr result (MayFail (Some file.now)) }
     {
         let front = self.front()?;
-        let Stopped { followed, kept } = self.follower.stop()?;
+        let beside = self.beside()?;
+        let Stopped { followed, kept } = self.follower.stop(&beside)?;
         if let Some(keeper) = &self.keeper {
             let Ok(kept) = kept else {
-                return Err(Failure::Writing);
+                return Err(failure(self.alloc, Access::Writing, file));
             };
-            keeper.write(rt, &kept, true)?;
+            keeper.write(rt, file, &kept)?;
         }
         let followed = behind(front, followed)?;
         Ok(followed)
     }
+}
+
+/// How many bytes stand up to the first line feed, that included; all, where there is none.
+fn first_end(bytes: &[u8]) -> usize
+    ensures { result ≤ length bytes.now }
+{
+    for place in 0..bytes.len() {
+        if bytes[place] == b'\n' {
+            return place + 1;
+        }
+    }
+    bytes.len()
 }
 
 /// What is said at the end of a log, behind what is said in front of it.
@@ -292,16 +368,16 @@ fn restored(
     alloc: Global,
     asked: &AuditArguments,
     behind: u64,
-    keeper: &Keeper,
+    file: &str,
     text: &[u8],
 ) -> Result<Follower, Stop>
     ensures followed { IfOk result (λ follower. HasFollowed asked.now
         (start_of asked.now behind text.now) follower text.now []) }
-    ensures stops { IfErr result (MayStop true) }
+    ensures stops { IfErr result (MayStop (Some file.now)) }
 {
     match Follower::restore(alloc, asked, behind, text) {
         Ok(Ok(follower)) => Ok(follower),
-        Ok(Err(refused)) => Err(keeper.refusal(refused, text)),
+        Ok(Err(refused)) => Err(refusal(alloc, file, refused, text)),
         Err(_) => Err(Failure::Memory),
     }
 }

@@ -83,14 +83,6 @@ impl Tally {
         }
     }
 
-    /// Whether an owner has none.
-    pub(crate) fn has_none(&self, owner: Option<u32>) -> bool
-        ensures { (owned : List Owned) → HasTallied self.now owned
-            → result ≡ (0 == length (of_group owned owner)) }
-    {
-        self.kinds(owner).faults == 0
-    }
-
     /// The ten groups with most faults. `n log n` in how many groups there are.
     pub(crate) fn most(&self, alloc: Global) -> Result<Vec<Group>, AllocError>
         ensures { IfOk result (λ most. (owned : List Owned) → HasTallied self.now owned

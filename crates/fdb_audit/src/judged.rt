@@ -37,7 +37,7 @@ pub struct Wanted {
     /// Where a fault stands, at the end how much was judged and how many faults there are of each
     /// kind; without [`Wanted::all`] these alone.
     pub totals: bool,
-    /// JSON objects, one a line, in place of sentences: docs/FORMATS.md has their members.
+    /// JSON objects, one a line, in place of sentences: docs/LOG.md has their members.
     pub json: bool,
 }
 

@@ -280,13 +280,15 @@ pub(crate) fn key_name(reader: &LineReader, key: Option<u32>) -> Option<&str>
     reader.key_names()?.name(key?)
 }
 
-/// The members by which lines are written: the one that has the keys, as it is printed.
+/// The lines that are kept, as a text: each key stands in the member that has the keys, as that is
+/// printed, and the first line ends with further members.
 pub(crate) fn kept_text(
     alloc: Global,
     reader: &LineReader,
     taking: &Taking,
     key: Option<&str>,
     kept: &[KeptLine],
+    beside: &str,
 ) -> Result<String, AllocError> {
     let mut text = String::new(alloc);
     let mut clients = Some(if taking.clocks.are_many() { 2 } else { 1 });
@@ -296,7 +298,7 @@ pub(crate) fn kept_text(
         taking.rows.push_texts(&mut text, line.number)?;
         push_kept(&mut text, taking, line)?;
         if let Some(clients) = clients.take() {
-            write!(text, ",\"{CLIENTS}\":{clients}")?;
+            write!(text, ",\"{CLIENTS}\":{clients}{beside}")?;
         }
         writeln!(text, "}}")?;
     }

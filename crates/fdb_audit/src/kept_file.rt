@@ -1,19 +1,21 @@
 //! The file in which a watch keeps its lines: by what arguments, and where the log stands.
 
-ghost use Rattle.std.specs.Prelude.{◌≡◌, ◌⊎◌, IfErr, true};
-ghost use Rattle.fdb_audit.specs.private.Kept.{MayStop};
+ghost use Rattle.std.specs.Prelude.{◌≡◌, IfErr, IfOk, Some, string_bytes};
+ghost use Rattle.fdb_audit.specs.KeptFile.{file_line};
+ghost use Rattle.fdb_audit.specs.private.Kept.{MayFail, MayStop};
 
 use crate::arguments::AuditArguments;
 use crate::fault::LogFault;
 use crate::follower::Follower;
-use crate::last_line::{LastLine, member_texts};
+use crate::kept_arguments::{MADE_BY, first_text};
+use crate::last_line::LastLine;
 use crate::pace::{Pace, SECOND};
 use crate::refused::{KeptFault, KeptRefused, LogsRefused};
-use fdb_command::Failure;
-use fdb_log_reader::{printed_name, shown_text};
+use fdb_command::{Access, Failure, FileFault};
+use fdb_log_reader::shown_text;
 use std::alloc::{AllocError, Global};
 use std::fmt::Write as _;
-use std::fs::{File, Files, OpenFile, rename};
+use std::fs::{File, Files, OpenFile, OpenOptions, TryLockError, rename};
 use std::io;
 use std::io::{ErrorKind, Read, Write};
 
@@ -23,8 +25,8 @@ type Stop = Failure<LogsRefused, LogFault>;
 /// What is behind the name of the file in that of the new one, until that is renamed.
 const NEW: &str = ".new";
 
-/// The member of the first line that says by which arguments the lines are kept.
-const MADE_BY: &str = "kept_by";
+/// What is behind it in that of the file that is locked: the file itself is replaced by each writing.
+const LOCK: &str = ".lock";
 
 /// The member of the first line that has what the last line of the log has in one that was asked for.
 const POSITION: &str = "kept_position";
@@ -37,15 +39,14 @@ const KEEPING: Pace = Pace {
     due: 0,
 };
 
-/// The file in which lines are kept.
+/// The file in which lines are kept. Its name is given to each call that may have to tell it.
 #[derive(Drop)]
 pub(crate) struct Keeper {
     alloc: Global,
-    file: String,
+    /// It is locked as long as it is open, which ends with the process at the latest.
+    _lock: File,
     /// The name of the new file.
     new_file: String,
-    /// By which arguments the lines are kept, in words.
-    made_by: String,
     /// The last line of the log, if something that it has is to be kept.
     last: Option<LastLine>,
     /// How many lines had been taken of what it has.
@@ -56,24 +57,24 @@ pub(crate) struct Keeper {
 }
 
 impl Keeper {
-    /// A file of this name, which has not been written.
-    pub(crate) fn new(
+    /// A file of this name, which no other watch has, and which has not been written.
+    pub(crate) fn new<R: Files<File = File>>(
+        rt: &R,
         alloc: Global,
         asked: &AuditArguments,
-        behind: u64,
         file: &str,
-    ) -> Result<Self, AllocError> {
-        let mut new_file = String::from_str(alloc, file)?;
-        new_file.push_str(NEW)?;
+    ) -> Result<Self, Stop>
+        ensures { IfErr result (MayFail (Some file.now)) }
+    {
+        let lock = locked(rt, alloc, file)?;
         let last = match asked.position.as_deref() {
             Some(member) => Some(LastLine::new(alloc, member)?),
             None => None,
         };
         Ok(Keeper {
             alloc,
-            file: String::from_str(alloc, file)?,
-            new_file,
-            made_by: arguments_text(alloc, asked, behind)?,
+            _lock: lock,
+            new_file: beside(alloc, file, NEW)?,
             last,
             taken: 0,
             settled: 0,
@@ -81,47 +82,13 @@ impl Keeper {
         })
     }
 
-    /// Goes on from what the file has: refused, where the lines were kept by other arguments.
-    pub(crate) fn go_on(&mut self, kept: &[u8]) -> Result<(), Stop>
-        ensures { IfErr result (MayStop true) }
-    {
-        if kept.is_empty() {
-            return Ok(());
-        }
-        if !self.is_made_by(kept)? {
-            return Err(self.refusal(KeptRefused { line: 1, why: None }, kept));
-        }
+    /// Goes on from what the file has.
+    pub(crate) fn go_on(&mut self, kept: &[u8]) -> Result<(), AllocError> {
         let position = first_text(self.alloc, POSITION, kept)?;
         if let Some(last) = &mut self.last {
             last.begin_at(position);
         }
         Ok(())
-    }
-
-    /// Whether the lines were kept by the same arguments.
-    fn is_made_by(&self, kept: &[u8]) -> Result<bool, AllocError> {
-        let words = printed_name(self.alloc, &self.made_by)?;
-        let found = first_text(self.alloc, MADE_BY, kept)?;
-        Ok(found.as_deref() == Some(words.as_str()))
-    }
-
-    /// Why the program stops where a line that was kept is refused.
-    pub(crate) fn refusal(&self, refused: KeptRefused, kept: &[u8]) -> Stop
-        ensures { MayStop true result }
-    {
-        match self.fault(refused, kept) {
-            Ok(fault) => Failure::Refused(LogsRefused::Kept(fault)),
-            Err(_) => Failure::Memory,
-        }
-    }
-
-    /// Why lines are refused, with the file, and by what they are kept there.
-    fn fault(&self, refused: KeptRefused, kept: &[u8]) -> Result<KeptFault, AllocError> {
-        Ok(KeptFault {
-            refused,
-            file: shown_text(self.alloc, &self.file)?,
-            made_by: first_text(self.alloc, MADE_BY, kept)?,
-        })
     }
 
     /// Notes bytes of the log that come next.
@@ -144,23 +111,25 @@ impl Keeper {
         self.settled = log.settled_count();
     }
 
-    /// Writes the file, whole or not at all. Where the log is over, its last line may have no end.
-    pub(crate) fn write<R: Files>(&self, rt: &R, text: &str, is_over: bool) -> Result<(), Stop>
-        ensures { IfErr result (λ fault. (fault ≡ Failure.Memory) ⊎ (fault ≡ Failure.Writing)) }
+    /// Notes that the file has not all of it.
+    pub(crate) fn note_nothing(&mut self) {
+        self.taken = u64::MAX;
+    }
+
+    /// Writes the file, whole or not at all.
+    pub(crate) fn write<R: Files>(&self, rt: &R, file: &str, text: &str) -> Result<(), Stop>
+        ensures { IfErr result (MayFail (Some file.now)) }
     {
-        let members = self.members(is_over)?;
-        match self.replace(rt, text, &members) {
+        match self.replace(rt, file, text) {
             Ok(()) => Ok(()),
-            Err(_) => Err(Failure::Writing),
+            Err(_) => Err(failure(self.alloc, Access::Writing, file)),
         }
     }
 
-    /// What the first line has beside what it is: by which arguments it is kept, and where the log
-    /// stands.
-    fn members(&self, is_over: bool) -> Result<String, AllocError> {
-        let words = printed_name(self.alloc, &self.made_by)?;
+    /// What the first line has beside what it is kept as: where the log stands. Where that is over,
+    /// its last line may have no end.
+    pub(crate) fn members(&self, is_over: bool) -> Result<String, AllocError> {
         let mut members = String::new(self.alloc);
-        write!(members, ",\"{MADE_BY}\":{words}")?;
         if let Some(last) = &self.last
             && let Some(text) = last.text(self.alloc, is_over)?
         {
@@ -171,94 +140,110 @@ impl Keeper {
     }
 
     /// Writes a new file, and gives it the name of the file.
-    fn replace<R: Files>(&self, rt: &R, text: &str, members: &str) -> io::Result<()> {
-        let mut file = File::create(rt, self.new_file.as_str())?;
-        match text.find("}\n") {
-            Some(end) => {
-                let (first, rest) = text.split_at(end);
-                file.write_all(first.as_bytes())?;
-                file.write_all(members.as_bytes())?;
-                file.write_all(rest.as_bytes())?;
-            }
-            None => file.write_all(text.as_bytes())?,
+    fn replace<R: Files>(&self, rt: &R, file: &str, text: &str) -> io::Result<()> {
+        let mut new_file = File::create(rt, self.new_file.as_str())?;
+        new_file.write_all(text.as_bytes())?;
+        new_file.sync_all()?;
+        rename(rt, self.new_file.as_str(), file)
+    }
+}
+
+/// Why the program stops where a line that was kept in a file is refused.
+pub(crate) fn refusal(alloc: Global, file: &str, refused: KeptRefused, kept: &[u8]) -> Stop
+    ensures { MayStop (Some file.now) result }
+{
+    match fault(alloc, file, refused, kept) {
+        Ok(fault) => Failure::Refused(LogsRefused::Kept(fault)),
+        Err(_) => Failure::Memory,
+    }
+}
+
+/// Why lines are refused, with the file, and by what they are kept there.
+fn fault(
+    alloc: Global,
+    file: &str,
+    refused: KeptRefused,
+    kept: &[u8],
+) -> Result<KeptFault, AllocError> {
+    Ok(KeptFault {
+        refused,
+        file: shown_text(alloc, file)?,
+        made_by: first_text(alloc, MADE_BY, kept)?,
+    })
+}
+
+/// What stops the program where the file in which lines are kept fails.
+pub(crate) fn failure(alloc: Global, access: Access, file: &str) -> Stop
+    ensures { MayFail (Some file.now) result }
+{
+    match line_of(alloc, access, file) {
+        Ok(line) => Failure::OwnFile(FileFault { access, line }),
+        Err(_) => Failure::Memory,
+    }
+}
+
+/// The line that names the file.
+fn line_of(alloc: Global, access: Access, file: &str) -> Result<String, AllocError>
+    ensures { IfOk result (λ line. string_bytes line ≡ file_line access file.now) }
+{
+    let file = shown_text(alloc, file)?;
+    match access {
+        Access::Reading | Access::Writing => format!(in alloc; "fdb_audit: kept in {file}"),
+        Access::Locking => format!(in alloc; "fdb_audit: another watch keeps in {file}"),
+    }
+}
+
+/// The name of a file beside another one.
+fn beside(alloc: Global, file: &str, ending: &str) -> Result<String, AllocError> {
+    let mut name = String::from_str(alloc, file)?;
+    name.push_str(ending)?;
+    Ok(name)
+}
+
+/// The file that is locked while lines are kept in this one. It stays when it is let go: whoever
+/// removed it could remove what another watch has locked meanwhile.
+fn locked<R: Files<File = File>>(rt: &R, alloc: Global, file: &str) -> Result<File, Stop>
+    ensures { IfErr result (MayFail (Some file.now)) }
+{
+    let name = beside(alloc, file, LOCK)?;
+    match lock(rt, &name) {
+        Ok(lock) => Ok(lock),
+        Err(TryLockError::WouldBlock) => Err(failure(alloc, Access::Locking, file)),
+        Err(TryLockError::Error(_)) => Err(failure(alloc, Access::Writing, file)),
+    }
+}
+
+/// Opens a file, which is made if there is none, and locks it. What it has stays.
+fn lock<R: Files<File = File>>(rt: &R, name: &str) -> Result<File, TryLockError> {
+    let mut options = OpenOptions::new();
+    options.append(true).create(true);
+    match options.open(rt, name) {
+        Ok(file) => {
+            file.try_lock()?;
+            Ok(file)
         }
-        file.sync_all()?;
-        rename(rt, self.new_file.as_str(), self.file.as_str())
-    }
-}
-
-/// The arguments by which lines are kept, in words.
-fn arguments_text(
-    alloc: Global,
-    asked: &AuditArguments,
-    behind: u64,
-) -> Result<String, AllocError> {
-    let mut text = String::new(alloc);
-    let margin = asked.opts.margin;
-    write!(text, "--follow {behind} --margin {margin}")?;
-    push_member(alloc, &mut text, "--key", asked.key.as_deref())?;
-    for member in &asked.shown {
-        push_member(alloc, &mut text, "--show", Some(member.as_str()))?;
-    }
-    push_member(alloc, &mut text, "--position", asked.position.as_deref())?;
-    Ok(text)
-}
-
-/// Writes an argument that names a member, if it does.
-fn push_member(
-    alloc: Global,
-    out: &mut String,
-    argument: &str,
-    member: Option<&str>,
-) -> Result<(), AllocError> {
-    if let Some(member) = member {
-        let name = printed_name(alloc, member)?;
-        write!(out, " {argument} {name}")?;
-    }
-    Ok(())
-}
-
-/// What the first line of a text has in a member, as it is printed, if it has that.
-fn first_text(alloc: Global, member: &str, text: &[u8]) -> Result<Option<String>, AllocError> {
-    let end = text.iter().position(|byte| *byte == b'\n');
-    let first = match end {
-        Some(end) => &text[..end],
-        None => text,
-    };
-    match member_texts(alloc, member, first)? {
-        Some(text) => Ok(Some(shown_text(alloc, &text)?)),
-        None => Ok(None),
+        Err(error) => Err(TryLockError::Error(error)),
     }
 }
 
 /// What a file has of the lines that were kept; nothing where there is none.
 pub(crate) fn read_kept<R: Files>(rt: &R, alloc: Global, file: &str) -> Result<Vec<u8>, Stop>
-    ensures { IfErr result (λ fault. (fault ≡ Failure.Reading) ⊎ (fault ≡ Failure.Memory)) }
+    ensures { IfErr result (MayFail (Some file.now)) }
 {
-    match File::open(rt, file) {
-        Ok(file) => read_whole(alloc, file),
-        Err(error) if error.kind() == ErrorKind::NotFound => Ok(Vec::new(alloc)),
-        Err(error) => Err(unread(error)),
+    match read_whole(rt, alloc, file) {
+        Ok(text) => Ok(text),
+        Err(error) => match error.kind() {
+            ErrorKind::NotFound => Ok(Vec::new(alloc)),
+            ErrorKind::OutOfMemory => Err(Failure::Memory),
+            _ => Err(failure(alloc, Access::Reading, file)),
+        },
     }
 }
 
 /// All bytes of a file.
-fn read_whole<F: Read + Drop>(alloc: Global, mut file: F) -> Result<Vec<u8>, Stop>
-    ensures { IfErr result (λ fault. (fault ≡ Failure.Reading) ⊎ (fault ≡ Failure.Memory)) }
-{
+fn read_whole<R: Files>(rt: &R, alloc: Global, file: &str) -> io::Result<Vec<u8>> {
+    let mut file = File::open(rt, file)?;
     let mut text = Vec::new(alloc);
-    match file.read_to_end(&mut text) {
-        Ok(_) => Ok(text),
-        Err(error) => Err(unread(error)),
-    }
-}
-
-/// What stops the program where a file could not be read.
-fn unread(error: io::Error) -> Stop
-    ensures { (result ≡ Failure.Reading) ⊎ (result ≡ Failure.Memory) }
-{
-    match error.kind() {
-        ErrorKind::OutOfMemory => Failure::Memory,
-        _ => Failure::Reading,
-    }
+    file.read_to_end(&mut text)?;
+    Ok(text)
 }

@@ -10,14 +10,15 @@ ghost use Rattle.fdb_audit.specs.declared.arguments.AuditArguments.{AuditArgumen
 ghost use Rattle.fdb_audit.specs.declared.fault.LogFault.{LogFault};
 ghost use Rattle.fdb_audit.specs.declared.taking.Taking.{Taking};
 ghost use Rattle.fdb_audit.specs.Following.{early_at, lines_since, told_in_all, Start};
+ghost use Rattle.fdb_log_reader.specs.declared.error.ReadError.{ReadError};
 ghost use Rattle.fdb_log_reader.specs.Reading.{Reading};
+ghost use Rattle.fdb_audit.specs.AllPieces.{told_of_pieces, AreInTime, Pieces};
 ghost use Rattle.fdb_audit.specs.Joined.{faults_by_number, ArePartsOf, WasReadByKey};
 ghost use Rattle.fdb_audit.specs.Kept.{start_of, IsStopped, Keeps};
 ghost use Rattle.fdb_audit.specs.Pieces.{all_bytes, audited_in, places_beyond, AreWatched};
 ghost use Rattle.fdb_audit.specs.Pieces.{MayGoOn, Piece};
 ghost use Rattle.fdb_audit.specs.Taken.{AreTaken};
-ghost use Rattle.fdb_audit.specs.Groups.{kinds_of};
-ghost use Rattle.fdb_audit.specs.ToldFaults.{by_client, by_text, owned_by_client, ToldFault};
+ghost use Rattle.fdb_audit.specs.ToldFaults.{by_text, texted, texted_in, ToldFault};
 ghost use Rattle.fdb_audit.specs.Watched.{lines_asked, names_asked, IsFollowed};
 
 use fdb_lines::laws::{
@@ -96,6 +97,29 @@ pub fn a_log_watched_in_pieces_is_told_as_by_one_watch()
     who_goes_on_from_what_a_watch_kept_tells_the_rest();
 }
 
+/// A watch that goes on from what it keeps, however often, tells of a log that has ended what an audit
+/// of all lines finds, where no line came early: nothing twice and nothing lost, each fault at the place
+/// of its line among all lines.
+pub fn a_watch_that_goes_on_tells_as_one_audit()
+    ensures { (asked : AuditArguments) (found : Option LogFault) (refused : Option ReadError)
+        (last_early : Option ℕ) (times : ℕ) (start : Start) (bytes text : List ℕ)
+        → start.early ≡ 0
+        → (pieces : Pieces asked found refused last_early times start bytes text)
+        → AreInTime asked found refused last_early times start bytes text pieces → IsPermutation
+        (start.told ++ told_of_pieces asked found refused last_early times start bytes text pieces)
+        (audited_in asked bytes) }
+{
+    each_name_has_one_number();
+    keys_stay_in_one_member();
+    logs_that_say_the_same_differ_in_numbers_alone();
+    names_keep_their_numbers();
+    numbers_are_those_of_names();
+    what_a_watch_keeps_stands_for_all();
+    what_follows_an_ended_line_is_apart();
+    what_lines_say_is_theirs_alone();
+    who_goes_on_from_what_a_watch_kept_tells_the_rest();
+}
+
 /// A log that is divided into parts by its keys, each read and audited as a log of its own, has the
 /// faults of its parts, each by the number of its line, once, and no others.
 pub fn the_faults_of_parts_by_number_are_those_of_the_log()
@@ -109,11 +133,10 @@ pub fn the_faults_of_parts_by_number_are_those_of_the_log()
     what_is_read_by_key_is_numbered_by_names();
 }
 
-/// Where the totals of a watch do not say that there are more, they are of all faults that were told:
-/// by their clients, and by what was printed of any member beside them.
+/// Where the totals of a watch do not say that there are more, they are of all faults that were told,
+/// each by its own text: of its client, or of any member that was printed beside it.
 pub fn totals_that_say_no_more_are_of_all_faults()
-    ensures clients { (told : List ToldFault) → (by_client told).more ≡ false
-        → (by_client told).owned ≡ map owned_by_client told }
-    ensures texts { (member : ℕ) (told : List ToldFault) → (by_text member told).more ≡ false
-        → kinds_of (by_text member told).owned ≡ map (λ (one : ToldFault). one.kind) told }
+    ensures { (its : ToldFault → Option (List ℕ)) (told : List ToldFault)
+        → let it = by_text its told in it.more ≡ false
+        → map (texted_in it.texts) it.owned ≡ map (texted its) told }
 {}

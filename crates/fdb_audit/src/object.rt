@@ -1,7 +1,7 @@
 //! Faults and lines as JSON objects.
 
 ghost use Rattle.std.specs.Prelude.{◌≡◌, ◌++◌, OnOk, map, option_map, string_bytes};
-ghost use Rattle.fdb_audit.specs.Objects.{by_field, call_field, fault_object, fault_word};
+ghost use Rattle.fdb_audit.specs.Objects.{by_field, call_field, fault_object};
 ghost use Rattle.fdb_audit.specs.Objects.{late_field, line_object, means_field, member_field};
 ghost use Rattle.fdb_audit.specs.Objects.{members_field, reason_field};
 ghost use Rattle.fdb_audit.specs.Objects.{text_or_null, times_field};
@@ -11,7 +11,7 @@ ghost use Rattle.fdb_audit.specs.private.{beside_of, shown_in};
 use crate::beside::Column;
 use crate::figures::{Figure, push_figures};
 use crate::printer::Printer;
-use fdb_lines::{Fault, Finding, Late, Means, Operation, Reason, Times, Witness};
+use fdb_lines::{Finding, Late, Means, Operation, Reason, Times, Witness};
 use std::alloc::AllocError;
 use std::fmt::Write;
 
@@ -25,8 +25,8 @@ impl Printer<'_> {
         ensures { OnOk result (string_bytes out.new
             ≡ string_bytes out.old ++ line (fault_object (shown_in self.entry) finding)) }
     {
-        let word = fault_word(finding.found.fault);
-        write!(out, "{{\"fault\":\"{word}\",\"at\":")?;
+        let fault = finding.found.fault;
+        write!(out, "{{\"fault\":\"{fault}\",\"at\":")?;
         self.push_line_object(out, finding.found.line)?;
         self.push_late_field(out, finding.late)?;
         self.push_reason_field(out, finding.reason)?;
@@ -130,19 +130,6 @@ impl Printer<'_> {
                 self.push_line_object(out, teller)
             }
         }
-    }
-}
-
-/// The name of a kind of fault.
-pub(crate) fn fault_word(fault: Fault) -> &'static str
-    ensures { result.now ≡ fault_word fault }
-{
-    match fault {
-        Fault::Order => "Order",
-        Fault::Wrong => "Wrong",
-        Fault::NotAbove => "NotAbove",
-        Fault::Twice => "Twice",
-        Fault::Stray => "Stray",
     }
 }
 

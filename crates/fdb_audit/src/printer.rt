@@ -1,17 +1,18 @@
 //! The lines that are printed, and the names of their clients as they are printed.
 
-ghost use Rattle.std.specs.Prelude.{◌≡◌, ◌++◌, [], OnOk, slice_get, string_bytes};
+ghost use Rattle.std.specs.Prelude.{◌≡◌, ◌++◌, [], IfOk, OnOk, option_map, slice_get, string_bytes};
 ghost use Rattle.fdb_lines.specs.Lines.{line_at};
 ghost use Rattle.fdb_lines.specs.Log.{lines_of};
 ghost use Rattle.fdb_audit.specs.Text.{call_text, client_or, fault_of, members_text, mention};
 ghost use Rattle.fdb_audit.specs.Text.{name_or_number, number_at, number_text, whose_text};
+ghost use Rattle.fdb_audit.specs.ToldFaults.{client_text};
 ghost use Rattle.fdb_audit.specs.private.{shown_in};
 
 use crate::beside::Column;
 use crate::client_names::ClientNames;
 use crate::fault::{LogFault, number_at};
 use fdb_lines::{Found, Line, Log, Operation};
-use std::alloc::AllocError;
+use std::alloc::{AllocError, Global};
 use std::fmt::Write;
 
 /// What stands past the last line: nothing.
@@ -56,6 +57,22 @@ impl Printer<'_> {
         LogFault {
             fault: found.fault,
             number: self.number(found.line),
+        }
+    }
+
+    /// The name of the client of the line at a place, or its number where it has none, if it is known.
+    pub(crate) fn client(self, alloc: Global, place: u32) -> Result<Option<String>, AllocError>
+        ensures { let it = shown_in self.entry in IfOk result (λ text.
+            option_map string_bytes text
+            ≡ client_text it.names (line_at it.lines place).client) }
+    {
+        match self.line(place).client {
+            Some(number) => {
+                let mut text = String::new(alloc);
+                self.push_name(&mut text, number)?;
+                Ok(Some(text))
+            }
+            None => Ok(None),
         }
     }
 

@@ -18,7 +18,8 @@ use std::fmt::Write;
 /// How far a log has been followed: how many lines came, and how, and how many of those wait.
 #[derive(Clone, Copy, Debug, PartialEq, Eq)]
 pub struct Progress {
-    /// Lines that were taken, those that were kept of others not counted, and of each kind.
+    /// How many lines were taken, without those that the audit was restored with. `reads`,
+    /// `commits`, `asks` and `reports` are how many of them are of each kind.
     pub lines: u64,
     pub reads: u64,
     pub commits: u64,
@@ -26,7 +27,7 @@ pub struct Progress {
     pub reports: u64,
     /// Lines that were refused.
     pub refused: u64,
-    /// Lines that came early.
+    /// How many lines had begun before what was settled when they came.
     pub early: u64,
     /// How many of the early lines were judged, by what was kept then.
     pub judged: u64,
@@ -38,7 +39,7 @@ pub struct Progress {
     pub kept: u64,
     /// The newest end that is believed, in the unit of the log's times; 0 where none is.
     pub newest_end: u64,
-    /// The moment up to which all is told.
+    /// The moment up to which all is told, in the unit of the log's times.
     pub settled_to: u64,
 }
 

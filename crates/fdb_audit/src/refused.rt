@@ -11,10 +11,12 @@ use std::fmt;
 /// line on standard error, behind the program's name.
 #[derive(Debug, Drop)]
 pub enum LogsRefused {
-    /// The first line of the log with which something is wrong, and what.
+    /// A line with which something is wrong, and what: the first one of the log, or, where the log
+    /// is followed, the last one or the one that is just told.
     Log(ReadError),
-    /// The last line of a log that is followed that came early, by its number, counted from 1: what
-    /// was told before is not told anew by it, and it may not have been judged.
+    /// The number, counted from 1, of the last line of a followed log that had begun before what
+    /// was settled when it came. What was told before is not told anew because of it, and the line
+    /// itself may not have been judged.
     Early(u64),
     /// Why lines that were kept are refused, and where they are kept.
     Kept(KeptFault),
@@ -34,9 +36,12 @@ pub struct KeptFault {
 /// Why lines that were kept are refused: the first with which something is wrong.
 #[derive(Clone, Copy, Debug, PartialEq, Eq)]
 pub struct KeptRefused {
-    /// The number of that line among the kept ones, counted from 1.
+    /// The number of the wrong line among the kept ones, counted from 1; 0 where it is the kept
+    /// lines as a whole that do not say what they should.
     pub line: u64,
-    /// What is wrong with the line; none where the line does not say as what it was kept.
+    /// What is wrong with the line. It is none where the line can be read, but lacks the members of
+    /// a kept line (`kept_line` and so on, docs/LOG.md), or they do not go on from those of the
+    /// lines above.
     pub why: Option<Why>,
 }
 

@@ -12,6 +12,7 @@ ghost use Rattle.fdb_log_reader.specs.declared.error.Why.{Why};
 ghost use Rattle.fdb_log_reader.specs.ReadLine.{IsTimed, SaidLine, said_by, said_in};
 ghost use Rattle.fdb_lines.specs.ToldByKey.{audited_to};
 
+use crate::carried::Carried;
 use crate::clocks::Clocks;
 use crate::counts::{Came, Counts};
 use crate::numbering::Numbering;
@@ -49,9 +50,9 @@ pub(crate) struct Taking {
 
 impl Taking {
     ghost use Rattle.fdb_audit.specs.Following.{Start, keys_taken, left_out, lines_taken};
-    ghost use Rattle.fdb_audit.specs.Following.{early_at, start_with};
+    ghost use Rattle.fdb_audit.specs.Following.{early_at, no_line, start_with, taken};
     ghost use Rattle.fdb_audit.specs.Kept.{KeptSaid, start_from};
-    ghost use Rattle.fdb_audit.specs.Taken.{AreCounted, HasWarned, kept_by};
+    ghost use Rattle.fdb_audit.specs.Taken.{AreCounted, HasWarned, IsCarried, kept_by};
     ghost use Rattle.fdb_audit.specs.private.Followed.{AreTaken, NotesLine, counted_line};
     ghost use Rattle.fdb_audit.specs.private.Followed.{noted, odd_text};
 
@@ -71,6 +72,7 @@ impl Taking {
         ensures warned { IfOk result (λ taking.
             HasWarned (start_with behind (kept_by numbering)) taking [] []) }
         ensures margin { IfOk result (λ taking. taking.watch.margin ≡ margin) }
+        ensures from { IfOk result (λ taking. taking.watch.from ≡ 0) }
         ensures members { IfOk result (λ taking. map string_bytes taking.rows.members.items
             ≡ map (λ name. printed (string_bytes name)) shown.now) }
     {
@@ -128,6 +130,7 @@ impl Taking {
             → let read = map said_in lines.items in
             let start = start_from behind self.old.watch.margin kept read in
             AreTaken start self.new read start.told × HasWarned start self.new read []) }
+        ensures from { OnOk result (self.new.watch.from ≡ max self.old.watch.from settled) }
         ensures margin { self.new.watch.margin ≡ self.old.watch.margin }
     {
         let since = lines.split_off(told.min(lines.len()))?;
@@ -197,19 +200,31 @@ impl Taking {
         self.settled = self.taken;
     }
 
-    /// The last line that was refused, if one was, or that none was taken.
-    pub(crate) fn left_out(&self) -> Option<ReadError>
+    /// The last line that was refused, if one was, or that none was taken, behind what an earlier piece
+    /// has counted.
+    pub(crate) fn left_out(&self, before: &Carried) -> Option<ReadError>
         ensures { (start : Start) → (read : List (Result SaidLine Why)) → (told : List Found)
-            → AreTaken start self.now read told → result ≡ left_out start.numbers read }
+            → AreTaken start self.now read told → IsCarried start.before before.now
+            → result ≡ left_out start read }
     {
-        if self.taken > 0 && self.numbering.count() == 0 {
+        let refused = self.refused.or(before.last_refused);
+        refused.or(self.no_line(before))
+    }
+
+    /// That no line was taken, if none was, nor any before.
+    fn no_line(&self, before: &Carried) -> Option<ReadError>
+        ensures { (start : Start) → (read : List (Result SaidLine Why)) → (told : List Found)
+            → AreTaken start self.now read told → IsCarried start.before before.now
+            → result ≡ no_line (taken read) start.before.counts.lines }
+    {
+        let lines = self.taken.saturating_add(before.counts.lines);
+        if lines > 0 {
             return None;
         }
-        let none = ReadError {
+        Some(ReadError {
             line: 0,
             why: Why::Empty,
-        };
-        Some(self.refused.unwrap_or(none))
+        })
     }
 
     /// How many lines were read.

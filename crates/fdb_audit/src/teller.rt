@@ -17,12 +17,13 @@ ghost use Rattle.fdb_audit.specs.Following.{IsEnd, KeptNumbers};
 ghost use Rattle.fdb_audit.specs.Text.{fault_of};
 ghost use Rattle.fdb_audit.specs.ToldFaults.{told_at, ToldFault};
 ghost use Rattle.fdb_audit.specs.private.{members_of, shown_in};
-ghost use Rattle.fdb_audit.specs.private.Followed.{counted_of, told_with, AreNumbered, CountsOn};
+ghost use Rattle.fdb_audit.specs.private.Followed.{counted_in, told_with, AreNumbered, CountsOn};
 ghost use Rattle.fdb_audit.specs.private.Followed.{HasCounted, HasTotals, HasTotalsIn};
 ghost use Rattle.fdb_audit.specs.private.Followed.{IsSameTeller, TellsOn};
 
 use crate::arguments::AuditArguments;
 use crate::beside::Column;
+use crate::carried::Carried;
 use crate::client_names::ClientNames;
 use crate::fault::LogFault;
 use crate::figures::{Figure, push_line, push_total_object};
@@ -175,7 +176,7 @@ impl Teller {
             (λ finding. fault_of (shown_in printer.entry).numbers (found_of finding))
             (slice_get found.now 0))) }
         ensures counts { let it = shown_in printer.entry in OnOk result (CountsOn self.old self.new
-            (map (λ finding. told_at it.lines it.beside finding.found) found.now)) }
+            (map (λ finding. told_at it.lines it.names it.beside finding.found) found.now)) }
         ensures same { IsSameTeller self.old self.new }
     {
         if self.wanted.all || !self.wanted.totals {
@@ -190,33 +191,30 @@ impl Teller {
     }
 
     /// Says that no fault was found, and whether all was judged; or how many were, where totals are
-    /// wanted.
+    /// wanted: of all that is counted.
     pub(crate) fn end(
         &mut self,
         alloc: Global,
-        reader: &LineReader,
-        taking: &Taking,
+        all: &Carried,
         behind: u64,
     ) -> Result<(), AllocError>
         ensures text { OnOk result ((members : List (List ℕ)) → (told : List ToldFault)
             → HasTotals members self.old told → (end : List ℕ)
             × IsEnd (not (is_some self.old.first) && not self.old.wanted.json)
-            self.old.wanted.totals self.old.wanted.json (counted_of taking.now)
-            (told_with behind self.old members) (map printed (line_names reader.now).clients)
-            told end
+            self.old.wanted.totals self.old.wanted.json
+            (counted_in all.now.counts all.now.refused) (told_with behind self.old members) told end
             × (string_bytes self.new.text ≡ string_bytes self.old.text ++ end)) }
         ensures first { self.new.first ≡ self.old.first }
     {
         if self.first.is_none() && !self.wanted.json {
-            let figures = taking.counts.figures(alloc, taking.numbering.count())?;
-            return push_line(&mut self.text, taking.counts.verdict(), &figures);
+            let figures = all.counts.figures(alloc, all.refused)?;
+            return push_line(&mut self.text, all.counts.verdict(), &figures);
         }
         let Some(told) = replace(&mut self.told, None) else {
             return Ok(());
         };
-        self.push_head(alloc, taking, behind, &told.columns)?;
-        let names = ClientNames::OfLog(reader.names());
-        told.push(alloc, &mut self.text, self.wanted.json, names)?;
+        self.push_head(alloc, all, behind, &told.columns)?;
+        told.push(alloc, &mut self.text, self.wanted.json)?;
         Ok(())
     }
 
@@ -224,17 +222,17 @@ impl Teller {
     fn push_head(
         &mut self,
         alloc: Global,
-        taking: &Taking,
+        all: &Carried,
         behind: u64,
         columns: &[Column],
     ) -> Result<(), AllocError>
         ensures text { OnOk result (string_bytes self.new.text ≡ string_bytes self.old.text
-            ++ total_head self.old.wanted.json (counted_of taking.now)
+            ++ total_head self.old.wanted.json (counted_in all.now.counts all.now.refused)
             (told_with behind self.old (members_of columns.now))) }
         ensures first { self.new.first ≡ self.old.first }
         ensures wanted { self.new.wanted ≡ self.old.wanted }
     {
-        let figures = taking.counts.figures(alloc, taking.numbering.count())?;
+        let figures = all.counts.figures(alloc, all.refused)?;
         if self.wanted.json {
             let arguments = [
                 Figure("follow", Some(behind)),
@@ -269,7 +267,7 @@ fn count(
     ensures { let it = shown_in printer.entry in OnOk result ((totals : Bool)
         → (members : List (List ℕ)) → (before : List ToldFault)
         → HasTotalsIn totals members told.old before → HasTotalsIn totals members told.new
-        (before ++ map (λ finding. told_at it.lines it.beside finding.found) found.now)) }
+        (before ++ map (λ finding. told_at it.lines it.names it.beside finding.found) found.now)) }
 {
     match told {
         Some(told) => count_in(alloc, told, printer, found),
@@ -286,7 +284,7 @@ fn count_in(
     ensures { let it = shown_in printer.entry in OnOk result ((members : List (List ℕ))
         → (before : List ToldFault) → HasCounted members told.old before
         → HasCounted members told.new
-        (before ++ map (λ finding. told_at it.lines it.beside finding.found) found.now)) }
+        (before ++ map (λ finding. told_at it.lines it.names it.beside finding.found) found.now)) }
 {
     for finding in found {
         told.add(alloc, printer, finding.found)?;

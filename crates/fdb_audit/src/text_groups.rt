@@ -1,23 +1,26 @@
-//! The faults that a watch has told, by what was printed of a member beside them.
+//! The faults that a watch has told, by what was printed of them: their clients, or a member beside.
 
 ghost use Rattle.std.specs.Prelude.{◌≡◌, ◌==◌, ◌++◌, ◌∷◌, ℕ, [], IfOk, List, None, OnOk, Some};
-ghost use Rattle.std.specs.Prelude.{cond};
+ghost use Rattle.std.specs.Prelude.{Option, cond};
 ghost use Rattle.std.specs.Prelude.{option_map, string_bytes};
 ghost use Rattle.std.specs.BTreeMap.{get_by_text};
 ghost use Rattle.std.specs.Str.{bytes_eq};
 ghost use Rattle.fdb_log_reader.specs.Numbers.{number_in};
-ghost use Rattle.fdb_audit.specs.ToldFaults.{text_of, with_text, ToldFault};
+ghost use Rattle.fdb_audit.specs.ToldFaults.{with_text, ToldFault};
 ghost use Rattle.fdb_audit.specs.private.{beside_in};
 ghost use Rattle.fdb_audit.specs.Tallied.{texts_in, AreNumbered, HasTexts};
 
 use crate::beside::MemberTexts;
-use crate::client_groups::ROOM;
 use crate::groups::Tally;
 use fdb_lines::Fault;
 use std::alloc::{AllocError, Global};
 use std::collections::BTreeMap;
 
-/// The faults that were told, by the texts of a member, as far as there is room for these.
+/// Of so many clients, and of so many texts of a member, faults are counted.
+const ROOM: usize = 65_536;
+
+/// The faults that were told, by the texts of a member, as far as there is room for these. The name of
+/// a client is the text of the member that has it.
 #[derive(Drop)]
 pub(crate) struct TextGroups {
     /// The name of the member, as it is printed.
@@ -35,7 +38,8 @@ impl TextGroups {
     /// Of no fault.
     pub(crate) fn new(alloc: Global, member: &str) -> Result<Self, AllocError>
         ensures member { IfOk result (λ groups. string_bytes groups.member ≡ member.now) }
-        ensures counted { IfOk result (λ groups. (place : ℕ) → HasTexts place [] groups) }
+        ensures counted { IfOk result (λ groups. (its : ToldFault → Option (List ℕ))
+            → HasTexts its [] groups) }
     {
         Ok(TextGroups {
             member: String::from_str(alloc, member)?,
@@ -53,9 +57,10 @@ impl TextGroups {
         text: Option<&str>,
         fault: Fault,
     ) -> Result<(), AllocError>
-        ensures counted { OnOk result ((place : ℕ) → (told : List ToldFault) → (one : ToldFault)
-            → text_of place one ≡ option_map (λ text. text.now) text.entry → one.kind ≡ fault
-            → HasTexts place told self.old → HasTexts place (told ++ one ∷ []) self.new) }
+        ensures counted { OnOk result ((its : ToldFault → Option (List ℕ))
+            → (told : List ToldFault) → (one : ToldFault)
+            → its one ≡ option_map (λ text. text.now) text.entry → one.kind ≡ fault
+            → HasTexts its told self.old → HasTexts its (told ++ one ∷ []) self.new) }
         ensures member { self.new.member ≡ self.old.member }
     {
         let Some(text) = text else {

@@ -2,14 +2,14 @@
 
 ghost use Rattle.std.specs.Prelude.{◌≡◌, ◌++◌, ◌∷◌, ℕ, [], IfOk, List, OnOk, map, option_map};
 ghost use Rattle.std.specs.Prelude.{option_to_list, string_bytes};
-ghost use Rattle.fdb_audit.specs.ToldFaults.{text_of, told_at, AreMostByText, AreTotals};
-ghost use Rattle.fdb_audit.specs.ToldFaults.{ToldFault};
-ghost use Rattle.fdb_audit.specs.private.{members_of, names_in, shown_in};
+ghost use Rattle.fdb_audit.specs.Groups.{client_name, AreMost};
+ghost use Rattle.fdb_audit.specs.ToldFaults.{by_text, client_of, text_of, told_at, AreMostByText};
+ghost use Rattle.fdb_audit.specs.ToldFaults.{AreTotals, ToldFault};
+ghost use Rattle.fdb_audit.specs.private.{members_of, shown_in};
 ghost use Rattle.fdb_audit.specs.private.Followed.{HasCounted};
-ghost use Rattle.fdb_audit.specs.Tallied.{HasTextsIn};
+ghost use Rattle.fdb_audit.specs.Tallied.{HasTexts, HasTextsIn};
 
 use crate::beside::Column;
-use crate::client_groups::ClientGroups;
 use crate::client_names::ClientNames;
 use crate::grouped::By;
 use crate::printer::Printer;
@@ -23,7 +23,7 @@ use std::alloc::{AllocError, Global};
 #[derive(Drop)]
 pub(crate) struct ToldFaults {
     pub(crate) kinds: KindCounts,
-    pub(crate) clients: ClientGroups,
+    pub(crate) clients: TextGroups,
     pub(crate) texts: Vec<TextGroups>,
     /// The members that are printed beside the lines of the faults.
     pub(crate) columns: Vec<Column>,
@@ -47,7 +47,7 @@ impl ToldFaults {
         let texts = texts_of(alloc, &columns)?;
         Ok(ToldFaults {
             kinds: KindCounts::new(),
-            clients: ClientGroups::new(alloc),
+            clients: TextGroups::new(alloc, "client")?,
             texts,
             columns,
         })
@@ -62,39 +62,47 @@ impl ToldFaults {
     ) -> Result<(), AllocError>
         ensures { let it = shown_in printer.entry in OnOk result ((members : List (List ℕ))
             → (told : List ToldFault) → HasCounted members self.old told
-            → HasCounted members self.new (told ++ told_at it.lines it.beside found ∷ [])) }
+            → HasCounted members self.new (told ++ told_at it.lines it.names it.beside found ∷ [])) }
     {
         self.kinds.add(found.fault)?;
-        let client = printer.line(found.line).client;
-        self.clients.add(client, found.fault)?;
+        let client = printer.client(alloc, found.line)?;
+        self.clients.add(alloc, client.as_deref(), found.fault)?;
         add_texts(alloc, &mut self.texts, printer, found)
     }
 
     /// Writes how many faults were told, in all, of each kind, and of the groups with most.
-    pub(crate) fn push(
-        &self,
-        alloc: Global,
-        out: &mut String,
-        json: bool,
-        names: ClientNames<'_>,
-    ) -> Result<(), AllocError>
+    pub(crate) fn push(&self, alloc: Global, out: &mut String, json: bool) -> Result<(), AllocError>
         ensures { OnOk result ((members : List (List ℕ)) → (told : List ToldFault)
             → HasCounted members self.now told → (totals : List ℕ)
-            × AreTotals json (names_in names.entry) members told totals
+            × AreTotals json members told totals
             × (string_bytes out.new ≡ string_bytes out.old ++ totals)) }
     {
         self.kinds.push_line(out, json)?;
-        let none = Log::new(alloc);
-        let printer = Printer {
-            log: &none,
-            names,
-            numbers: &[],
-            beside: &[],
-        };
-        let ClientGroups { tally, more, .. } = &self.clients;
-        By::Client(printer).push_tally(alloc, out, json, tally, *more)?;
+        push_clients(alloc, out, json, &self.clients)?;
         push_texts(alloc, out, json, &self.texts)
     }
+}
+
+/// Writes how many faults the clients with most have.
+fn push_clients(
+    alloc: Global,
+    out: &mut String,
+    json: bool,
+    clients: &TextGroups,
+) -> Result<(), AllocError>
+    ensures { OnOk result ((told : List ToldFault) → HasTexts client_of told clients.now
+        → (text : List ℕ) × (let it = by_text client_of told in
+        AreMost json it.more (λ json. client_name json it.texts) it.owned text)
+        × (string_bytes out.new ≡ string_bytes out.old ++ text)) }
+{
+    let none = Log::new(alloc);
+    let printer = Printer {
+        log: &none,
+        names: ClientNames::Texts(&clients.texts),
+        numbers: &[],
+        beside: &[],
+    };
+    By::Client(printer).push_tally(alloc, out, json, &clients.tally, clients.more)
 }
 
 /// Writes how many faults the groups with most have, of the texts of each member.
@@ -148,7 +156,8 @@ fn add_texts(
 ) -> Result<(), AllocError>
     ensures { let it = shown_in printer.entry in OnOk result ((members : List (List ℕ))
         → (told : List ToldFault) → HasTextsIn members told texts.old
-        → HasTextsIn members (told ++ told_at it.lines it.beside found ∷ []) texts.new) }
+        → HasTextsIn members
+        (told ++ told_at it.lines it.names it.beside found ∷ []) texts.new) }
 {
     for member in 0..texts.len() {
         texts[member].add(alloc, text_at(printer, member, found), found.fault)?;
@@ -159,7 +168,7 @@ fn add_texts(
 /// What is printed of a member beside the line of a fault, if it is.
 fn text_at<'a>(printer: Printer<'a>, member: usize, found: Found) -> Option<&'a str>
     ensures { let it = shown_in printer.entry in option_map (λ text. text.now) result
-        ≡ text_of member (told_at it.lines it.beside found) }
+        ≡ text_of member (told_at it.lines it.names it.beside found) }
 {
     printer.beside.get(member)?.text(found.line)
 }

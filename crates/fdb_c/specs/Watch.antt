@@ -1,15 +1,22 @@
 -- What C asks of a watch, what a watch is, and what it has told. (this product's own)
-use Rattle.std.specs.Prelude.{◌≡◌, ℕ, ◌++◌, Bool, true, false, List, [], Option, None, Some}
+use Rattle.std.specs.Prelude.{◌≡◌, ℕ, ◌++◌, Bool, true, false, List, [], Option, None, Some, option_map, string_bytes}
 use Rattle.fdb_lines.specs.declared.opts.AuditOpts.{AuditOpts}
+use Rattle.fdb_log_reader.specs.LineReader.{line_names}
 use Rattle.fdb_log_reader.specs.declared.error.ReadError.{ReadError}
-use Rattle.fdb_audit.specs.Following.{fresh, left_out, none_kept}
+use Rattle.fdb_log_reader.specs.declared.error.Why.{Why}
+use Rattle.fdb_audit.specs.Following.{Counted, IsCounted, Start, fresh, left_out}
+use Rattle.fdb_audit.specs.Kept.{Keeps, start_of}
+use Rattle.fdb_audit.specs.Taken.{counted_of}
 use Rattle.fdb_audit.specs.Watched.{HasFollowed, IsFollowed, lines_asked}
 use Rattle.fdb_audit.specs.declared.arguments.AuditArguments.{AuditArguments}
 use Rattle.fdb_audit.specs.declared.fault.LogFault.{LogFault}
 use Rattle.fdb_audit.specs.declared.follower.Follower.{Follower}
 use Rattle.fdb_audit.specs.declared.judged.Wanted.{Wanted}
-use Rattle.fdb_c.specs.Audit.{Asked, asked_in}
+use Rattle.fdb_audit.specs.declared.refused.KeptRefused.{KeptRefused}
+use Rattle.fdb_c.specs.Audit.{Asked, asked_in, member_of, status_of}
 use Rattle.fdb_c.specs.declared.audit.FdbRefused.{FdbRefused}
+use Rattle.fdb_c.specs.declared.status.TheConstants.{FDB_NOT_KEPT}
+use Rattle.fdb_c.specs.declared.watch_counts.FdbWatchCounted.{FdbWatchCounted}
 use Rattle.fdb_c.specs.declared.watch_options.FdbWatchOptions.{FdbWatchOptions}
 
 -- ---- what is asked
@@ -23,27 +30,38 @@ wanted_in options = record { history = false; all = true; totals = options.total
 
 -- ---- what a watch is
 
--- What it was asked for, how far behind the newest end a line may begin, the bytes that have come, the text that was told of
--- them, what was said last with its warnings, and whether it is over: its log has ended, or memory was refused.
+-- What it was asked for, how far behind the newest end a line may begin, and by which text of kept lines it goes on, if it does;
+-- the bytes that have come, behind that text; the text that was told of them, what was said last with its warnings, and whether it
+-- is over: its log has ended, or memory was refused.
 pub record Watch : Type 0 where
   pub asked : Asked
   pub behind : ℕ
+  pub from : Option (List ℕ)
   pub bytes : List ℕ
   pub told : List ℕ
   pub text : List ℕ
   pub warnings : List ℕ
   pub is_over : Bool
 
-abbrev pub new_watch : Asked → ℕ → Watch
-new_watch asked behind = record {
+-- nothing has come but these bytes
+abbrev pub watch_from : Asked → ℕ → Option (List ℕ) → List ℕ → Watch
+watch_from asked behind from bytes = record {
   asked = asked;
   behind = behind;
-  bytes = [];
+  from = from;
+  bytes = bytes;
   told = [];
   text = [];
   warnings = [];
   is_over = false;
 }
+
+abbrev pub new_watch : Asked → ℕ → Watch
+new_watch asked behind = watch_from asked behind None []
+
+-- it goes on by a text of kept lines
+abbrev pub restored : Asked → ℕ → List ℕ → Watch
+restored asked behind text = watch_from asked behind (Some text) text
 
 -- more bytes have come
 abbrev pub with_bytes : Watch → List ℕ → Watch
@@ -58,25 +76,33 @@ abbrev pub IsTold : Watch → Watch → Type 0
 IsTold before after =
     after ≡ record before { told = before.told ++ after.text; text = after.text; warnings = after.warnings; is_over = after.is_over }
 
+-- from where a log is followed: from its beginning, or on by a text of kept lines
+abbrev pub started : AuditArguments → ℕ → Option (List ℕ) → Start
+started arguments behind None = fresh behind
+started arguments behind (Some text) = start_of arguments behind text
+
+abbrev pub start_in : AuditArguments → Watch → Start
+start_in arguments watch = started arguments watch.behind watch.from
+
 -- ---- what it has told
 
--- why a part of a text is refused, if it is: the last line that is, or that there is none
-abbrev pub refused_in : AuditArguments → List ℕ → Option ReadError
-refused_in arguments bytes = left_out none_kept (lines_asked arguments bytes)
+-- why a part of the log is refused, if it is: the last line that is, or that there is none
+abbrev pub refused_in : AuditArguments → Watch → Option ReadError
+refused_in arguments watch = left_out (start_in arguments watch) (lines_asked arguments watch.bytes)
 
 -- This was told of the bytes that have come, as by an audit that follows the log.
 pub record HasTold (watch : Watch) : Type 0 where
   pub arguments : AuditArguments
   pub are : asked_in arguments ≡ watch.asked
   pub follower : Follower
-  pub followed : HasFollowed arguments (fresh watch.behind) follower watch.bytes watch.told
+  pub followed : HasFollowed arguments (start_in arguments watch) follower watch.bytes watch.told
 
 -- It was told of all of them, where the log ends there, with this first fault, and the last line that came early has this number,
 -- if one did.
 pub record HasToldAll (watch : Watch) (first : Option LogFault) (last_early : Option ℕ) : Type 0 where
   pub arguments : AuditArguments
   pub are : asked_in arguments ≡ watch.asked
-  pub followed : IsFollowed arguments (fresh watch.behind) true watch.bytes watch.told first last_early
+  pub followed : IsFollowed arguments (start_in arguments watch) true watch.bytes watch.told first last_early
 
 -- A fault was told among that.
 pub record HasToldFault (watch : Watch) : Type 0 where
@@ -88,14 +114,73 @@ pub record HasToldFault (watch : Watch) : Type 0 where
 pub record HasTakenAll (watch : Watch) : Type 0 where
   pub arguments : AuditArguments
   pub are : asked_in arguments ≡ watch.asked
-  pub taken : refused_in arguments watch.bytes ≡ None
+  pub taken : refused_in arguments watch ≡ None
 
 -- Lines were left out, the last of them for this, or there was none.
 pub record HasLeftOut (watch : Watch) (error : ReadError) : Type 0 where
   pub arguments : AuditArguments
   pub are : asked_in arguments ≡ watch.asked
-  pub refused : refused_in arguments watch.bytes ≡ Some error
+  pub refused : refused_in arguments watch ≡ Some error
 
 -- The last line that came early, as C is told of it where not all was judged.
 abbrev pub unjudged_at : ℕ → FdbRefused
 unjudged_at number = record { line = number; member = 0 }
+
+-- ---- what it keeps, and how much has come
+
+-- A text keeps the lines that may yet come to matter, of these bytes of which that was told.
+pub record IsKeptOf (asked : Asked) (behind : ℕ) (from : Option (List ℕ)) (bytes told kept : List ℕ) : Type 0 where
+  pub arguments : AuditArguments
+  pub are : asked_in arguments ≡ asked
+  pub follower : Follower
+  pub followed : HasFollowed arguments (started arguments behind from) follower bytes told
+  pub keeps : Keeps (option_map string_bytes arguments.key) (line_names follower.reader) (started arguments behind from).numbers
+      follower.taking followed.read kept
+
+abbrev pub IsKept : Watch → List ℕ → Type 0
+IsKept watch kept = IsKeptOf watch.asked watch.behind watch.from watch.bytes watch.told kept
+
+-- how much had come, of what C is told
+abbrev pub counted_in : FdbWatchCounted → Counted
+counted_in counts = record {
+  lines = counts.lines;
+  reads = counts.reads;
+  commits = counts.commits;
+  asks = counts.asks;
+  reports = counts.reports;
+  refused = counts.refused;
+  early = counts.early;
+  judged = counts.judged;
+  ahead = counts.ahead;
+}
+
+-- So much has come, and so far it was told: to the newest end that is believed, and up to where all was told.
+pub record HasCounted (watch : Watch) (counts : FdbWatchCounted) : Type 0 where
+  pub arguments : AuditArguments
+  pub are : asked_in arguments ≡ watch.asked
+  pub follower : Follower
+  pub followed : HasFollowed arguments (start_in arguments watch) follower watch.bytes watch.told
+  pub counted : IsCounted (start_in arguments watch) followed.read (counted_in counts)
+  pub came : counted_in counts ≡ counted_of follower.taking
+  pub kept : counts.kept ≡ follower.taking.kept
+  pub newest : counts.newest_end ≡ follower.taking.clocks.believed
+  pub settled : counts.settled_to ≡ follower.taking.watch.from
+
+-- ---- why a text of kept lines is refused
+
+-- why, if it is known what is wrong with a line; else it does not say as what it was kept
+abbrev pub status_of_why : Option Why → ℕ
+status_of_why None = FDB_NOT_KEPT
+status_of_why (Some why) = status_of why
+
+abbrev pub member_of_why : Option Why → ℕ
+member_of_why None = 0
+member_of_why (Some why) = member_of why
+
+-- A refusal, as C is told of it beside its status: the line of that text, counted from 1.
+abbrev pub kept_refused : KeptRefused → FdbRefused
+kept_refused it = record { line = it.line; member = member_of_why it.why }
+
+-- and where no line is at fault
+abbrev pub no_line : FdbRefused
+no_line = record { line = 0; member = 0 }

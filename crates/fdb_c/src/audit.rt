@@ -28,13 +28,13 @@ pub const FDB_ASK: u8 = 4;
 /// A version was reported as committed.
 pub const FDB_REPORT: u8 = 5;
 
-/// What another client knew was learnt.
+/// From here on the client knows what another client knew by the lines above.
 pub const FDB_LEARN: u8 = 6;
 
 /// When a call began.
 pub const FDB_BEGAN: u8 = 7;
 
-/// When it ended.
+/// When a call ended.
 pub const FDB_ENDED: u8 = 8;
 
 /// The member that has the key: it has the name that the caller gave.
@@ -65,7 +65,8 @@ pub struct FdbAuditOptions {
 #[repr(C)]
 #[derive(Clone, Copy)]
 pub struct FdbRefused {
-    /// The first line with which something is wrong, counted from 1; 0 where there is no line.
+    /// A line, counted from 1: of an audit the first with which something is wrong, of a watch the
+    /// last, or with `FDB_UNJUDGED` the last that came early. It is 0 where there is no line.
     pub line: u64,
     /// The member that is bad, or 0.
     pub member: u8,

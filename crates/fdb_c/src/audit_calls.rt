@@ -20,15 +20,15 @@ use std::collections::BTreeSet;
 #[repr(C)]
 #[derive(Clone, Copy)]
 pub struct FdbCall {
-    /// The version; without a meaning where a client has learnt.
+    /// The version; `FDB_LEARN` does not use it.
     pub version: u64,
-    /// When the call began, where `has_times` holds.
+    /// When the call began, in any one unit, where `has_times` holds.
     pub began: u64,
-    /// When it ended, where `has_ended` holds too.
+    /// When the call ended, in the unit of `began`, where `has_times` and `has_ended` hold.
     pub ended: u64,
     /// Whose call it was, where `has_client` holds.
     pub client: u32,
-    /// From whom the client has learnt, where it has: a client that a call above has.
+    /// With `FDB_LEARN`, the client from whom this one has learnt: it has a call above.
     pub teller: u32,
     /// `FDB_READ`, `FDB_COMMIT`, `FDB_ASK`, `FDB_REPORT` or `FDB_LEARN`.
     pub kind: u8,

@@ -9,7 +9,7 @@ use fdb_lines::{Fault, Finding, Late, Means, Reason, Witness};
 /// A read below what its caller knew.
 pub const FDB_FAULT_ORDER: u8 = 1;
 
-/// A read of a version that is not there.
+/// A read of a version that nobody can have reported while it was new.
 pub const FDB_FAULT_WRONG: u8 = 2;
 
 /// A version was drawn that is not above all that its caller knew.
@@ -21,7 +21,7 @@ pub const FDB_FAULT_TWICE: u8 = 4;
 /// A report of a version that others drew, or that nobody can have drawn.
 pub const FDB_FAULT_STRAY: u8 = 5;
 
-/// A version was known.
+/// The caller knew a version that the one it got is below, or, where it drew one, not above.
 pub const FDB_REASON_KNOWN: u8 = 1;
 
 /// No line reports the version.
@@ -36,16 +36,17 @@ pub const FDB_REASON_DRAWN: u8 = 4;
 /// No line drew the version.
 pub const FDB_REASON_UNDRAWN: u8 = 5;
 
-/// All began with the version.
+/// The version was known since all began with it, and by no line.
 pub const FDB_MEANS_START: u8 = 1;
 
-/// The line had ended by more than the margin before.
+/// The version was known by a line that had ended, by more than the margin, before the call began
+/// that knew it.
 pub const FDB_MEANS_ENDED: u8 = 2;
 
-/// The line is an earlier one of the same client.
+/// The version was known by an earlier line of the client that knew it.
 pub const FDB_MEANS_OWN: u8 = 3;
 
-/// The client had learnt of the line.
+/// The version was known by a line of which the client that knew it had learnt.
 pub const FDB_MEANS_LEARNT: u8 = 4;
 
 /// A fault, and why it stands. Lines are counted from 0; what has no meaning is 0.
@@ -54,7 +55,7 @@ pub const FDB_MEANS_LEARNT: u8 = 4;
 pub struct FdbFault {
     /// The version that was known.
     pub known: u64,
-    /// By how much the call was late, where `has_late` holds.
+    /// By how much the call was late, in the unit of the log's times, where `has_late` holds.
     pub late: u64,
     /// The line at which it stands.
     pub line: u32,
@@ -62,7 +63,7 @@ pub struct FdbFault {
     pub other: u32,
     /// The line that let a version be known.
     pub by: u32,
-    /// The line by which the client had learnt of that one.
+    /// The line by which the client had learnt of the line `by`.
     pub learnt: u32,
     /// The line that outdates the call and ended first, where `has_late` holds.
     pub first: u32,
@@ -72,7 +73,8 @@ pub struct FdbFault {
     pub reason: u8,
     /// How the version was known, `FDB_MEANS_START` to `FDB_MEANS_LEARNT`.
     pub means: u8,
-    /// Whether a line of another call outdates it.
+    /// Whether `late` and `first` are told: a line that outdates the call has a known end, and the
+    /// first such line to end is not the call itself.
     pub has_late: bool,
 }
 

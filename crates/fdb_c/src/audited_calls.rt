@@ -67,7 +67,8 @@ pub extern "C" fn fdb_audit_new(
     }
 }
 
-/// Reads on. Where the log or memory is refused, the audit is over.
+/// Takes the next bytes of the log, cut anywhere. Where the log or memory is refused, the audit is
+/// over.
 #[unsafe(no_mangle)]
 pub extern "C" fn fdb_audit_push(
     alloc: Global,
@@ -96,7 +97,8 @@ pub extern "C" fn fdb_audit_push(
     status
 }
 
-/// Finds what there is, where the log ends here: the audit is then over, and has a text and faults.
+/// Audits the log, which ends here. The audit is then over; with `FDB_OK` and `FDB_FAULT` it has a
+/// text and faults.
 #[unsafe(no_mangle)]
 pub extern "C" fn fdb_audit_end(alloc: Global, audit: &mut FdbAudit, refused: &mut FdbRefused) -> u8
     requires { IsSome audit.old.audit }

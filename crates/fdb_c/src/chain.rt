@@ -43,17 +43,17 @@ pub struct FdbAnswer {
     pub num: u64,
     /// What the request that drew the version said is processed.
     pub processed: u64,
-    /// The version before.
+    /// The version before `version` in the chain.
     pub prev: u64,
     /// The commit version.
     pub version: u64,
-    /// The moment of the request that drew it, in microseconds.
+    /// The moment of the request that drew the version, in microseconds.
     pub at: u64,
-    /// The commit proxy that it was issued to.
+    /// The commit proxy that the version was issued to.
     pub proxy: u32,
     /// `FDB_OK`, or the number of the refusal.
     pub status: u8,
-    /// Whether this request drew it.
+    /// Whether this request drew the version; false where a kept answer came again.
     pub fresh: bool,
 }
 

@@ -34,6 +34,7 @@ mod status;
 mod story;
 mod version;
 mod watch_calls;
+mod watch_counts;
 mod watch_handle;
 mod watch_options;
 mod watched;

@@ -21,9 +21,10 @@ pub const FDB_OP_POP: u8 = 2;
 #[repr(C)]
 #[derive(Clone, Copy)]
 pub struct FdbQueueConfig {
-    /// The rate that holds default and batch requests.
+    /// The rate that holds back default and batch requests: 1 to 100,000.
     pub normal: u64,
-    /// The rate that holds batch requests besides.
+    /// The rate that holds back batch requests too: 0 to 100,000. With 0 no batch request is let
+    /// in.
     pub batch: u64,
     /// The most requests that wait.
     pub room: u64,
@@ -61,7 +62,7 @@ pub struct FdbRequest {
 pub struct FdbOutcome {
     /// The budget of the normal rate, in parts of a transaction: 2,000,000 are one.
     pub normal: u64,
-    /// The budget of the batch rate.
+    /// The budget of the batch rate, in parts of a transaction: 2,000,000 are one.
     pub batch: u64,
     /// How many system requests wait.
     pub system_waits: u64,
@@ -73,7 +74,7 @@ pub struct FdbOutcome {
     pub started: u64,
     /// The request that was pushed out or taken out; where there is none, it is 0.
     pub out: FdbRequest,
-    /// Whether there is one.
+    /// Whether there is a request in `out`.
     pub has_out: bool,
     /// `FDB_OK`, or the number of the refusal.
     pub status: u8,

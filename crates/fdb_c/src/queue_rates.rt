@@ -19,7 +19,8 @@ use std::alloc::Global;
 pub struct FdbTurnedAway {
     /// The request.
     pub request: FdbRequest,
-    /// What a new queue of these rates would refuse it for.
+    /// Why: `FDB_BAD_COUNT` or `FDB_BATCH_THROTTLED`, as a new queue of the new rates would refuse
+    /// it.
     pub cause: u8,
 }
 

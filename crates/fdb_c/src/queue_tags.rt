@@ -24,14 +24,15 @@ use std::alloc::{AllocError, Global};
 pub struct FdbLimit {
     /// Transactions per second.
     pub rate: u64,
-    /// The moment from which on it holds no longer, in microseconds.
+    /// The moment from which on the throttle holds no longer, in microseconds.
     pub expires: u64,
-    /// Whether there is one.
+    /// Whether there is such a throttle.
     pub holds: bool,
 }
 
-/// Tells how many windows of `elapsed` microseconds start nothing before one starts something, with
-/// no offer between them, where the head of the row waits for its own rate alone.
+/// Answers whether the head of the row waits for its own rate alone. Then `windows` is how many
+/// windows of `elapsed` microseconds start nothing before one starts something, with no offer and
+/// no new rates between them; else `windows` is as it was.
 #[unsafe(no_mangle)]
 pub extern "C" fn fdb_queue_waits(
     alloc: Global,

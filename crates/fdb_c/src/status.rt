@@ -65,7 +65,7 @@ pub const FDB_NOT_JSON: u8 = 35;
 /// A line has none of the members that name a call, or a call is of no kind.
 pub const FDB_NO_CALL: u8 = 36;
 
-/// A line has more than one of them.
+/// A line has more than one of the members that name a call.
 pub const FDB_TWO_CALLS: u8 = 37;
 
 /// Some lines have times, and some have none.
@@ -80,8 +80,12 @@ pub const FDB_EMPTY: u8 = 40;
 /// The audit or the watch is over: its log has ended or was refused, or memory was.
 pub const FDB_OVER: u8 = 41;
 
-/// No fault was told of a log that was watched, but lines came early: not all of it was judged.
+/// No fault was told of a log that was watched, but lines came that had begun before what was
+/// settled by then: not all of it was judged.
 pub const FDB_UNJUDGED: u8 = 42;
+
+/// A text is not one of lines that were kept by these arguments.
+pub const FDB_NOT_KEPT: u8 = 43;
 
 /// The status of what was written, if there was room for it.
 pub(crate) fn status_of_writing(is_written: bool) -> u8

@@ -1,13 +1,15 @@
 //! The watch of a log that grows, by its handle.
 
 ghost use Rattle.std.specs.Prelude.{◌≡◌, ◌≢◌, ◌↔◌, ◌⊎◌, ℕ, IfOk, IfSome, IsNone, IsSome, None};
-ghost use Rattle.std.specs.Prelude.{Option, Some, false, true};
+ghost use Rattle.std.specs.Prelude.{List, Option, Some, false, true};
 ghost use Rattle.core.specs.Str.{IsUtf8};
 ghost use Rattle.fdb_log_reader.specs.declared.error.ReadError.{ReadError};
 ghost use Rattle.fdb_c.specs.Audit.{HasNoRoom, IsRefusal, IsWritten, asked_with, refused_of};
 ghost use Rattle.fdb_c.specs.Audit.{status_of};
-ghost use Rattle.fdb_c.specs.Watch.{HasLeftOut, HasTakenAll, HasTold, HasToldAll, IsTold};
-ghost use Rattle.fdb_c.specs.Watch.{HasToldFault, new_watch, opts_in, over, unjudged_at};
+ghost use Rattle.fdb_audit.specs.declared.refused.KeptRefused.{KeptRefused};
+ghost use Rattle.fdb_c.specs.Watch.{HasCounted, HasLeftOut, HasTakenAll, HasTold, HasToldAll};
+ghost use Rattle.fdb_c.specs.Watch.{HasToldFault, IsKept, IsTold, kept_refused, new_watch};
+ghost use Rattle.fdb_c.specs.Watch.{no_line, opts_in, over, restored, status_of_why, unjudged_at};
 ghost use Rattle.fdb_c.specs.Watch.{wanted_in, with_bytes};
 
 use crate::asked::texts_of;
@@ -16,12 +18,14 @@ use crate::audit_text::write_text;
 use crate::held::Held;
 use crate::parts::boxed;
 use crate::status::{
-    FDB_BAD_MEMBER, FDB_FAULT, FDB_MEMORY, FDB_OK, FDB_OVER, FDB_ROOM, FDB_UNJUDGED,
+    FDB_BAD_MEMBER, FDB_FAULT, FDB_MEMORY, FDB_NOT_KEPT, FDB_OK, FDB_OVER, FDB_ROOM, FDB_UNJUDGED,
     status_of_writing,
 };
+use crate::watch_counts::FdbWatchCounted;
 use crate::watch_handle::FdbWatch;
 use crate::watch_options::FdbWatchOptions;
-use crate::watched::Watched;
+use crate::watched::{Watched, refuse_kept};
+use fdb_audit::KeptRefused;
 use std::alloc::{AllocError, Global};
 
 /// A watch in a box of its own.
@@ -69,7 +73,68 @@ pub extern "C" fn fdb_watch_new(
     }
 }
 
-/// Reads on. Where memory is refused, the watch is over.
+/// A watch in a box of its own that goes on by a text of kept lines, or why that is refused.
+fn reopened(
+    alloc: Global,
+    options: FdbWatchOptions,
+    key: &str,
+    shown: &str,
+    text: &[u8],
+) -> Result<Result<Box<Watched>, KeptRefused>, AllocError>
+    ensures made { IfOk result (λ it. IfOk it (λ made. made.value ≡ restored
+        (asked_with (opts_in options) (wanted_in options) key.now shown.now)
+        options.behind text.now)) }
+    ensures told { IfOk result (λ it. IfOk it (λ made. HasTold made.value)) }
+{
+    match Watched::restore(alloc, options, key, shown, text)? {
+        Ok(made) => {
+            let made = boxed(alloc, made)?;
+            Ok(Ok(made))
+        }
+        Err(refused) => Ok(Err(refused)),
+    }
+}
+
+/// Opens a watch, as `fdb_watch_new` does, that goes on by a text of lines that were kept by the same
+/// arguments. What is wrong with the text is told in `refused`.
+#[unsafe(no_mangle)]
+pub extern "C" fn fdb_watch_restore(
+    alloc: Global,
+    options: &FdbWatchOptions,
+    key: &[u8],
+    shown: &[u8],
+    kept: &[u8],
+    watch: &mut FdbWatch,
+    refused: &mut FdbRefused,
+) -> u8
+    requires { IsNone watch.old.watch }
+    ensures ok { (result ≡ FDB_OK) → watch.new.watch ≡ Some (restored
+        (asked_with (opts_in options.now) (wanted_in options.now) key.now shown.now)
+        options.now.behind kept.now) }
+    ensures told { (result ≡ FDB_OK) → IfSome watch.new.watch HasTold }
+    ensures refused { (result ≢ FDB_OK) → watch.new.watch ≡ None }
+    ensures names { ¬ (IsUtf8 key.now × IsUtf8 shown.now)
+        → (result ≡ FDB_BAD_MEMBER) × (refused.new ≡ no_line) }
+    ensures why { IsRefusal result → IsUtf8 key.now × IsUtf8 shown.now → (it : KeptRefused)
+        × (result ≡ status_of_why it.why) × (refused.new ≡ kept_refused it) }
+    ensures untold { ¬ IsRefusal result → refused.new ≡ refused.old }
+    ensures statuses { (result ≡ FDB_OK) ⊎ (result ≡ FDB_MEMORY) ⊎ IsRefusal result }
+{
+    let Some((key, shown)) = texts_of(key, shown) else {
+        *refused = FdbRefused { line: 0, member: 0 };
+        return FDB_BAD_MEMBER;
+    };
+    match reopened(alloc, *options, key, shown, kept) {
+        Ok(Ok(made)) => {
+            watch.swap(Held::new(made)).gone();
+            FDB_OK
+        }
+        Ok(Err(it)) => refuse_kept(it, refused),
+        Err(_) => FDB_MEMORY,
+    }
+}
+
+/// Takes the next bytes of the log, cut anywhere. Where memory is refused, the watch is over.
 #[unsafe(no_mangle)]
 pub extern "C" fn fdb_watch_push(alloc: Global, watch: &mut FdbWatch, bytes: &[u8]) -> u8
     requires { IsSome watch.old.watch }
@@ -186,6 +251,62 @@ pub extern "C" fn fdb_watch_warnings(
     let is_written = write_text(core.warnings(), text, size);
     watch.swap(Held::new(core)).gone();
     status_of_writing(is_written)
+}
+
+/// Writes the text of the lines that are kept, by which another watch goes on, to the start of `text`,
+/// and to `size` how long it is, also where there is no room for it. It is then held, until it is
+/// written or more comes or is told.
+#[unsafe(no_mangle)]
+pub extern "C" fn fdb_watch_keep(
+    alloc: Global,
+    watch: &mut FdbWatch,
+    text: &mut [u8],
+    size: &mut u64,
+) -> u8
+    requires { IsSome watch.old.watch }
+    ensures ok { (result ≡ FDB_OK) → IfSome watch.old.watch (λ it. (kept : List ℕ)
+        × IsKept it kept × IsWritten kept text.old text.new size.new) }
+    ensures room { (result ≡ FDB_ROOM) → IfSome watch.old.watch (λ it. (kept : List ℕ)
+        × IsKept it kept × HasNoRoom kept text.old text.new size.new) }
+    ensures over { (result ≡ FDB_OVER)
+        ↔ IfSome watch.old.watch (λ before. before.is_over ≡ true) }
+    ensures untold { (result ≢ FDB_OK) → (result ≢ FDB_ROOM)
+        → (text.new ≡ text.old) × (size.new ≡ size.old) }
+    ensures statuses { (result ≡ FDB_OK) ⊎ (result ≡ FDB_ROOM) ⊎ (result ≡ FDB_NOT_KEPT)
+        ⊎ (result ≡ FDB_OVER) ⊎ (result ≡ FDB_MEMORY) }
+    ensures kept { watch.new.watch ≡ watch.old.watch }
+{
+    let mut core = watch.swap(Held::none()).into_box(alloc).unwrap();
+    let status = core.keep(text, size);
+    watch.swap(Held::new(core)).gone();
+    status
+}
+
+/// Tells how much has come, and how far it was told.
+#[unsafe(no_mangle)]
+pub extern "C" fn fdb_watch_counts(
+    alloc: Global,
+    watch: &mut FdbWatch,
+    counts: &mut FdbWatchCounted,
+) -> u8
+    requires { IsSome watch.old.watch }
+    ensures ok { (result ≡ FDB_OK) → IfSome watch.old.watch (λ it. HasCounted it counts.new) }
+    ensures over { (result ≡ FDB_OVER)
+        ↔ IfSome watch.old.watch (λ before. before.is_over ≡ true) }
+    ensures untold { (result ≢ FDB_OK) → counts.new ≡ counts.old }
+    ensures statuses { (result ≡ FDB_OK) ⊎ (result ≡ FDB_OVER) }
+    ensures kept { watch.new.watch ≡ watch.old.watch }
+{
+    let core = watch.swap(Held::none()).into_box(alloc).unwrap();
+    let counted = core.counts();
+    watch.swap(Held::new(core)).gone();
+    match counted {
+        Some(it) => {
+            *counts = it;
+            FDB_OK
+        }
+        None => FDB_OVER,
+    }
 }
 
 /// Frees a watch, if the handle has one. The handle is then none.

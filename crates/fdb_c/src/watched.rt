@@ -1,19 +1,26 @@
 //! A log that is watched as it grows, and what was said of it last.
 
-ghost use Rattle.std.specs.Prelude.{◌≡◌, ◌≢◌, ◌++◌, ◌↔◌, ◌⊎◌, ℕ, IfOk, None, Option, Some};
-ghost use Rattle.std.specs.Prelude.{false, true};
+ghost use Rattle.std.specs.Prelude.{◌≡◌, ◌≢◌, ◌++◌, ◌↔◌, ◌⊎◌, ℕ, Err, IfErr, IfOk, List};
+ghost use Rattle.std.specs.Prelude.{MatchOption, None, Option, Some, false, true};
 ghost use Rattle.fdb_log_reader.specs.declared.error.ReadError.{ReadError};
 ghost use Rattle.fdb_audit.specs.declared.fault.LogFault.{LogFault};
-ghost use Rattle.fdb_c.specs.Audit.{IsRefusal, asked_with, refused_of, status_of};
-ghost use Rattle.fdb_c.specs.Watch.{HasLeftOut, HasTakenAll, HasTold, HasToldAll, IsTold};
-ghost use Rattle.fdb_c.specs.Watch.{HasToldFault, new_watch, opts_in, over, unjudged_at};
+ghost use Rattle.fdb_c.specs.Audit.{HasNoRoom, IsRefusal, IsWritten, asked_with, refused_of};
+ghost use Rattle.fdb_c.specs.Audit.{status_of};
+ghost use Rattle.fdb_c.specs.Watch.{HasCounted, HasLeftOut, HasTakenAll, HasTold, HasToldAll};
+ghost use Rattle.fdb_c.specs.Watch.{HasToldFault, IsKept, IsTold, kept_refused, new_watch};
+ghost use Rattle.fdb_c.specs.Watch.{opts_in, over, restored, status_of_why, unjudged_at};
 ghost use Rattle.fdb_c.specs.Watch.{wanted_in, with_bytes};
 
 use crate::audit::{FdbRefused, refuse};
-use crate::status::{FDB_FAULT, FDB_MEMORY, FDB_OK, FDB_OVER, FDB_UNJUDGED};
+use crate::audit_text::write_text;
+use crate::status::{
+    FDB_FAULT, FDB_MEMORY, FDB_NOT_KEPT, FDB_OK, FDB_OVER, FDB_ROOM, FDB_UNJUDGED,
+    status_of_writing,
+};
 use crate::story::Story;
+use crate::watch_counts::{FdbWatchCounted, counted_of};
 use crate::watch_options::{FdbWatchOptions, asked_of};
-use fdb_audit::{AuditArguments, Follower, LogFault, Said};
+use fdb_audit::{AuditArguments, Follower, KeptRefused, LogFault, Said};
 use fdb_log_reader::ReadError;
 use std::alloc::{AllocError, Global};
 use std::marker::Model;
@@ -31,15 +38,17 @@ pub struct Watched {
     text: String,
     /// What was warned of by then: lines that were refused, or came early.
     warnings: String,
+    /// The text of the lines that are kept, where there was no room for it and nothing has come or
+    /// been told since.
+    kept: Option<String>,
     story: Story,
 }
 
 impl Model for Watched {
     ghost use Rattle.std.specs.Prelude.{IfSome, is_none, string_bytes};
     ghost use Rattle.fdb_c.specs.Audit.{asked_in};
-    ghost use Rattle.fdb_audit.specs.Following.{fresh};
     ghost use Rattle.fdb_audit.specs.Watched.{HasFollowed};
-    ghost use Rattle.fdb_c.specs.Watch.{Watch};
+    ghost use Rattle.fdb_c.specs.Watch.{IsKeptOf, Watch, started};
 
     ghost Value = { Watch };
 
@@ -47,6 +56,7 @@ impl Model for Watched {
         record {
           asked = asked_in it.asked;
           behind = it.behind;
+          from = it.story.from;
           bytes = it.story.bytes;
           told = it.story.told;
           text = string_bytes it.text;
@@ -55,8 +65,10 @@ impl Model for Watched {
         } };
 
     ghost invariant = { λ it. IfSome it.follower
-        (λ follower. HasFollowed it.asked (fresh it.behind) follower
-        it.story.bytes it.story.told) };
+        (λ follower. HasFollowed it.asked (started it.asked it.behind it.story.from) follower
+        it.story.bytes it.story.told)
+        × IfSome it.kept (λ text. IsKeptOf (asked_in it.asked) it.behind it.story.from
+        it.story.bytes it.story.told (string_bytes text)) };
 }
 
 impl Watched {
@@ -81,8 +93,38 @@ impl Watched {
             follower: Some(follower),
             text: String::new(alloc),
             warnings: String::new(alloc),
+            kept: None,
             story: Story::new(),
         })
+    }
+
+    /// A watch that goes on by a text of kept lines, or why that is refused.
+    pub(crate) fn restore(
+        alloc: Global,
+        options: FdbWatchOptions,
+        key: &str,
+        shown: &str,
+        text: &[u8],
+    ) -> Result<Result<Self, KeptRefused>, AllocError>
+        ensures made { IfOk result (λ it. IfOk it (λ watched. watched ≡ restored
+            (asked_with (opts_in options) (wanted_in options) key.now shown.now)
+            options.behind text.now)) }
+        ensures told { IfOk result (λ it. IfOk it HasTold) }
+    {
+        let asked = asked_of(alloc, options, key, shown)?;
+        let follower = match Follower::restore(alloc, &asked, options.behind, text)? {
+            Ok(follower) => follower,
+            Err(refused) => return Ok(Err(refused)),
+        };
+        Ok(Ok(Watched {
+            asked,
+            behind: options.behind,
+            follower: Some(follower),
+            text: String::new(alloc),
+            warnings: String::new(alloc),
+            kept: None,
+            story: Story::of_kept(&text),
+        }))
     }
 
     /// What was said last.
@@ -97,6 +139,65 @@ impl Watched {
         ensures { result.now ≡ self.now.warnings }
     {
         self.warnings.as_str()
+    }
+
+    /// How much has come, and how far it was told, unless the watch is over.
+    pub(crate) fn counts(&self) -> Option<FdbWatchCounted>
+        ensures { MatchOption result (self.now.is_over ≡ true)
+            (λ counts. (self.now.is_over ≡ false) × HasCounted self.now counts) }
+    {
+        match &self.follower {
+            Some(follower) => Some(counted_of(follower.progress())),
+            None => None,
+        }
+    }
+
+    /// Writes the text of the lines that are kept to the start of `text`, and its size. Where there is
+    /// no room for it, it is held for the next time.
+    pub(crate) fn keep(&mut self, text: &mut [u8], size: &mut u64) -> u8
+        ensures ok { (result ≡ FDB_OK) → (kept : List ℕ) × IsKept self.old kept
+            × IsWritten kept text.old text.new size.new }
+        ensures room { (result ≡ FDB_ROOM) → (kept : List ℕ) × IsKept self.old kept
+            × HasNoRoom kept text.old text.new size.new }
+        ensures over { (result ≡ FDB_OVER) ↔ (self.old.is_over ≡ true) }
+        ensures untold { (result ≢ FDB_OK) → (result ≢ FDB_ROOM)
+            → (text.new ≡ text.old) × (size.new ≡ size.old) }
+        ensures statuses { (result ≡ FDB_OK) ⊎ (result ≡ FDB_ROOM) ⊎ (result ≡ FDB_NOT_KEPT)
+            ⊎ (result ≡ FDB_OVER) ⊎ (result ≡ FDB_MEMORY) }
+        ensures kept { self.new ≡ self.old }
+    {
+        let kept = match self.take_kept() {
+            Ok(kept) => kept,
+            Err(status) => return status,
+        };
+        let is_written = write_text(kept.as_str(), text, size);
+        if !is_written {
+            self.kept = Some(kept);
+        }
+        status_of_writing(is_written)
+    }
+
+    /// The text of the lines that are kept: what is held, or else made anew.
+    fn take_kept(&mut self) -> Result<String, u8>
+        ensures kept { IfOk result (λ text. IsKept self.old (string_bytes text)) }
+        ensures over { (result ≡ Err FDB_OVER) ↔ (self.old.is_over ≡ true) }
+        ensures statuses { IfErr result (λ status. (status ≡ FDB_NOT_KEPT) ⊎ (status ≡ FDB_OVER)
+            ⊎ (status ≡ FDB_MEMORY)) }
+        ensures same { self.new ≡ self.old }
+    {
+        let Some(follower) = &self.follower else {
+            return Err(FDB_OVER);
+        };
+        if let Some(kept) = mem::replace(&mut self.kept, None) {
+            return Ok(kept);
+        }
+        let Ok(made) = follower.kept("") else {
+            return Err(FDB_MEMORY);
+        };
+        let Ok(text) = made else {
+            return Err(FDB_NOT_KEPT);
+        };
+        Ok(text)
     }
 
     /// Reads on. Where memory is refused, the watch is over.
@@ -114,6 +215,7 @@ impl Watched {
             Ok(()) => {
                 self.story = Story::with_bytes(&self.story, &bytes);
                 self.follower = Some(follower);
+                let_go(&mut self.kept);
                 FDB_OK
             }
             Err(_) => FDB_MEMORY,
@@ -137,6 +239,7 @@ impl Watched {
                 self.follower = Some(follower);
                 self.text = said.text;
                 self.warnings = said.warnings;
+                let_go(&mut self.kept);
                 FDB_OK
             }
             Err(_) => FDB_MEMORY,
@@ -172,11 +275,19 @@ impl Watched {
                 self.story = Story::with_text(&self.story, &end.said.text);
                 self.text = end.said.text;
                 self.warnings = end.said.warnings;
+                let_go(&mut self.kept);
                 status_at_end(end.found, end.refused, end.last_early, refused)
             }
             Err(_) => FDB_MEMORY,
         }
     }
+}
+
+/// Lets go of a text that was held, if one was.
+fn let_go(held: &mut Option<String>)
+    ensures { held.new ≡ None }
+{
+    *held = None;
 }
 
 /// The verdict of a log that was watched, or why the last line was refused that was, or that lines
@@ -211,5 +322,23 @@ fn status_at_end(
             }
             None => FDB_OK,
         },
+    }
+}
+
+/// Refuses a text of kept lines by the status, and tells the line.
+pub(crate) fn refuse_kept(it: KeptRefused, refused: &mut FdbRefused) -> u8
+    ensures status { result ≡ status_of_why it.why }
+    ensures told { ((result ≡ FDB_MEMORY) × (refused.new ≡ refused.old))
+        ⊎ (IsRefusal result × (refused.new ≡ kept_refused it)) }
+{
+    match it.why {
+        Some(why) => refuse(ReadError { line: it.line, why }, refused),
+        None => {
+            *refused = FdbRefused {
+                line: it.line,
+                member: 0,
+            };
+            FDB_NOT_KEPT
+        }
     }
 }

@@ -94,12 +94,12 @@ impl RecentChain {
         })
     }
 
-    /// Answers a request for a commit version (`getVersion` of masterserver). A request with
-    /// its proxy's next number draws the next version; one whose answer is kept gets it again.
+    /// Answers a request for a commit version (`getVersion` of masterserver). A request with its
+    /// proxy's next number draws the next version; one whose answer is kept gets it again.
     ///
-    /// It is refused as `UnknownProxy`, `Early`, `Forgotten` or `Exhausted`, the first
-    /// of these that stands. A fresh request alone takes memory. After a refusal the
-    /// chain is as it was. It takes constant time, on the average over all requests.
+    /// It is refused as `UnknownProxy`, `Early`, `Forgotten` or `Exhausted`, the first of these
+    /// that stands, else for memory, which a fresh request alone takes. After a refusal the chain
+    /// is as it was. It takes constant time, on the average over all requests.
     #[inline(always)]
     pub fn ask(&mut self, ask: Ask) -> Result<Issued, ChainError>
         ensures answer { (chain : Chain) → IsStateOf self.old chain
@@ -133,8 +133,8 @@ impl RecentChain {
         next_ordinal(self.last)
     }
 
-    /// Shows that what is kept is the state of some chain of commit versions, of the epoch that it
-    /// was opened for.
+    /// Does nothing when it runs. Its clauses say that what is kept is the state of some chain of
+    /// commit versions, of the epoch that the chain was opened for.
     pub fn stands_for(&self)
         ensures chain { (chain : Chain) × IsStateOf self.now chain
             × IsOf self.now.epoch_end self.now.recovery chain }

@@ -2,18 +2,10 @@
 //! something is not as it should be, each answers a failure, which the test returns.
 #![tactic(auto)]
 
-mod case_error;
-mod compare;
-mod holding;
+mod case;
+mod gates;
 mod player;
-mod table;
-mod table_line;
-mod waiting;
 
-pub use case_error::CaseError;
-pub use compare::{holds, same, same_text, says};
-pub use holding::HoldsFirst;
-pub use player::{Player, bears, lines_of, plays, plays_all, plays_cases};
-pub use table::{Case, cases};
-pub use table_line::TableLine;
-pub use waiting::{comes, stays_away};
+pub use case::{Case, CaseError, cases, holds, same, same_text, says};
+pub use gates::{HoldsFirst, comes, stays_away};
+pub use player::{Player, TableLine, bears, lines_of, plays, plays_all, plays_cases};

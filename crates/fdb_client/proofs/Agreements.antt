@@ -17,18 +17,18 @@ use Rattle.fdb_history.specs.declared.log.CallAnswer.{CallAnswer}
 use Rattle.fdb_history.specs.declared.log.CallAnswer.TheVariants.{Version, Acked, Answered, Told, Refused}
 use Rattle.fdb_history.specs.Strays.{issued_under, logged_as}
 use Rattle.fdb_history.specs.declared.chain.Issued.{Issued}
-use Rattle.fdb_history.specs.declared.grv.GrvOpts.{GrvOpts}
+use Rattle.fdb_history.specs.declared.log.GrvOpts.{GrvOpts}
 use Rattle.fdb_history.specs.declared.log.Input.{Input}
 use Rattle.fdb_history.specs.declared.log.Input.TheVariants as input
 use Rattle.fdb_history.specs.declared.log.Refusal.{Refusal}
 use Rattle.fdb_history.specs.declared.register.Record.{Record}
 use Rattle.fdb_live.specs.Seen.{IsChangedBy, last_record, own_positions}
-use Rattle.fdb_live.specs.declared.ack.Ack.{Ack}
-use Rattle.fdb_live.specs.declared.change.Change.{Change}
+use Rattle.fdb_live.specs.declared.live_record.Ack.{Ack}
+use Rattle.fdb_live.specs.declared.view.Change.{Change}
 use Rattle.fdb_client.specs.Account.{Account, Logs, sight}
 use Rattle.fdb_client.specs.Calls.{Asks, IsReadAnswer, IsReportAnswer, Reads, Reports, request_of}
 use Rattle.fdb_client.specs.declared.error.ClientError.{ClientError}
-use Rattle.fdb_client.specs.declared.read.ReadVersion.{ReadVersion}
+use Rattle.fdb_client.specs.declared.reply.ReadVersion.{ReadVersion}
 use Rattle.fdb_client.proofs.Calls.{position_of_added}
 use Rattle.fdb_client.proofs.Chains.{at_left, at_place, each-append}
 use Rattle.fdb_client.specs.Agreeing.{Agrees, AgreesAt, IsMade, changed_positions, record_at}

@@ -11,14 +11,14 @@ use Rattle.fdb_history.specs.Log.{answer_changes, answer_in, fresh_answers, posi
 use Rattle.fdb_history.specs.Strays.{is_justified, issued_under, logged_as}
 use Rattle.fdb_history.specs.declared.chain.Ask.{Ask}
 use Rattle.fdb_history.specs.declared.chain.Issued.{Issued}
-use Rattle.fdb_history.specs.declared.grv.GrvOpts.{GrvOpts}
+use Rattle.fdb_history.specs.declared.log.GrvOpts.{GrvOpts}
 use Rattle.fdb_history.specs.declared.log.Call.{Call}
 use Rattle.fdb_history.specs.declared.log.CallAnswer.{CallAnswer}
 use Rattle.fdb_history.specs.declared.log.CallAnswer.TheVariants.{Version, Acked, Answered, Told, Refused}
 use Rattle.fdb_history.specs.declared.log.Input.{Input}
 use Rattle.fdb_history.specs.declared.log.Refusal.{Refusal}
 use Rattle.fdb_live.specs.Seen.{last_record, own_positions}
-use Rattle.fdb_live.specs.declared.change.Change.{Change}
+use Rattle.fdb_live.specs.declared.view.Change.{Change}
 use Rattle.fdb_history.specs.declared.log.Input.TheVariants as input
 use Rattle.fdb_history.specs.declared.register.Record.{Record}
 use Rattle.fdb_history.specs.declared.register.TheConstants.{MAX_VERSION}
@@ -27,14 +27,14 @@ use Rattle.fdb_live.specs.Holding.{IsAsked, answers_to, own_answers, versions}
 use Rattle.fdb_live.specs.Seen.{Sight}
 use Rattle.fdb_client.proofs.Chains.{answers_to-append, prefix_trans, version_stays}
 use Rattle.fdb_client.specs.Account.{Account, Logs, drawn_in, sight}
-use Rattle.fdb_live.specs.declared.ack.Ack.{Ack}
+use Rattle.fdb_live.specs.declared.live_record.Ack.{Ack}
 use Rattle.fdb_client.specs.Agreeing.{Agrees, AgreesWithChain, AreJustified}
 use Rattle.fdb_client.specs.Calls.{Asks, IsReadAnswer, IsReportAnswer, Reads, Reports, request_of}
 use Rattle.fdb_client.specs.Returned.{AskReturns, error_of}
 use Rattle.fdb_client.proofs.Own.{own_answers_same}
 use Rattle.fdb_client.specs.declared.error.ClientError.{ClientError}
 use Rattle.fdb_client.specs.declared.error.ClientError.TheVariants.{Locked, Stranger, ProxyClosed, Chain, Queue, NotIssued, Live, Memory}
-use Rattle.fdb_client.specs.declared.read.ReadVersion.{ReadVersion}
+use Rattle.fdb_client.specs.declared.reply.ReadVersion.{ReadVersion}
 use Rattle.fdb_client.proofs.Agreements.{agrees_asked, agrees_quiet, agrees_read, agrees_reported}
 use Rattle.fdb_client.proofs.Calls.{fresh_of_added, position_of_added, versions_of_added}
 use Rattle.fdb_client.proofs.Justified.{justified_after, justified_read, justified_report, same_number}

@@ -12,7 +12,7 @@ use Rattle.fdb_history.specs.declared.log.ClientLog.{ClientLog}
 use Rattle.fdb_history.specs.declared.register.Record.{Record}
 use Rattle.fdb_history.specs.declared.chain.Issued.{Issued}
 use Rattle.fdb_live.specs.Gathering.{AreNumbered}
-use Rattle.fdb_live.specs.declared.change.Change.{Change}
+use Rattle.fdb_live.specs.declared.view.Change.{Change}
 
 -- a client's calls agree with its token, as those of one that began before any change
 abbrev pub MaySettle : ℕ → ℕ → Record → Account → Type 0

@@ -4,7 +4,7 @@ use Rattle.std.specs.Prelude.{nat_lt}
 use Rattle.std.proofs.lemmas.List.{append-nil, length-append, nil_from_length}
 use mathlib.Core.List.{IsPrefix}
 use Rattle.fdb_live.specs.Seen.{longer}
-use Rattle.fdb_live.specs.declared.change.Change.{Change}
+use Rattle.fdb_live.specs.declared.view.Change.{Change}
 
 -- what begins a list that is no longer is that list
 whole : (these those : List Change) → IsPrefix these those → length those ≤ length these → these ≡ those

@@ -4,14 +4,14 @@ use Rattle.fdb_client.specs.Account.{Account}
 use Rattle.fdb_client.specs.Calls.{IsReadOf, Reads}
 use Rattle.fdb_client.specs.Returned.{ReadReturns}
 use Rattle.fdb_client.specs.declared.error.ClientError.{ClientError}
-use Rattle.fdb_client.specs.declared.read.ReadVersion.{ReadVersion}
-use Rattle.fdb_history.specs.declared.grv.GrvOpts.{GrvOpts}
+use Rattle.fdb_client.specs.declared.reply.ReadVersion.{ReadVersion}
+use Rattle.fdb_history.specs.declared.log.GrvOpts.{GrvOpts}
 use Rattle.fdb_history.specs.Register.{version_for}
-use Rattle.fdb_history.specs.declared.grv.TagLimit.{TagLimit}
+use Rattle.fdb_history.specs.declared.log.TagLimit.{TagLimit}
 use Rattle.fdb_history.specs.declared.log.CallAnswer.TheVariants.{Version}
 use Rattle.fdb_history.specs.declared.register.Record.{Record}
 use Rattle.fdb_live.specs.Seen.{IsBounded, IsNotBehind, last_record}
-use Rattle.fdb_live.specs.declared.change.Change.{Change}
+use Rattle.fdb_live.specs.declared.view.Change.{Change}
 
 pub reads_alike : {start : Record} {logged opts : GrvOpts} {old before after : Account} {result : Result ReadVersion ClientError} → logged ≡ opts → old ≡ before → Reads start logged old after result → Reads start opts before after result
 reads_alike {start} {logged} {opts} {old} {before} {after} {result} same alike reads =

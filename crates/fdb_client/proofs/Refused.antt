@@ -9,7 +9,7 @@ use Rattle.fdb_client.specs.declared.error.ClientError.{ClientError}
 use Rattle.fdb_client.specs.declared.error.ClientError.TheVariants.{Memory}
 use Rattle.fdb_history.specs.Strays.{may_refuse}
 use Rattle.fdb_history.specs.declared.chain.Issued.{Issued}
-use Rattle.fdb_history.specs.declared.grv.GrvOpts.{GrvOpts}
+use Rattle.fdb_history.specs.declared.log.GrvOpts.{GrvOpts}
 use Rattle.fdb_history.specs.declared.log.Input.TheVariants as input
 use Rattle.fdb_history.specs.declared.log.Refusal.{Refusal}
 use Rattle.fdb_history.specs.declared.log.Refusal.TheVariants as refusal

@@ -15,7 +15,7 @@ use Rattle.fdb_history.specs.Laws.{HasMinimumWithin, HaveMinimaWithin}
 use Rattle.fdb_history.specs.Linear.{NeverGoesBack}
 use Rattle.fdb_history.specs.Log.{answer_changes, calls_of, position_after_calls}
 use Rattle.fdb_history.specs.Register.{after_report}
-use Rattle.fdb_history.specs.declared.auditing.changes.PlacedChange.{PlacedChange}
+use Rattle.fdb_history.specs.declared.auditing.registers.PlacedChange.{PlacedChange}
 use Rattle.fdb_history.specs.declared.chain.Issued.{Issued}
 use Rattle.fdb_history.specs.declared.log.Call.{Call}
 use Rattle.fdb_history.specs.declared.log.CallAnswer.{CallAnswer}
@@ -26,7 +26,7 @@ use Rattle.fdb_live.specs.Gathering.{AreNumbered}
 use Rattle.fdb_client.specs.Settling.{IsToldAll}
 use Rattle.fdb_live.specs.Holding.{own_answers}
 use Rattle.fdb_live.specs.Seen.{Sight, changed_by, last_record, own_among, own_positions}
-use Rattle.fdb_live.specs.declared.change.Change.{Change}
+use Rattle.fdb_live.specs.declared.view.Change.{Change}
 use Rattle.fdb_client.specs.Account.{Account}
 use Rattle.fdb_client.specs.Agreeing.{Agrees, AgreesAt, IsMade, changed_positions, record_at}
 use Rattle.fdb_client.specs.Settling.{AllAgree}

@@ -10,7 +10,7 @@ use Rattle.fdb_history.specs.declared.log.Input.{Input}
 use Rattle.fdb_history.specs.declared.log.Input.TheVariants.{Learn}
 use Rattle.fdb_live.specs.Holding.{own_answers}
 use Rattle.fdb_live.specs.Seen.{Sight, own_positions}
-use Rattle.fdb_live.specs.declared.change.Change.{Change}
+use Rattle.fdb_live.specs.declared.view.Change.{Change}
 
 -- A client: its number, the position that it began with, its calls in order, and what it has seen:
 -- the answers by which commit versions were drawn, and the changes of the live record.

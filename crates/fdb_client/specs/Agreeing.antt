@@ -17,7 +17,7 @@ use Rattle.fdb_history.specs.declared.log.CallAnswer.TheVariants.{Acked}
 use Rattle.fdb_history.specs.declared.register.Record.{Record}
 use Rattle.fdb_live.specs.Holding.{own_answers, versions}
 use Rattle.fdb_live.specs.Seen.{last_record, own_positions}
-use Rattle.fdb_live.specs.declared.change.Change.{Change}
+use Rattle.fdb_live.specs.declared.view.Change.{Change}
 use Rattle.fdb_client.specs.Account.{Account, sight}
 
 -- the live record at a position of a list of changes

@@ -9,7 +9,7 @@ use Rattle.fdb_history.specs.Register.{version_for}
 use Rattle.fdb_history.specs.Strays.{issued_under, logged_as, may_refuse}
 use Rattle.fdb_history.specs.declared.chain.Ask.{Ask}
 use Rattle.fdb_history.specs.declared.chain.Issued.{Issued}
-use Rattle.fdb_history.specs.declared.grv.GrvOpts.{GrvOpts}
+use Rattle.fdb_history.specs.declared.log.GrvOpts.{GrvOpts}
 use Rattle.fdb_history.specs.declared.log.CallAnswer.{CallAnswer}
 use Rattle.fdb_history.specs.declared.log.CallAnswer.TheVariants.{Version, Acked, Told, Refused}
 use Rattle.fdb_history.specs.declared.log.Input.TheVariants as input
@@ -19,12 +19,12 @@ use Rattle.fdb_history.specs.declared.register.Record.{Record}
 use Rattle.fdb_live.specs.Holding.{answers_to, own_answers}
 use Rattle.fdb_live.specs.Seen.{Sight}
 use Rattle.fdb_live.specs.Seen.{IsBounded, IsNotBehind, IsChangedBy, IsNotChangedBy, IsRecord, last_record, longer}
-use Rattle.fdb_live.specs.declared.ack.Ack.{Ack}
-use Rattle.fdb_live.specs.declared.change.Change.{Change}
+use Rattle.fdb_live.specs.declared.live_record.Ack.{Ack}
+use Rattle.fdb_live.specs.declared.view.Change.{Change}
 use Rattle.fdb_client.specs.Account.{Account, Logs, drawn_in, sight}
 use Rattle.fdb_client.specs.Returned.{ReadReturns, AskReturns, ReportReturns}
 use Rattle.fdb_client.specs.declared.error.ClientError.{ClientError}
-use Rattle.fdb_client.specs.declared.read.ReadVersion.{ReadVersion}
+use Rattle.fdb_client.specs.declared.reply.ReadVersion.{ReadVersion}
 
 -- A read gets the last record that the client has then seen, and is turned away exactly where that
 -- is locked and the read is not lock-aware. Else it was refused as a read may be.

@@ -5,14 +5,14 @@ use Rattle.fdb_chain.specs.declared.error.ChainError.{ChainError}
 use Rattle.fdb_chain.specs.declared.error.ChainError.TheVariants as chain
 use Rattle.fdb_history.specs.Register.{version_for}
 use Rattle.fdb_history.specs.declared.chain.Issued.{Issued}
-use Rattle.fdb_history.specs.declared.grv.GrvOpts.{GrvOpts}
+use Rattle.fdb_history.specs.declared.log.GrvOpts.{GrvOpts}
 use Rattle.fdb_history.specs.declared.log.CallAnswer.{CallAnswer}
 use Rattle.fdb_history.specs.declared.log.CallAnswer.TheVariants.{Version, Answered, Acked, Told}
 use Rattle.fdb_history.specs.declared.log.CallAnswer.TheVariants.{Refused}
 use Rattle.fdb_history.specs.declared.log.Refusal.{Refusal}
 use Rattle.fdb_history.specs.declared.log.Refusal.TheVariants as refusal
-use Rattle.fdb_live.specs.declared.ack.Ack.{Ack}
-use Rattle.fdb_live.specs.declared.error.LiveError.TheVariants as live
+use Rattle.fdb_live.specs.declared.live_record.Ack.{Ack}
+use Rattle.fdb_live.specs.declared.live_record.LiveError.TheVariants as live
 use Rattle.fdb_proxy.specs.declared.cause.Cause.{Cause}
 use Rattle.fdb_proxy.specs.declared.cause.Cause.TheVariants as cause
 use Rattle.fdb_proxy.specs.declared.error.ProxyError.{ProxyError}
@@ -22,7 +22,7 @@ use Rattle.fdb_client.specs.declared.error.ClientError.{ClientError}
 use Rattle.fdb_client.specs.declared.error.ClientError.TheVariants.{Locked, Stranger, ProxyClosed}
 use Rattle.fdb_client.specs.declared.error.ClientError.TheVariants.{Chain, Queue, NotIssued, Live}
 use Rattle.fdb_client.specs.declared.error.ClientError.TheVariants.{Memory}
-use Rattle.fdb_client.specs.declared.read.ReadVersion.{ReadVersion}
+use Rattle.fdb_client.specs.declared.reply.ReadVersion.{ReadVersion}
 
 -- the error for a refusal that was logged
 abbrev pub error_of : Refusal → ClientError

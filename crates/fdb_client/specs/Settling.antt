@@ -6,7 +6,7 @@ use Rattle.fdb_history.specs.declared.register.Record.{Record}
 use mathlib.Core.List.{IsPrefix}
 use Rattle.fdb_live.specs.Holding.{own_answers}
 use Rattle.fdb_live.specs.Seen.{Sight, own_positions}
-use Rattle.fdb_live.specs.declared.change.Change.{Change}
+use Rattle.fdb_live.specs.declared.view.Change.{Change}
 use Rattle.fdb_client.specs.Account.{Account, new_account}
 use Rattle.fdb_client.specs.Agreeing.{Agrees, AgreesWithChain}
 

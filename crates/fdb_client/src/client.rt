@@ -1,13 +1,8 @@
 //! A client that calls the service, one call at a time, and logs each call.
 
 ghost use Rattle.std.specs.Prelude.{◌≡◌, ◌≢◌, ◌+◌, ◌<◌, ◌≤◌, ◌⊎◌, ℕ, [], length, slice_get, true};
-ghost use mathlib.Core.List.{IsPrefix};
 ghost use Rattle.std.specs.Prelude.{Contains, IfOk, IfErr, OnOk, OnErr, None, Some};
-ghost use Rattle.fdb_client.specs.Account.{Account, IsSameClient, new_account, sight};
-ghost use Rattle.fdb_client.specs.Agreeing.{Agrees, AgreesWithChain};
-ghost use Rattle.fdb_client.specs.Calls.{Asks, IsReadOf, Learns, Reads, Reports, Tells};
-ghost use Rattle.fdb_client.specs.Calls.{next_number, request_of};
-ghost use Rattle.fdb_client.specs.Returned.{AskReturns};
+ghost use mathlib.Core.List.{IsPrefix};
 ghost use Rattle.fdb_chain.specs.ChainCore.{IsFor, new_chain};
 ghost use Rattle.fdb_chain.specs.declared.error.ChainError.TheVariants.{Exhausted};
 ghost use Rattle.fdb_history.specs.Issuing.{answer_to};
@@ -16,12 +11,15 @@ ghost use Rattle.fdb_history.specs.Strays.{issued_under, logged_as};
 ghost use Rattle.fdb_history.specs.declared.chain.Issued.{Issued};
 ghost use Rattle.fdb_live.specs.Holding.{IsAboveRead, chain_of, least_above, own_answers};
 ghost use Rattle.fdb_live.specs.Seen.{IsBounded, IsNotBehind, last_record, own_positions};
+ghost use Rattle.fdb_client.specs.Account.{Account, IsSameClient, new_account, sight};
+ghost use Rattle.fdb_client.specs.Agreeing.{Agrees, AgreesWithChain};
+ghost use Rattle.fdb_client.specs.Calls.{Asks, IsReadOf, Learns, Reads, Reports, Tells};
+ghost use Rattle.fdb_client.specs.Calls.{next_number, request_of};
+ghost use Rattle.fdb_client.specs.Returned.{AskReturns};
 
 use crate::error::ClientError;
-use crate::exchange::RequestId;
 use crate::journal::Journal;
-use crate::read::ReadVersion;
-use crate::{exchange, reply};
+use crate::reply::{self, ReadVersion, RequestId};
 use fdb_history::{
     Ask, Call, CallAnswer, ClientLog, Gate, GrvOpts, Input, Issued, Record, Sequence, laws,
 };
@@ -37,8 +35,9 @@ use std::sync::Wait;
 /// Contracts see it as its number, the position that it began with, its calls, and the answers and
 /// the changes that it has seen. Each call below adds one entry to the log, and returns what
 /// `specs/Returned.antt` says for the answer that it logged. A call that is refused for memory is
-/// not logged; a refused call changes nothing but the log. An ask may show more answers, whatever
-/// comes of it.
+/// not logged. A call that is refused otherwise changes nothing but the log, with two exceptions: a
+/// read that is refused as `Locked` has seen the record, and an ask may show the client more
+/// answers, also where it is refused.
 #[derive(Drop)]
 pub struct Client<'a, J: Live> {
     alloc: Global,
@@ -111,7 +110,8 @@ impl<'a, J: Live> Client<'a, J> {
         self.id
     }
 
-    /// The position of its token when it was made: its first call is asked from there.
+    /// The position of the client's token when the client was made: its first call is asked from
+    /// there.
     pub fn begun(&self) -> u64
         ensures { result ≡ self.now.begun }
     {
@@ -134,16 +134,17 @@ impl<'a, J: Live> Client<'a, J> {
     }
 
     /// Reads the read version, through the proxy of a desk (`getReadVersion` of FoundationDB's
-    /// client, 7.1). The request carries a token of what the client has seen, and the length of the
-    /// log as its number. Once an answer has come, the gate's `ReadAnswered` is passed with the
-    /// client's number.
+    /// client, 7.1). The request carries a token of what the client has seen, and as the request's
+    /// number the length of the client's log. Once an answer has come, the gate's `ReadAnswered` is
+    /// passed with the client's number. The call waits for the answer.
     ///
     /// Where the record is locked and the read is not lock-aware, the client has seen it all the
     /// same, and the call is refused as `Locked`. An answer to another client, number or position
     /// is refused as `Stranger`, before anything else of it is looked at. A desk that is closed, an
     /// answer that says so and an answer that never comes are `ProxyClosed`; what the proxy's queue
-    /// refuses is `Queue` with `BadCount`, `BatchThrottled` or `Full`. Of a refused answer the
-    /// client keeps nothing. It waits for the answer.
+    /// refuses is `Queue` with `BadCount`, `BatchThrottled` or `Full`. Where memory is refused to
+    /// the client, the desk or the proxy's queue, the call is refused as `Memory`, and is not
+    /// logged. Of a refused answer the client keeps nothing.
     pub fn read_version<R: Wait, G: Gate>(
         &mut self,
         rt: &R,
@@ -167,8 +168,8 @@ impl<'a, J: Live> Client<'a, J> {
         let own = RequestId::next(self.id, &self.journal, &self.token);
         let told = self.master.record().split(&mut self.token);
         let request = own.request(told, opts, reply);
-        let answer = exchange::answer_to(rt, gate, desk, request, answers);
-        match answer.and_then(|answer| exchange::reply_to(own, answer)) {
+        let answer = reply::answer_to(rt, gate, desk, request, answers);
+        match answer.and_then(|answer| reply::reply_to(own, answer)) {
             Ok(reply) => reply::take_reply(
                 rt,
                 self.master,
@@ -184,13 +185,14 @@ impl<'a, J: Live> Client<'a, J> {
         }
     }
 
-    /// Asks the master for the next commit version, with the next request number.
+    /// Asks the master for the next commit version, with the next request number, at the moment
+    /// `at` in microseconds.
     ///
     /// It is refused as `Chain` with `Exhausted` where the versions are used up, else for memory
     /// alone. The answer is fresh, and stands at its ordinal among those that the client has then
-    /// seen. Its version is above each that the client had seen or was told of, and above what it had
-    /// read, which the first of all may equal. The moments are microseconds. It waits for the other
-    /// asks, and takes constant time, the growth of the log aside.
+    /// seen. Its version is above each commit version that the client had seen or was told of, and
+    /// above the version that it had read; only the first commit version of the service may equal
+    /// that. It waits for the other asks, and takes constant time, the growth of the log aside.
     pub fn ask<R: Wait, G: Gate>(
         &mut self,
         rt: &R,
@@ -290,12 +292,12 @@ impl<'a, J: Live> Client<'a, J> {
         }
     }
 
-    /// Reports the commit version that its log has under a request number, with these flags and
-    /// this minimum known committed version: the first, where there are several.
+    /// Reports the commit version that the client's log has under a request number, or the first
+    /// one, where the log has several, with these flags and this minimum known committed version.
     ///
-    /// It is refused as `NotIssued` where the log has none, else as `Live` with `MinAbove` where the
-    /// minimum known committed version is above that version, else for memory alone. It waits for
-    /// the other reports, and takes constant time, the growth of the log aside.
+    /// It is refused as `NotIssued` where the log has none, else as `Live` with `MinAbove` where
+    /// the minimum known committed version is above that version, else for memory alone. It waits
+    /// for the other reports, and takes constant time, the growth of the log aside.
     pub fn report<R: Wait, G: Gate>(
         &mut self,
         rt: &R,
@@ -427,8 +429,9 @@ impl<'a, J: Live> Client<'a, J> {
         Ok(())
     }
 
-    /// The log and the token, which agree with one another, from whichever position the client began
-    /// as from the first one: so they may be settled. Takes no memory.
+    /// The client's log and its token, which agree with one another. They do so also where the log
+    /// is read as that of a client that began at the first position, whatever position this one
+    /// began at; that is what settling asks for. Takes no memory.
     pub fn finish(self) -> (ClientLog, Seen<J>)
         ensures log { result.0 ≡ record { calls = self.entry.calls } }
         ensures token { result.1 ≡ sight self.entry }

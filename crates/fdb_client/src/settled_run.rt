@@ -1,9 +1,9 @@
-//! A run of a cluster, whose logs its clients' tokens have settled.
+//! A run of a cluster, whose logs its clients' tokens have settled, and the chain of commit
+//! versions as the logs tell it.
 
-ghost use Rattle.std.specs.Prelude.{◌≡◌, ◌<◌, ◌≤◌, [], IfOk, length};
+ghost use Rattle.std.specs.Prelude.{◌≡◌, ◌<◌, ◌≤◌, [], IfOk, length, ℕ, Some, slice_get};
 ghost use Rattle.std.specs.List.{AllPairs};
 ghost use Rattle.fdb_chain.specs.ChainCore.{IsEpoch};
-ghost use Rattle.fdb_client.specs.Merging.{chain_in, goes_on_once};
 ghost use Rattle.fdb_history.specs.Audit.{Low};
 ghost use Rattle.fdb_history.specs.Chain.{IsChain};
 ghost use Rattle.fdb_history.specs.Explained.{explained};
@@ -11,14 +11,18 @@ ghost use Rattle.fdb_history.specs.Faults.{IsFaultless, Nowhere, changes_in};
 ghost use Rattle.fdb_history.specs.Laws.{HaveMinimaWithin};
 ghost use Rattle.fdb_history.specs.Linear.{IsLinear};
 ghost use Rattle.fdb_history.specs.Strays.{IsStray};
+ghost use Rattle.fdb_history.specs.Log.{answers_in};
+ghost use Rattle.fdb_live.specs.Gathering.{AreNumbered};
+ghost use Rattle.fdb_live.specs.Seen.{Sight};
 ghost use Rattle.fdb_live.specs.declared.opened.TheConstants.{MAX_REPORTERS};
+ghost use mathlib.Core.List.{IsPrefix};
+ghost use Rattle.fdb_client.specs.Merging.{chain_in, goes_on_once, all_placed, placed};
+ghost use Rattle.fdb_client.specs.Settling.{AllAgree, AllAgreeWithChain, IsToldAll};
 
 use crate::cluster::Cluster;
-use crate::finishing::Finished;
-use crate::merging::chain_of;
-use crate::settling::{Closed, close};
-use fdb_history::{ClientLog, History, Issued, Record, history_of, laws};
-use fdb_live::{Live, Seen};
+use crate::workload::Finished;
+use fdb_history::{Call, CallAnswer, ClientLog, History, Issued, Record, history_of, laws};
+use fdb_live::{Live, Master, Seen};
 use std::alloc::{AllocError, Global};
 use std::sync::Wait;
 
@@ -79,12 +83,12 @@ impl SettledRun {
 }
 
 impl<'c, J: Live> Cluster<'c, J> {
-    /// Brings together what the clients of this cluster have seen, and so shows that no fault stands
-    /// in their logs: no call was answered from before what its client had seen, each position has
-    /// one change, each read and report was answered as the record at its position would, each
-    /// answer of a request is due, of the chain and its client's own, and but for the first above what
-    /// that had seen.
-    /// Any token of the cluster's live record serves as `first`.
+    /// Brings together what the clients of this cluster have seen, and so shows that no fault
+    /// stands in their logs. No call was answered from before what its client had seen, each
+    /// position has one change, and each read and report was answered as the record at its position
+    /// would. Each answer to a request for a commit version is the one that was due, is in the
+    /// chain, and is of the client that asked; and each version but the first of the chain is above
+    /// what its client had seen. Any token of the cluster's live record serves as `first`.
     ///
     /// It refuses nothing, takes no memory, and waits as a read does. It takes time in proportion
     /// to the number of clients.
@@ -112,5 +116,127 @@ impl<'c, J: Live> Cluster<'c, J> {
             drawn,
             changes,
         }
+    }
+}
+
+/// Brings together what all clients of a service have seen, each by the token that it left beside
+/// its log, and so shows that no fault of the register's history stands in their logs: no call was
+/// answered from before what its client had seen, each position has one change, and each read and
+/// report was answered as the record at its position would. Nor did a report tell of a minimum known
+/// committed version above its version, and no version but the first was drawn that is not above
+/// what its asker had seen. Answers how many reports changed the record.
+///
+/// It refuses nothing, takes no memory, and waits as a read does. It takes time in proportion to
+/// the number of clients.
+pub fn settle<J: Live, R: Wait>(
+    rt: &R,
+    master: &Master<J>,
+    first: &mut Seen<J>,
+    tokens: &mut [Seen<J>],
+    logs: &[ClientLog],
+) -> u64
+    requires count { length tokens.old ≡ J.reporters }
+    requires numbered { AreNumbered tokens.old }
+    requires logs { length logs.now ≡ J.reporters }
+    requires agree { AllAgree J.start logs.now tokens.old }
+    ensures changes { result ≡ length (changes_in logs.now) }
+    ensures faultless { IsFaultless J.start logs.now }
+    ensures minima { HaveMinimaWithin logs.now }
+    ensures above { Nowhere (Low J.start logs.now) }
+    ensures position { result ≡ length first.new.changes }
+    ensures extends { IsPrefix first.old.changes first.new.changes }
+    ensures reporter { first.new.reporter ≡ first.old.reporter }
+    ensures count { length tokens.new ≡ J.reporters }
+    ensures each { (k : ℕ) (token : Sight) → slice_get tokens.old k ≡ Some token
+        → IsToldAll first.new.changes token k tokens.new }
+    ensures numbered { AreNumbered tokens.new }
+    ensures agree { AllAgree J.start logs.now tokens.new }
+{
+    master.record().gather(rt, first, tokens)
+}
+
+/// What a service has come to, once nobody calls any more.
+#[derive(Drop)]
+pub(crate) struct Closed {
+    /// How many commit versions were drawn.
+    pub(crate) drawn: u64,
+    /// How many reports changed the record.
+    pub(crate) changes: u64,
+}
+
+/// Settles the logs of all clients, and gives up the service: by the chain that these logs tell, no
+/// answer of theirs is stray.
+pub(crate) fn close<J: Live, R: Wait>(
+    rt: &R,
+    master: Master<J>,
+    first: &mut Seen<J>,
+    tokens: &mut [Seen<J>],
+    logs: &[ClientLog],
+) -> Closed
+    requires count { length tokens.old ≡ J.reporters }
+    requires numbered { AreNumbered tokens.old }
+    requires logs { length logs.now ≡ J.reporters }
+    requires agree { AllAgree J.start logs.now tokens.old }
+    requires chained { AllAgreeWithChain J.epoch_end J.recovery logs.now tokens.old }
+    ensures changes { result.changes ≡ length (changes_in logs.now) }
+    ensures faultless { IsFaultless J.start logs.now }
+    ensures minima { HaveMinimaWithin logs.now }
+    ensures above { Nowhere (Low J.start logs.now) }
+    ensures justified { Nowhere (IsStray (chain_in result.drawn logs.now) logs.now) }
+    ensures one_chain { IsChain J.epoch_end J.recovery (chain_in result.drawn logs.now) }
+{
+    // The check learns here that each answer of a chain stands at its ordinal, and is alike no other.
+    laws::each_is_next();
+    laws::same_are_equal();
+    let changes = settle(rt, &master, first, tokens, logs);
+    let drawn = master.close(rt, tokens);
+    Closed { drawn, changes }
+}
+
+/// What stands where no answer was placed yet.
+const NO_ANSWER: Issued = Issued {
+    ordinal: 0,
+    proxy: 0,
+    num: 0,
+    processed: 0,
+    prev: 0,
+    version: 0,
+    at: 0,
+    fresh: false,
+};
+
+/// The chain of so many commit versions, as these logs tell it: each fresh answer stands at its
+/// ordinal. It looks for no fault.
+///
+/// It takes time in proportion to the calls, and memory for the chain, in one piece.
+fn chain_of(alloc: Global, logs: &[ClientLog], drawn: u64) -> Result<Vec<Issued>, AllocError>
+    ensures { IfOk result (λ chain. chain.items ≡ chain_in drawn logs.now) }
+{
+    let mut chain = vec![in alloc; NO_ANSWER; drawn as usize]?;
+    for log in logs {
+        place_all(&mut chain, log.calls.as_slice());
+    }
+    Ok(chain)
+}
+
+/// Places the fresh ones of the answers of some calls.
+fn place_all(chain: &mut Vec<Issued>, calls: &[Call])
+    ensures { chain.new.items ≡ all_placed chain.old.items (answers_in calls.now) }
+{
+    for call in calls {
+        if let CallAnswer::Answered(issued) = &call.answer {
+            place(chain, *issued);
+        }
+    }
+}
+
+/// Places an answer, if it is fresh, at its ordinal.
+fn place(chain: &mut Vec<Issued>, issued: Issued)
+    ensures { chain.new.items ≡ placed chain.old.items issued }
+{
+    if issued.fresh
+        && let Some(entry) = chain.get_mut(issued.ordinal as usize)
+    {
+        *entry = issued;
     }
 }

@@ -14,7 +14,8 @@ use Rattle.fdb_command.specs.declared.arguments.ArgumentsFault.{ArgumentsFault}
 use Rattle.fdb_command.specs.declared.arguments.ArgumentsFault.TheVariants as words
 use Rattle.fdb_command.specs.declared.failure.Failure.{Failure}
 use Rattle.fdb_command.specs.declared.program.Output.{Output}
-use Rattle.fdb_command.specs.declared.failure.Failure.TheVariants.{Refused, Arguments, Memory, Found, Reading, Writing}
+use Rattle.fdb_command.specs.declared.failure.Failure.TheVariants.{Refused, Arguments, Memory, Found, Reading, Writing, OwnFile}
+use Rattle.fdb_command.specs.declared.failure.FileFault.{FileFault}
 use Rattle.fdb_command.specs.private.Taking.{IsFailure, IsPut, MayStop}
 use Rattle.fdb_command.proofs.Pieces.{put_appends, takes_behind}
 
@@ -58,6 +59,11 @@ module _ {O I E F : Type 0} (program : Promise O I E F) (arguments : List Text) 
   found_early fault (inl (inr writing)) found is = absurd (cc)
   found_early fault (inr at) found is = (taken, at.bytes, at.read, subst (Stops program arguments at.bytes) is (at.stops arguments asks))
 
+  pub file_early : (fault : Failure E F) → IsFailure fault ⊎ MayStop program options (file_named program.app arguments) remaining fault → (file : FileFault) → fault ≡ OwnFile file → program.fails arguments fault
+  file_early fault (inl (inl reading)) file is = absurd (cc)
+  file_early fault (inl (inr writing)) file is = absurd (cc)
+  file_early fault (inr at) file is = subst (program.fails arguments) (sym is) (subst (Stops program arguments at.bytes) is (at.stops arguments asks))
+
   -- what it told until then was written
   pub told_early : {W : Type 0} (contents : W → Option (List ℕ)) (before after : W) → (after ≡ before) ⊎ TellsOf program options (file_named program.app arguments) remaining (contents before) (contents after)
       → HasAtMostTold program arguments remaining contents before after
@@ -95,6 +101,11 @@ module _ {O I E F : Type 0} (program : Promise O I E F) (arguments : List Text) 
     found_of (Ok answer) prints = tt
     found_of (Err fault) stops = λ found is. (taken, bytes, read, subst (Stops program arguments bytes) is stops)
 
+    pub file_of : (r : Result (Output E F) (Failure E F)) → MatchResult r (MayAnswer program arguments bytes told) (Stops program arguments bytes)
+        → IfErr r (λ fault. (file : FileFault) → fault ≡ OwnFile file → program.fails arguments fault)
+    file_of (Ok answer) prints = tt
+    file_of (Err fault) stops = λ file is. subst (program.fails arguments) (sym is) (subst (Stops program arguments bytes) is stops)
+
 -- a program's own faults
 stops_own : {O I E F : Type 0} (program : Promise O I E F) (arguments : List Text) (bytes : List ℕ) (fault : Failure E F) → Stops program arguments bytes fault → fault ≢ Arguments
 stops_own program arguments bytes (Refused error) stops = λ is. cc
@@ -103,6 +114,7 @@ stops_own program arguments bytes Memory stops = λ is. cc
 stops_own program arguments bytes (Found found) stops = λ is. cc
 stops_own program arguments bytes Reading stops = λ is. cc
 stops_own program arguments bytes Writing stops = λ is. cc
+stops_own program arguments bytes (OwnFile file) stops = λ is. cc
 
 pub own_early : {O I E F : Type 0} (program : Promise O I E F) (arguments : List Text) (options : O) (file : Option Text) (remaining : Option (List ℕ)) (fault : Failure E F) → program.asks arguments options
     → IsFailure fault ⊎ MayStop program options file remaining fault → fault ≢ Arguments
@@ -146,18 +158,6 @@ refused_besides program arguments remaining found refused text printed error is 
 pub told_as : {E F : Type 0} (cause : ArgumentsFault) (made : Failure E F) → (cause ≡ words.Refused → made ≡ Arguments) × (cause ≡ words.Memory → made ≡ Memory) → (made ≡ Arguments) ⊎ (made ≡ Memory)
 told_as words.Refused made told = inl (told.0 refl)
 told_as words.Memory made told = inr (told.1 refl)
-
-pub is_words : {E F : Type 0} (cause : ArgumentsFault) (made : Failure E F) → (cause ≡ words.Refused → made ≡ Arguments) × (cause ≡ words.Memory → made ≡ Memory) → made ≡ Arguments → cause ≡ words.Refused
-is_words words.Refused made told is = refl
-is_words words.Memory made told is = let memory = told.1 refl in absurd (cc)
-
-pub no_refusal : {E F : Type 0} (made : Failure E F) → (made ≡ Arguments) ⊎ (made ≡ Memory) → (error : E) → made ≡ Refused error → ⊥
-no_refusal made (inl words) error is = cc
-no_refusal made (inr memory) error is = cc
-
-pub no_finding : {E F : Type 0} (made : Failure E F) → (made ≡ Arguments) ⊎ (made ≡ Memory) → (found : F) → made ≡ Found found → ⊥
-no_finding made (inl words) found is = cc
-no_finding made (inr memory) found is = cc
 
 pub failed : {T E : Type 0} (r : Result T E) (Q : E → Type 0) → IsErrAnd r Q → (error : E) × (r ≡ Err error) × Q error
 failed (Ok value) Q is = absurd is

@@ -5,12 +5,12 @@ use Rattle.std.specs.Prelude.{IfErr, IsErrAnd, OnErr}
 use Rattle.std.proofs.KnownBytes.{Appends-nil, Appends-trans, Consumes-trans}
 use Rattle.std.proofs.lemmas.List.{length-append}
 use Rattle.clap.specs.Words.{Text}
-use Rattle.fdb_command.specs.Driving.{Promise, Stops, TellsOf}
+use Rattle.fdb_command.specs.Driving.{HasFailed, Promise, Stops, StopsAnyhow, TellsOf}
 use Rattle.fdb_command.specs.Input.{MayBegin, TakesAtMost}
 use Rattle.fdb_command.specs.Output.{TakesAny}
 use Rattle.fdb_command.specs.private.Taking.{IsFailure, IsPut, IsTaken, MayStop, StopsAt, TakesOn, TellsLast}
 use Rattle.fdb_command.specs.declared.failure.Failure.{Failure}
-use Rattle.fdb_command.specs.declared.failure.Failure.TheVariants.{Memory, Reading, Writing}
+use Rattle.fdb_command.specs.declared.failure.Failure.TheVariants.{Refused, Arguments, Memory, Found, Reading, Writing, OwnFile}
 
 pub takes_more : (first before after : Option (List ℕ)) (so_far : List ℕ) (room most : ℕ) → length so_far + room ≤ most → Consumes first before so_far → TakesAtMost room before after → TakesAtMost most first after
 takes_more first before after so_far room most within read (taken, few, piece) =
@@ -117,10 +117,22 @@ stops_there program options first before after intake so_far told most fault gon
     go (inl reading) = inl (inl reading)
     go (inr stops) = inr (stops_whole program options first after so_far at.bytes fault (Consumes-trans first before after so_far at.bytes gone at.gone) (λ arguments rest asks. stops arguments options so_far told rest asks taken))
 
--- nor does it where what was told could not be had or written
-pub stops_telling : {O I E F : Type 0} (program : Promise O I E F) (options : O) (first : Option (List ℕ)) (fault : Failure E F) → (fault ≡ Memory) ⊎ (fault ≡ Writing) → IsFailure fault ⊎ MayStop program options None first fault
-stops_telling program options first fault (inl memory) = inr (subst (λ (f : Failure _ _). MayStop program options None first f) (sym memory) (stops_unread program options first))
-stops_telling program options first fault (inr writing) = inl (inr writing)
+-- a failure of a file of its own stops a program at all bytes
+failed_so : {O I E F : Type 0} (program : Promise O I E F) (arguments : List Text) (bytes : List ℕ) (fault : Failure E F) → HasFailed fault → program.fails arguments fault → Stops program arguments bytes fault
+failed_so program arguments bytes Reading has fails = fails
+failed_so program arguments bytes Writing has fails = fails
+failed_so program arguments bytes (OwnFile file) has fails = fails
+failed_so program arguments bytes (Refused error) has fails = absurd has
+failed_so program arguments bytes Arguments has fails = absurd has
+failed_so program arguments bytes Memory has fails = absurd has
+failed_so program arguments bytes (Found found) has fails = absurd has
+
+-- nor does it where what was told could not be had or written, or a file of its own failed
+pub stops_telling : {O I E F : Type 0} (program : Promise O I E F) (options : O) (first : Option (List ℕ)) (fault : Failure E F) → (fault ≡ Writing) ⊎ StopsAnyhow program options fault
+    → IsFailure fault ⊎ MayStop program options None first fault
+stops_telling program options first fault (inl writing) = inl (inr writing)
+stops_telling program options first fault (inr (inl memory)) = inr (subst (λ (f : Failure _ _). MayStop program options None first f) (sym memory) (stops_unread program options first))
+stops_telling program options first fault (inr (inr failed)) = stops_begun program options first fault (λ arguments bytes asks. failed_so program arguments bytes fault failed.0 (failed.1 arguments asks))
 
 -- what holds of an error holds of the one that is passed on
 pub passed_on : {T E : Type 0} (r : Result T E) (error : E) (P : E → Type 0) → IsErrAnd r (λ e. e ≡ error) → P error → IfErr r P

@@ -17,12 +17,12 @@ use std::alloc::{AllocError, Global};
 use std::env::Env;
 use std::{env, io};
 
-/// Why arguments ask for nothing.
+/// Why what the arguments of a command line ask for cannot be done.
 #[derive(Clone, Copy, Debug, PartialEq, Eq)]
 pub enum ArgumentsFault {
     /// The arguments are refused, or could not be had: the program ends with status 2.
     Refused,
-    /// Memory was refused: it ends with status 3.
+    /// Memory was refused: the program ends with status 3.
     Memory,
 }
 
@@ -98,7 +98,8 @@ pub fn new_versioned_command<'a>(
     new_command(alloc, name, about, after_help).version(version)
 }
 
-/// The file that has the input; standard input, if left out.
+/// The argument, called `file`, that names the file with the input. Where it is left out, standard
+/// input is read.
 pub fn file_argument<'a>(alloc: Global, value_name: &'a str, help: &'a str) -> Arg<'a>
     ensures rule { rule_of result ≡ file_rule }
     ensures own { result.global ≡ false }

@@ -1,27 +1,26 @@
 //! A program, over a reader and two writers.
 
-ghost use Rattle.std.specs.Prelude.{◌≡◌, ◌≢◌, ◌⊎◌, ◌+◌, ◌++◌, ℕ, [], List, IfOk, IfErr, OnOk};
-ghost use Rattle.std.specs.Prelude.{IsOkAnd, MatchResult, OnErr, None, Some, map, string_bytes};
-ghost use Rattle.std.specs.IoError.{error_kind};
+ghost use Rattle.std.specs.Prelude.{◌≡◌, ◌≢◌, ◌⊎◌, ◌+◌, ◌++◌, ℕ, [], List, IfOk, IfErr, IsOkAnd};
+ghost use Rattle.std.specs.Prelude.{OnErr, map, string_bytes};
 ghost use Rattle.clap.specs.Words.{Text};
-ghost use Rattle.fdb_command.specs.Arguments.{AreTaken, AreWrong, ReadsInput};
+ghost use Rattle.fdb_command.specs.Arguments.{AreWrong, ReadsInput};
 ghost use Rattle.fdb_command.specs.Input.{TakesAtMost};
 ghost use Rattle.fdb_command.specs.private.Asked.{Ask, AskBy, AskOf};
-ghost use Rattle.fdb_command.specs.Driving.{HasAtMostTold, HasTold, IsBegun, IsCallable, IsDone};
-ghost use Rattle.fdb_command.specs.Driving.{IsDriven, IsFound, IsPrinted, IsRefused, IsWritten};
-ghost use Rattle.fdb_command.specs.Driving.{AreRefused, KeepsPromise, MayFind, MayRefuse};
-ghost use Rattle.fdb_command.specs.Driving.{RefusesWhole, TellsNothing, TellsProgress, Warns};
+ghost use Rattle.fdb_command.specs.Driving.{AreRefused, HasAtMostTold, HasEnded, IsBegun};
+ghost use Rattle.fdb_command.specs.Driving.{IsCallable, IsDriven, IsMissing, IsPrinted};
+ghost use Rattle.fdb_command.specs.Driving.{KeepsPromise, MayFind, MayRefuse, RefusesWhole};
+ghost use Rattle.fdb_command.specs.Driving.{TellsNothing, TellsProgress, Warns};
 ghost use Rattle.fdb_command.specs.private.Taking.{IsPut};
 
 use crate::arguments::{ArgumentsFault, Invocation, file_of, parse};
 use crate::ending::put;
-use crate::failure::Failure;
+use crate::failure::{Failure, FileFault};
 use crate::intake::Taker;
 use crate::program::{Output, Program};
 use clap::{ArgMatches, Error};
 use std::alloc::Global;
 use std::fmt::{Debug, Display};
-use std::fs::Files;
+use std::fs::{File, Files};
 use std::io;
 use std::io::{ErrorKind, Read, Write};
 use std::time::Clock;
@@ -32,24 +31,27 @@ type Made<P> = Result<
     Failure<<P as Program>::Refusal, <P as Program>::Finding>,
 >;
 
-/// Does what the arguments of the command line ask for, which are given without the program's own
-/// name, or with why they could not be had. Has the program take the bytes of the file that the
-/// arguments name or else of the input, writes what it tells of each piece to `out` and flushes that
-/// before it reads more, has `body` make the rest of the text of what the program's flags say and of
-/// what it took, and writes that to `out`; or writes the help or the version there.
+/// Does what the arguments of the command line ask for. `arguments` are these without the program's
+/// own name, or why they could not be had. Where they ask for the help or the version, that is
+/// written to `out`. Else the program takes the bytes of the file that the arguments name, or of
+/// `input` where they name none, and what it tells of each piece is written to `out` and flushed
+/// before more is read. Then `body` makes the rest of the text, from what the program's flags say
+/// and from what it took, and that is written to `out`.
 ///
-/// Answers the status of the program: 0 where all of it is done and no fault was found, 1 where the
-/// input is refused, or a part of it was and the text is written, 2 where the arguments are, 3 where
-/// memory ran out, 4 where a fault was found, and 5 where reading or writing failed, a file that
-/// cannot be opened and an input of more bytes than it may have included. They are looked for in the
-/// order arguments, reading and what is told, what stops the program before it has its whole text,
-/// writing, the fault that the text tells of, and the part that is refused. Whatever is not 0
-/// is reported by a line to `err`; where that line cannot be written, the status is the same. What
-/// the program refuses whatever comes after it leaves the rest of the input unread. At most one byte
-/// more is taken from the input than it may have, and nothing is written after a write that failed.
+/// Answers the status of the program. It is 0 where all is done and no fault was found, 1 where the
+/// input is refused, or where a part of it was and the text is written, 2 where the arguments are
+/// refused, 3 where memory ran out, 4 where a fault was found, and 5 where reading or writing
+/// failed, also where a file cannot be opened or the input has more bytes than it may have. The
+/// first of these causes counts, in this order: the arguments, reading and what is told, what stops
+/// the program before it has its whole text, writing, the fault that the text tells of, and the
+/// part that is refused. A line to `err` reports each status but 0; where that line cannot be
+/// written, the status is the same. Where the program refuses something whatever may come after it,
+/// the rest of the input is left unread. At most one byte more is taken from the input than it may
+/// have, and nothing is written after a write that failed.
 ///
 /// Where the arguments ask that progress is told, a line to `err` says after each 67,108,864 bytes
-/// how far the input has been read, and one at its end where it has so many.
+/// how far the input has been read, and so does one at the end of an input of at least as many
+/// bytes.
 pub fn drive<R, P, I, O, E, B>(
     program: &P,
     rt: &R,
@@ -61,7 +63,7 @@ pub fn drive<R, P, I, O, E, B>(
     body: B,
 ) -> u8
 where
-    R: Files + Clock,
+    R: Files<File = File> + Clock,
     P: Program,
     I: Read,
     O: Write,
@@ -89,8 +91,9 @@ where
     }
 }
 
-/// Does what [`drive`] does, but for the line that says why the program ends with another status than
-/// 0: that has the text of the failure, behind the program's name.
+/// Does what [`drive`] does, but does not write the line that says why the program ends with
+/// another status than 0. Instead it answers the failure: its text is that line, behind the
+/// program's name.
 pub fn carry_out<R, P, I, O, E, B>(
     program: &P,
     rt: &R,
@@ -102,7 +105,7 @@ pub fn carry_out<R, P, I, O, E, B>(
     body: B,
 ) -> Result<(), Failure<P::Refusal, P::Finding>>
 where
-    R: Files + Clock,
+    R: Files<File = File> + Clock,
     P: Program,
     I: Read,
     O: Write,
@@ -110,47 +113,10 @@ where
     B: FnOnce(P::Options, P::Intake) -> Made<P> + Drop,
     requires callable { IsCallable P.promise (B.pre body) }
     requires promised { KeepsPromise P.promise (B.post body) }
-    ensures asked { MatchResult result
-        (λ _. IsOkAnd arguments (λ list. AreTaken P.promise.app (map string_bytes list.items)))
-        (λ fault. fault ≢ Failure.Arguments → fault ≢ Failure.Memory
-        → IsOkAnd arguments (λ list. AreTaken P.promise.app (map string_bytes list.items))) }
-    ensures done { OnOk result (IsOkAnd arguments (λ list.
-        IsDone P.promise (map string_bytes list.items)
-        (I.remaining input.old) (O.contents out.old) (O.contents out.new))) }
-    ensures refused { IfErr result (λ fault. (error : P.Refusal)
-        → fault ≡ Failure.Refused error → IsOkAnd arguments (λ list.
-        IsRefused P.promise (map string_bytes list.items)
-        (I.remaining input.old) error O.contents out.old out.new)) }
-    ensures faulty { IfErr result (λ fault. (found : P.Finding) → fault ≡ Failure.Found found
-        → IsOkAnd arguments (λ list. IsFound P.promise (map string_bytes list.items)
-        (I.remaining input.old) found O.contents out.old out.new)) }
-    ensures wrong { IfErr result (λ fault. fault ≡ Failure.Arguments
-        → MatchResult arguments (λ list. AreRefused P.promise (map string_bytes list.items))
-        (λ error. error_kind error ≢ ErrorKind.OutOfMemory)) }
-    ensures memory { IfErr result (λ fault. fault ≡ Failure.Memory
-        → IfErr arguments (λ error. error_kind error ≡ ErrorKind.OutOfMemory)) }
-    ensures unread { OnErr arguments (input.new ≡ input.old) }
-    ensures left { IfOk arguments (λ list.
-        (ReadsInput P.promise.app (map string_bytes list.items) → ⊥) → input.new ≡ input.old) }
-    ensures quiet { IfOk arguments (λ list.
-        (TellsProgress P.promise (map string_bytes list.items) → ⊥)
-        → (Warns P.promise (map string_bytes list.items) → ⊥) → err.new ≡ err.old) }
-    ensures untaken { IfErr result (λ fault. fault ≡ Failure.Arguments
-        → input.new ≡ input.old) }
-    ensures unwritten { IfErr result (λ fault. fault ≡ Failure.Arguments
-        → out.new ≡ out.old) }
-    ensures short { IfErr result (λ fault. fault ≡ Failure.Memory
-        → (out.new ≡ out.old) ⊎ IsOkAnd arguments (λ list.
-        HasTold P.promise (map string_bytes list.items)
-        (I.remaining input.old) (O.contents out.old) (O.contents out.new))) }
-    ensures begun { IfErr result (λ fault. (fault ≡ Failure.Reading) ⊎ (fault ≡ Failure.Writing)
-        → (out.new ≡ out.old) ⊎ IsOkAnd arguments (λ list.
-        HasTold P.promise (map string_bytes list.items)
-        (I.remaining input.old) (O.contents out.old) (O.contents out.new)
-        ⊎ IsBegun P.promise (map string_bytes list.items)
-        (I.remaining input.old) (O.contents out.old) (O.contents out.new))) }
-    ensures few { TakesAtMost (P.promise.most + 1)
-        (I.remaining input.old) (I.remaining input.new) }
+    ensures given { IfOk arguments (λ list. HasEnded P.promise (map string_bytes list.items)
+        I.remaining O.contents input.old input.new out.old out.new err.old err.new result) }
+    ensures missing { IfErr arguments (λ error.
+        IsMissing error result × (input.new ≡ input.old) × (out.new ≡ out.old)) }
 {
     let run = Run {
         program,
@@ -176,7 +142,7 @@ struct Run<'a, P, R, B> {
 impl<P, R, B> Run<'_, P, R, B>
 where
     P: Program,
-    R: Files + Clock,
+    R: Files<File = File> + Clock,
     B: FnOnce(P::Options, P::Intake) -> Made<P> + Drop,
 {
     /// Does what these arguments ask for, and flushes what was written.
@@ -189,38 +155,8 @@ where
     ) -> Result<(), Failure<P::Refusal, P::Finding>>
         requires callable { IsCallable P.promise (B.pre self.body) }
         requires promised { KeepsPromise P.promise (B.post self.body) }
-        ensures asked { MatchResult result
-            (λ _. AreTaken P.promise.app (map string_bytes arguments.now))
-            (λ fault. fault ≢ Failure.Arguments → fault ≢ Failure.Memory
-            → AreTaken P.promise.app (map string_bytes arguments.now)) }
-        ensures done { OnOk result (IsDone P.promise (map string_bytes arguments.now)
-            (I.remaining input.old) (O.contents out.old) (O.contents out.new)) }
-        ensures refused { IfErr result (λ fault. (error : P.Refusal) → fault ≡ Failure.Refused error
-            → IsRefused P.promise (map string_bytes arguments.now)
-            (I.remaining input.old) error O.contents out.old out.new) }
-        ensures faulty { IfErr result (λ fault. (found : P.Finding) → fault ≡ Failure.Found found
-            → IsFound P.promise (map string_bytes arguments.now)
-            (I.remaining input.old) found O.contents out.old out.new) }
-        ensures wrong { IfErr result (λ fault. fault ≡ Failure.Arguments
-            → AreRefused P.promise (map string_bytes arguments.now)) }
-        ensures left { (ReadsInput P.promise.app (map string_bytes arguments.now) → ⊥)
-            → input.new ≡ input.old }
-        ensures quiet { (TellsProgress P.promise (map string_bytes arguments.now) → ⊥)
-            → (Warns P.promise (map string_bytes arguments.now) → ⊥) → err.new ≡ err.old }
-        ensures untaken { IfErr result (λ fault. fault ≡ Failure.Arguments
-            → input.new ≡ input.old) }
-        ensures unwritten { IfErr result (λ fault. fault ≡ Failure.Arguments
-            → out.new ≡ out.old) }
-        ensures short { IfErr result (λ fault. fault ≡ Failure.Memory
-            → HasAtMostTold P.promise (map string_bytes arguments.now)
-            (I.remaining input.old) O.contents out.old out.new) }
-        ensures begun { IfErr result (λ fault. (fault ≡ Failure.Reading) ⊎ (fault ≡ Failure.Writing)
-            → (out.new ≡ out.old) ⊎ (HasTold P.promise (map string_bytes arguments.now)
-            (I.remaining input.old) (O.contents out.old) (O.contents out.new)
-            ⊎ IsBegun P.promise (map string_bytes arguments.now)
-            (I.remaining input.old) (O.contents out.old) (O.contents out.new))) }
-        ensures few { TakesAtMost (P.promise.most + 1)
-            (I.remaining input.old) (I.remaining input.new) }
+        ensures { HasEnded P.promise (map string_bytes arguments.now)
+            I.remaining O.contents input.old input.new out.old out.new err.old err.new result }
     {
         match asked(self.program, self.alloc, arguments)? {
             Request::Help(help) => show(&help, out),
@@ -241,33 +177,9 @@ where
         requires promised { KeepsPromise P.promise (B.post self.body) }
         requires matches { (arguments : List Text)
             × AskBy P.promise arguments matches.now options }
-        ensures done { (arguments : List Text) → AskBy P.promise arguments matches.now options
-            → OnOk result (IsWritten P.promise arguments (I.remaining input.old) None None
-            (O.contents out.old) (O.contents out.new)) }
-        ensures refused { (arguments : List Text) → AskBy P.promise arguments matches.now options
-            → IfErr result (λ fault. (error : P.Refusal) → fault ≡ Failure.Refused error
-            → IsRefused P.promise arguments
-            (I.remaining input.old) error O.contents out.old out.new) }
-        ensures faulty { (arguments : List Text) → AskBy P.promise arguments matches.now options
-            → IfErr result (λ fault. (found : P.Finding) → fault ≡ Failure.Found found
-            → IsFound P.promise arguments
-            (I.remaining input.old) found O.contents out.old out.new) }
-        ensures own { IfErr result (λ fault. fault ≢ Failure.Arguments) }
-        ensures short { (arguments : List Text) → AskBy P.promise arguments matches.now options
-            → IfErr result (λ fault. fault ≡ Failure.Memory → HasAtMostTold P.promise arguments
-            (I.remaining input.old) O.contents out.old out.new) }
-        ensures begun { (arguments : List Text) → AskBy P.promise arguments matches.now options
-            → OnErr result ((out.new ≡ out.old) ⊎ (HasTold P.promise arguments
-            (I.remaining input.old) (O.contents out.old) (O.contents out.new)
-            ⊎ IsBegun P.promise arguments
-            (I.remaining input.old) (O.contents out.old) (O.contents out.new))) }
-        ensures left { (arguments : List Text) → AskBy P.promise arguments matches.now options
-            → (ReadsInput P.promise.app arguments → ⊥) → input.new ≡ input.old }
-        ensures quiet { (arguments : List Text) → AskBy P.promise arguments matches.now options
-            → (TellsProgress P.promise arguments → ⊥) → (Warns P.promise arguments → ⊥)
-            → err.new ≡ err.old }
-        ensures few { TakesAtMost (P.promise.most + 1)
-            (I.remaining input.old) (I.remaining input.new) }
+        ensures { (arguments : List Text) → AskBy P.promise arguments matches.now options
+            → HasEnded P.promise arguments
+            I.remaining O.contents input.old input.new out.old out.new err.old err.new result }
     {
         match self.answer_of(matches, options, input, out, err) {
             Ok(answer) => put(answer, out, err),
@@ -299,6 +211,9 @@ where
         ensures faulty { (arguments : List Text) → AskBy P.promise arguments matches.now options
             → IfErr result (λ fault. (found : P.Finding) → fault ≡ Failure.Found found
             → MayFind P.promise arguments (I.remaining input.old) found) }
+        ensures own_file { (arguments : List Text) → AskBy P.promise arguments matches.now options
+            → IfErr result (λ fault. (file : FileFault) → fault ≡ Failure.OwnFile file
+            → P.promise.fails arguments fault) }
         ensures own { IfErr result (λ fault. fault ≢ Failure.Arguments) }
         ensures unsaid { (arguments : List Text) → AskBy P.promise arguments matches.now options
             → (Warns P.promise arguments → ⊥)

@@ -1,8 +1,8 @@
 //! The text of an answer, and the fault that it tells of.
 
-ghost use Rattle.std.specs.Prelude.{◌≡◌, ◌≢◌, [], IfErr, None, OnErr, OnOk, Some};
+ghost use Rattle.std.specs.Prelude.{◌≡◌, [], ℕ, List, Option};
 ghost use Rattle.std.specs.Io.KnownBytes.{Appends};
-ghost use Rattle.fdb_command.specs.Output.{TakesAny};
+ghost use Rattle.fdb_command.specs.private.Ending.{IsEnding};
 
 use crate::failure::Failure;
 use crate::output::{warn, write_flushed};
@@ -18,17 +18,8 @@ pub(crate) fn put<E: Debug + Display + Drop, F: Debug + Display + Drop, W: Write
     out: &mut W,
     err: &mut X,
 ) -> Result<(), Failure<E, F>>
-    ensures done { OnOk result ((answer.found ≡ None) × (answer.refused ≡ None)
-        × Appends (W.contents out.old) (W.contents out.new) answer.text.items) }
-    ensures found { IfErr result (λ fault. (found : F) → fault ≡ Failure.Found found
-        → (answer.found ≡ Some found)
-        × Appends (W.contents out.old) (W.contents out.new) answer.text.items) }
-    ensures refused { IfErr result (λ fault. (error : E) → fault ≡ Failure.Refused error
-        → (answer.found ≡ None) × (answer.refused ≡ Some error)
-        × Appends (W.contents out.old) (W.contents out.new) answer.text.items) }
-    ensures begun { OnErr result
-        (TakesAny answer.text.items (W.contents out.old) (W.contents out.new)) }
-    ensures kinds { IfErr result (λ fault. (fault ≢ Failure.Arguments) × (fault ≢ Failure.Memory)) }
+    ensures ended { IsEnding answer.text.items answer.found answer.refused
+        (W.contents out.old) (W.contents out.new) result }
     ensures quiet { answer.warnings.items ≡ [] → err.new ≡ err.old }
 {
     let Output {
@@ -50,12 +41,8 @@ fn ended<E: Debug + Display + Drop, F: Debug + Display + Drop>(
     found: Option<F>,
     refused: Option<E>,
 ) -> Result<(), Failure<E, F>>
-    ensures done { OnOk result ((found ≡ None) × (refused ≡ None)) }
-    ensures found { IfErr result (λ fault. (finding : F) → fault ≡ Failure.Found finding
-        → found ≡ Some finding) }
-    ensures refused { IfErr result (λ fault. (error : E) → fault ≡ Failure.Refused error
-        → (found ≡ None) × (refused ≡ Some error)) }
-    ensures kinds { IfErr result (λ fault. (fault ≢ Failure.Arguments) × (fault ≢ Failure.Memory)) }
+    ensures { (text : List ℕ) → (before after : Option (List ℕ)) → Appends before after text
+        → IsEnding text found refused before after result }
 {
     match (found, refused) {
         (Some(found), _) => Err(Failure::Found(found)),

@@ -1,6 +1,7 @@
 //! Why a program ends with another status than 0.
 
 ghost use Rattle.std.specs.Prelude.{◌≡◌, ◌⊎◌, ◌<◌, ◌≤◌};
+ghost use Rattle.fdb_command.specs.Driving.{HasFailed};
 ghost use Rattle.fdb_command.specs.Input.{IsCauseOf};
 
 use crate::arguments::ArgumentsFault;
@@ -26,10 +27,31 @@ pub enum Failure<E: Debug + Display + Drop, F: Debug + Display + Drop> {
     Reading,
     /// What is printed could not be written, or not flushed.
     Writing,
+    /// A file of the program's own failed, which a second line names.
+    OwnFile(FileFault),
+}
+
+/// Why a file of the program's own failed.
+#[derive(Debug, Drop)]
+pub struct FileFault {
+    /// What was done with the file.
+    pub access: Access,
+    /// A line for standard error that names the file, with the program's name in front: it stands
+    /// behind the line that says what failed.
+    pub line: String,
+}
+
+/// What is done with a file.
+#[derive(Clone, Copy, Debug, PartialEq, Eq)]
+pub enum Access {
+    Reading,
+    Writing,
+    Locking,
 }
 
 impl<E: Debug + Display + Drop, F: Debug + Display + Drop> Failure<E, F> {
-    /// The status that the program ends with: 1 to 5 in the order of [`Failure`], 5 also for writing.
+    /// The status that the program ends with: 1 to 5 in the order of [`Failure`], 5 also for writing
+    /// and for a file of the program's own.
     pub fn status(&self) -> u8
         ensures range { (0 < result) × (result ≤ 5) }
         ensures refused { (error : E) → self.now ≡ Failure.Refused error → result ≡ 1 }
@@ -42,14 +64,15 @@ impl<E: Debug + Display + Drop, F: Debug + Display + Drop> Failure<E, F> {
         ensures only_found { result ≡ 4 → (found : F) × (self.now ≡ Failure.Found found) }
         ensures reading { self.now ≡ Failure.Reading → result ≡ 5 }
         ensures writing { self.now ≡ Failure.Writing → result ≡ 5 }
-        ensures only_failed { result ≡ 5 → (self.now ≡ Failure.Reading) ⊎ (self.now ≡ Failure.Writing) }
+        ensures own_file { (file : FileFault) → self.now ≡ Failure.OwnFile file → result ≡ 5 }
+        ensures only_failed { result ≡ 5 → HasFailed self.now }
     {
         match self {
             Failure::Refused(_) => 1,
             Failure::Arguments => 2,
             Failure::Memory => 3,
             Failure::Found(_) => 4,
-            Failure::Reading | Failure::Writing => 5,
+            Failure::Reading | Failure::Writing | Failure::OwnFile(_) => 5,
         }
     }
 }
@@ -67,6 +90,23 @@ impl<E: Debug + Display + Drop, F: Debug + Display + Drop> Display for Failure<E
             Failure::Found(found) => write!(f, "audit fault: {found}"),
             Failure::Reading => f.write_str("reading failed"),
             Failure::Writing => f.write_str("writing failed"),
+            Failure::OwnFile(fault) => write!(f, "{fault}"),
+        }
+    }
+}
+
+impl Display for FileFault {
+    ghost use Rattle.std.specs.Prelude.{Some};
+    ghost use Rattle.fdb_command.specs.Text.{file_text};
+
+    ghost output = { λ fault. Some (file_text fault) };
+
+    fn fmt<W: fmt::Write>(&self, f: &mut fmt::Formatter<W>) -> fmt::Result {
+        let line = &self.line;
+        match self.access {
+            Access::Reading => write!(f, "reading failed\n{line}"),
+            Access::Writing => write!(f, "writing failed\n{line}"),
+            Access::Locking => write!(f, "locking failed\n{line}"),
         }
     }
 }

@@ -5,7 +5,7 @@ ghost use Rattle.std.specs.Prelude.{None, OnErr, OnOk, false, is_some, length, o
 ghost use Rattle.std.specs.Io.KnownBytes.{IsAtEnd};
 ghost use Rattle.clap.specs.Words.{Text};
 ghost use Rattle.fdb_command.specs.Input.{IsCauseOf, TakesAtMost};
-ghost use Rattle.fdb_command.specs.Driving.{TellsOf};
+ghost use Rattle.fdb_command.specs.Driving.{StopsAnyhow, TellsOf};
 ghost use Rattle.fdb_command.specs.Output.{TakesAny};
 ghost use Rattle.fdb_command.specs.private.Taking.{IsFailure, IsPut, IsTaken, MayStop, StopsAt};
 ghost use Rattle.fdb_command.specs.private.Taking.{TakesOn, TellsLast, TellsOn};
@@ -47,7 +47,7 @@ pub(crate) struct Taker<'a, P: Program, R> {
     pub(crate) options: &'a P::Options,
 }
 
-impl<P: Program, R: Files + Clock> Taker<'_, P, R> {
+impl<P: Program, R: Files<File = File> + Clock> Taker<'_, P, R> {
     /// Has the program take the bytes of the file that is named, or else of the input, if there are
     /// no more than it may have, writes what it tells of them, and tells of progress where that is
     /// asked for. What stops the program leaves the rest unread. One byte more than it may have is
@@ -210,8 +210,8 @@ impl<P: Program, R: Files + Clock> Taker<'_, P, R> {
         ensures begun { OnErr result ((out.new ≡ out.old)
             ⊎ TellsLast P.promise self.now.options.now piece.intake
             (O.contents out.old) (O.contents out.new)) }
-        ensures stops { IfErr result
-            (λ fault. (fault ≡ Failure.Memory) ⊎ (fault ≡ Failure.Writing)) }
+        ensures stops { IfErr result (λ fault. (fault ≡ Failure.Writing)
+            ⊎ StopsAnyhow P.promise self.now.options.now fault) }
         ensures quiet { (arguments : List Text) → P.promise.asks arguments self.now.options.now
             → P.promise.warns arguments ≡ false → err.new ≡ err.old }
     {
@@ -235,8 +235,8 @@ impl<P: Program, R: Files + Clock> Taker<'_, P, R> {
         ensures begun { OnErr result ((out.new ≡ out.old)
             ⊎ TellsLast P.promise self.now.options.now intake
             (O.contents out.old) (O.contents out.new)) }
-        ensures stops { IfErr result
-            (λ fault. (fault ≡ Failure.Memory) ⊎ (fault ≡ Failure.Writing)) }
+        ensures stops { IfErr result (λ fault. (fault ≡ Failure.Writing)
+            ⊎ StopsAnyhow P.promise self.now.options.now fault) }
         ensures quiet { (arguments : List Text) → P.promise.asks arguments self.now.options.now
             → P.promise.warns arguments ≡ false → err.new ≡ err.old }
     {

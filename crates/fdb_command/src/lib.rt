@@ -17,6 +17,6 @@ pub use arguments::{
     new_versioned_command, number, number_argument,
 };
 pub use driving::{carry_out, drive};
-pub use failure::Failure;
+pub use failure::{Access, Failure, FileFault};
 pub use output::write_whole;
 pub use program::{Output, Program, Told};

@@ -1,17 +1,17 @@
 //! What each program gives of its own, over which the driver runs.
 
-ghost use Rattle.std.specs.Prelude.{◌≡◌, ◌⊎◌, ◌++◌, ℕ, List, [], IfOk, IfErr, false, is_some, true};
+ghost use Rattle.std.specs.Prelude.{◌≡◌, ◌++◌, ℕ, List, [], IfOk, IfErr, false, is_some, true};
 ghost use Rattle.clap.specs.Faults.{is_simple_and_free};
 ghost use Rattle.clap.specs.Words.{Text, app_of};
 ghost use Rattle.fdb_command.specs.Arguments.{AreMatches};
-ghost use Rattle.fdb_command.specs.Driving.{Promise, Stops};
+ghost use Rattle.fdb_command.specs.Driving.{Promise, Stops, StopsAnyhow};
 
 use crate::arguments::ArgumentsFault;
 use crate::failure::Failure;
 use clap::{ArgMatches, Command};
 use std::alloc::{AllocError, Global};
 use std::fmt::{Debug, Display};
-use std::fs::Files;
+use std::fs::{File, Files};
 use std::time::Clock;
 
 /// What a program makes of its input.
@@ -46,8 +46,8 @@ pub trait Program {
     /// What its flags say, which its body is given.
     type Options: Drop;
 
-    /// What it keeps of the bytes of its input, of which it is given a piece at a time; and what
-    /// it needs of what its flags say, to take them by.
+    /// What the program keeps of the bytes of its input, which it is given a piece at a time,
+    /// together with those of its flags that it needs for taking the next bytes.
     type Intake: Drop;
 
     /// Why its input is refused, with status 1; the line to standard error has its text.
@@ -88,7 +88,7 @@ pub trait Program {
     /// asked for before anything of the input is read, and may read a file of the program's own. An
     /// error is that such a file could not be read, or a refusal or a fault that holds whatever the
     /// input is, or that memory was refused.
-    fn begin<R: Files>(
+    fn begin<R: Files<File = File>>(
         &self,
         rt: &R,
         alloc: Global,
@@ -153,9 +153,7 @@ pub trait Program {
         ensures taken { IfOk result (λ next. (before told : List ℕ)
             → promise.taken options.now intake before told
             → promise.taken options.now next before told) }
-        ensures stops { IfErr result (λ fault. (fault ≡ Failure.Memory) ⊎ ((fault ≡ Failure.Writing)
-            × ((arguments : List Text) → promise.asks arguments options.now
-            → promise.keeps arguments ≡ true))) }
+        ensures stops { IfErr result (StopsAnyhow promise options.now) }
     {
         Ok(intake)
     }

@@ -2,9 +2,9 @@
 use Rattle.std.specs.Prelude.{◌≡◌, ℕ, ◌+◌, Bool, false, if◌then◌else◌, List, [], ◌∷◌, map, fold, count_by}
 use Rattle.fdb_history.specs.Register.{raises, changes, after_report}
 use Rattle.fdb_history.specs.declared.register.Record.{Record}
-use Rattle.fdb_history.specs.declared.event.Event.{Event}
-use Rattle.fdb_history.specs.declared.event.Placed.{Placed}
-use Rattle.fdb_history.specs.declared.event.Event.TheVariants.{Report, Read}
+use Rattle.fdb_history.specs.declared.register.Event.{Event}
+use Rattle.fdb_history.specs.declared.register.Placed.{Placed}
+use Rattle.fdb_history.specs.declared.register.Event.TheVariants.{Report, Read}
 
 -- The register after one event. A read changes nothing. (updateLiveCommittedVersion of
 -- masterserver, FoundationDB 7.1)

@@ -1,9 +1,9 @@
 -- The history of some logs, in a fixed order.
 use Rattle.std.specs.Prelude.{ℕ, ◌+◌, ◌==◌, ◌&&◌, not, zero, suc, List, [], ◌∷◌, ◌++◌, map, filter, count_by}
 use Rattle.fdb_history.specs.Event.{is_change}
-use Rattle.fdb_history.specs.declared.event.Placed.{Placed}
+use Rattle.fdb_history.specs.declared.register.Placed.{Placed}
 use Rattle.fdb_history.specs.Log.{placed_from}
-use Rattle.fdb_history.specs.declared.event.Event.{Event}
+use Rattle.fdb_history.specs.declared.register.Event.{Event}
 use Rattle.fdb_history.specs.declared.log.ClientLog.{ClientLog}
 
 -- The register's events in the logs, by client and then by call. They are those of the clients from

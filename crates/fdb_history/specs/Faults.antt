@@ -4,7 +4,7 @@ use Rattle.std.specs.Prelude.{◌≡◌, ◌≢◌, ◌⊎◌, ℕ, Bool, zero, 
 use Rattle.std.specs.List.{flat_map}
 use Rattle.fdb_history.specs.Log.{calls_of, position_after_calls, answer_changes}
 use Rattle.fdb_history.specs.Register.{raises, changes, after_report}
-use Rattle.fdb_history.specs.declared.auditing.changes.PlacedChange.{PlacedChange}
+use Rattle.fdb_history.specs.declared.auditing.registers.PlacedChange.{PlacedChange}
 use Rattle.fdb_history.specs.declared.log.Call.{Call}
 use Rattle.fdb_history.specs.declared.log.CallAnswer.{CallAnswer}
 use Rattle.fdb_history.specs.declared.log.CallAnswer.TheVariants.{Version, Answered, Acked, Told, Refused}

@@ -7,8 +7,8 @@ use Rattle.fdb_history.specs.declared.log.CallAnswer.{CallAnswer}
 use Rattle.fdb_history.specs.declared.log.CallAnswer.TheVariants.{Version, Answered, Acked, Told, Refused}
 use Rattle.fdb_history.specs.declared.log.ClientLog.{ClientLog}
 use Rattle.fdb_history.specs.declared.register.Record.{Record}
-use Rattle.fdb_history.specs.declared.event.Event.{Event}
-use Rattle.fdb_history.specs.declared.event.Event.TheVariants.{Report, Read}
+use Rattle.fdb_history.specs.declared.register.Event.{Event}
+use Rattle.fdb_history.specs.declared.register.Event.TheVariants.{Report, Read}
 
 -- The version that an event shows its client: a read shows what was read, and a raise what it
 -- reported.

@@ -5,8 +5,8 @@ use Rattle.std.specs.List.{AllByRecursion}
 use Rattle.fdb_history.specs.Event.{stamped, IsLegal, change_count}
 use Rattle.fdb_history.specs.Log.{placed_from, calls_of, answer_changes}
 use Rattle.fdb_history.specs.declared.register.Record.{Record}
-use Rattle.fdb_history.specs.declared.event.Event.{Event}
-use Rattle.fdb_history.specs.declared.event.Event.TheVariants.{Report, Read}
+use Rattle.fdb_history.specs.declared.register.Event.{Event}
+use Rattle.fdb_history.specs.declared.register.Event.TheVariants.{Report, Read}
 use Rattle.fdb_history.specs.declared.log.Call.{Call}
 use Rattle.fdb_history.specs.declared.log.ClientLog.{ClientLog}
 

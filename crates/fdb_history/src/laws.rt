@@ -17,14 +17,14 @@ ghost use Rattle.fdb_history.specs.Laws.{HaveMinimaWithin, seen_at, reports_of};
 ghost use Rattle.fdb_history.specs.Linear.{IsLinear};
 ghost use Rattle.fdb_history.specs.Log.{calls_of, fresh_answers};
 ghost use Rattle.fdb_history.specs.Strays.{is_justified, is_same, logged_as};
-ghost use Rattle.fdb_history.specs.declared.grv.TagLimit.{TagLimit};
+ghost use Rattle.fdb_history.specs.declared.log.TagLimit.{TagLimit};
 ghost use Rattle.fdb_history.specs.declared.log.Call.{Call};
 ghost use Rattle.fdb_history.specs.declared.log.CallAnswer.TheVariants.{Acked, Version};
 ghost use Rattle.fdb_history.specs.declared.log.ClientLog.{ClientLog};
 ghost use Rattle.fdb_history.specs.declared.log.Input.TheVariants as input;
 ghost use Rattle.fdb_history.specs.declared.chain.Ask.{Ask};
 ghost use Rattle.fdb_history.specs.declared.chain.Issued.{Issued};
-ghost use Rattle.fdb_history.specs.declared.event.Event.{Event};
+ghost use Rattle.fdb_history.specs.declared.register.Event.{Event};
 ghost use Rattle.fdb_history.specs.declared.register.Record.{Record};
 ghost use Rattle.fdb_history.specs.declared.register.TheConstants.{MAX_VERSION};
 
@@ -146,8 +146,8 @@ pub fn kept_is_first()
         → answer_to chain ask ≡ Ok (record answer { fresh = false }) }
 {}
 
-/// What a proxy's number stands to is decided by the answers to that proxy alone: its latest number,
-/// and the answer that is kept under one.
+/// The answers to a proxy alone decide what its latest number is, and which answer is kept under a
+/// number of its own: the answers to other proxies change neither.
 pub fn own_answers_decide()
     ensures latest { (proxy : ℕ) (answers : List Issued)
         → latest proxy (filter (λ answer. answer.proxy == proxy) answers)

@@ -10,25 +10,15 @@
 
 mod auditing;
 mod chain;
-mod event;
-mod fault;
-mod gate;
-mod grv;
 pub mod laws;
 mod log;
 mod register;
-mod replies;
 mod sequence;
 mod service;
 
-pub use auditing::{audit, history_of};
-pub use chain::{Ask, Issued, MAX_STEP};
-pub use event::{Event, History};
-pub use fault::AuditFault;
-pub use gate::{Gate, OpenGate, Place};
-pub use grv::{GrvOpts, Priority, Tag, TagLimit};
-pub use log::{Call, CallAnswer, ClientLog, Input, Refusal};
-pub use register::{MAX_VERSION, Record, register_after};
-pub use replies::Replies;
+pub use auditing::{AuditFault, audit, history_of};
+pub use chain::{Ask, Issued, MAX_STEP, Replies};
+pub use log::{Call, CallAnswer, ClientLog, GrvOpts, Input, Priority, Refusal, Tag, TagLimit};
+pub use register::{Event, History, MAX_VERSION, Record, register_after};
 pub use sequence::Sequence;
-pub use service::Service;
+pub use service::{Gate, OpenGate, Place, Service};

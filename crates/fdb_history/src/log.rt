@@ -1,26 +1,85 @@
 //! The log of a client: each of its calls, with what it asked, had seen and was answered.
 
 use crate::chain::Issued;
-use crate::grv::{GrvOpts, TagLimit};
 use crate::register::Record;
 use crate::sequence::Sequence;
+use std::alloc::AllocError;
 use std::error::Error;
 use std::fmt;
+
+/// The priority of a request, and with it its queue at the GRV proxy (`TransactionPriority`).
+#[derive(Clone, Copy, Debug, PartialEq, Eq)]
+pub enum Priority {
+    /// `IMMEDIATE`: no rate holds such a request back, and it starts before all others.
+    System,
+    /// `DEFAULT`: the normal rate holds such a request back, and it starts before batch requests.
+    Default,
+    /// `BATCH`: both rates hold such a request back, and it is the first to be pushed out of a full
+    /// queue.
+    Batch,
+}
+
+/// The bytes of a transaction tag (`TransactionTag`).
+pub type Tag = Sequence<u8>;
+
+/// A throttle as a client is told of it (`ClientTagThrottleLimits`).
+#[derive(Clone, Debug, Drop, PartialEq, Eq)]
+pub struct TagLimit {
+    pub tag: Tag,
+    /// How many transactions with the tag may start a second (`tpsRate`).
+    pub rate: u64,
+    /// The moment from which on it holds no longer, in microseconds.
+    pub expires: u64,
+}
+
+/// What a client says with a request for a read version (`GetReadVersionRequest`).
+#[derive(Debug, Drop, PartialEq, Eq)]
+pub struct GrvOpts {
+    pub priority: Priority,
+    /// How many transactions the request stands for.
+    pub count: u64,
+    /// The transactions' tags, whose throttles the answer tells in this order.
+    pub tags: Sequence<Tag>,
+    /// Whether the client may go on when the database is locked.
+    pub lock_aware: bool,
+    /// The moment of the request, in microseconds.
+    pub at: u64,
+    /// Whether the read version is to be the minimum known committed version, and not the live
+    /// one. No queue looks at it. (this product's own)
+    pub use_min: bool,
+}
+
+impl Clone for GrvOpts {
+    ghost use Rattle.std.specs.Prelude.{◌≡◌};
+
+    ghost is_clone = { λ opts copy. copy ≡ opts };
+
+    fn clone(&self) -> Result<Self, AllocError> {
+        Ok(GrvOpts {
+            priority: self.priority,
+            count: self.count,
+            tags: self.tags.clone()?,
+            lock_aware: self.lock_aware,
+            at: self.at,
+            use_min: self.use_min,
+        })
+    }
+}
 
 /// What a client called. It asks as the commit proxy that has its own number.
 #[derive(Debug, Drop)]
 pub enum Input {
-    /// It asked a GRV proxy for a read version.
+    /// The client asked a GRV proxy for a read version.
     Grv(GrvOpts),
-    /// It asked the sequencer for a commit version, for the first time or again.
+    /// The client asked the sequencer for a commit version, for the first time or again.
     Ask {
         num: u64,
-        /// It needs no answer up to this number any more.
+        /// The client needs no answer up to this number any more.
         processed: u64,
         /// The moment of the request, in microseconds.
         at: u64,
     },
-    /// It reported the commit version that it got under a number.
+    /// The client reported the commit version that it had got under the number `num`.
     Report {
         num: u64,
         /// Whether the database is locked from this version on.
@@ -30,11 +89,11 @@ pub enum Input {
         /// The minimum known committed version, 0 where none is told.
         min_known: u64,
     },
-    /// It told another client what it has seen.
+    /// The client told another client what it has seen.
     Tell {
         to: u32,
     },
-    /// It learnt what another client had seen.
+    /// The client learnt what another client had seen.
     Learn {
         from: u32,
     },
@@ -60,7 +119,8 @@ pub enum CallAnswer {
         rec: Record,
         /// Whether the report raised the live committed version.
         raised: bool,
-        /// Whether it raised that or the minimum known committed version.
+        /// Whether the report raised the live committed version or the minimum known committed
+        /// version.
         changed: bool,
     },
     /// A tell or a learn was done.
@@ -135,8 +195,8 @@ pub struct Call {
     pub input: Input,
     /// The position that the client had come to before the call.
     pub asked: u64,
-    /// The position that it had come to after the call, at least as great unless the log has a
-    /// fault.
+    /// The position that the client had come to after the call, at least as great as `asked` unless
+    /// the log has a fault.
     pub position: u64,
     pub answer: CallAnswer,
 }

@@ -1,10 +1,11 @@
-//! The live committed version as a register, and what it is after a list of events.
+//! The live committed version as a register, the events of a history, and what the register is
+//! after a list of them.
 
 ghost use Rattle.std.specs.Prelude.{◌≡◌};
-ghost use Rattle.fdb_history.specs.Event.{register_after};
+ghost use Rattle.fdb_history.specs.Event.{register_after, is_change};
 ghost use Rattle.fdb_history.specs.Register.{after_report, changes, raises, version_for};
 
-use crate::event::Event;
+use crate::sequence::Sequence;
 use std::fmt;
 
 /// The greatest version: FoundationDB's versions are signed
@@ -25,7 +26,8 @@ pub struct Record {
     /// The metadata version, if there is one: a versionstamp, which is ten bytes.
     pub metadata: Option<[u8; 10]>,
     /// The minimum known committed version: each version up to it is known to be committed. It is
-    /// the greatest that was reported, and 0 before any report.
+    /// the greatest that was reported, or that of the record at the start, if no report has a
+    /// greater one.
     pub min_known: u64,
 }
 
@@ -167,5 +169,54 @@ impl fmt::Display for Record {
         let metadata = MetadataText(self.metadata);
         let min_known = MinText(self.min_known);
         write!(f, "{}{lock}{metadata}{min_known}", self.version)
+    }
+}
+
+/// One step of the register. Clients are numbered from 0,
+/// and so are the calls of each client's log.
+#[derive(Clone, Copy, Debug, PartialEq, Eq)]
+pub enum Event {
+    /// A client reported a record (`reportLiveCommittedVersion`),
+    /// and was told whether it raised the register, and whether it changed it.
+    Report {
+        client: u32,
+        /// The place of the call in the client's log.
+        call: u64,
+        /// The record as it was reported, whether or not it is newer than the register.
+        rec: Record,
+        /// Whether its version was greater than the register's.
+        raised: bool,
+        /// Whether its version or its minimum known committed version was greater.
+        changed: bool,
+    },
+    /// A client read the register, which stays as it was (`getLiveCommittedVersion`).
+    Read {
+        client: u32,
+        /// The place of the call in the client's log.
+        call: u64,
+        /// The whole record that the register held.
+        rec: Record,
+    },
+}
+
+/// An event and its position: the number of changes up to and including it.
+#[derive(Clone, Copy)]
+pub(crate) struct Placed {
+    pub(crate) event: Event,
+    pub(crate) position: u64,
+}
+
+/// Events, one after another, that explain the replies of a run.
+#[derive(Debug, Drop)]
+pub struct History {
+    pub events: Sequence<Event>,
+}
+
+impl Event {
+    /// Whether it is a report that changed the register.
+    pub(crate) fn is_change(&self) -> bool
+        ensures { result ≡ is_change self.now }
+    {
+        matches!(self, Event::Report { changed: true, .. })
     }
 }

@@ -8,9 +8,8 @@ use Rattle.fdb_lines.specs.declared.effect.Effect.{Effect}
 use Rattle.fdb_lines.specs.declared.effect.Effect.TheVariants.{Reports}
 use Rattle.fdb_lines.specs.declared.fault.Fault.TheVariants.{Order, NotAbove, Twice}
 use Rattle.fdb_lines.specs.Explained.{OthersMay, precedes, taken, IsMoment, Explains}
-use Rattle.fdb_lines.specs.Faults.{IsFaultless}
+use Rattle.fdb_lines.specs.Faults.{IsFaultless, draws_again, draws_it, reports_it}
 use Rattle.fdb_lines.specs.Order.{Item, ask_item, shared_item, take_item, needs_ask, needs_report, sorted, history, IsRanked}
-use Rattle.fdb_lines.specs.Reasons.{draws_again, draws_it, reports_it}
 use Rattle.fdb_lines.proofs.Numbers.{some_find, none_at}
 use Rattle.fdb_lines.proofs.Sorted.{In, KeyLess, IsSortedOf, put_if_sorted, index_of, places, effect_at}
 use Rattle.fdb_lines.proofs.Facts.{shown_known, drawn_known, known_known, no_stray, no_wrong, asked_above}

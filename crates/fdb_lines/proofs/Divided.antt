@@ -1,7 +1,8 @@
 -- What is found of the parts of a log that is divided by its keys is what is found of all of it.
 use Rattle.std.proofs.Common.{◌≡◌, ◌∙◌, ℕ, zero, suc, ◌==◌, ◌<◌, ◌≤◌, Bool, true, false, cond, List, [], ◌∷◌, ◌++◌, Option, None, length, map, slice_index, refl, ap, sym, subst, inl, inr, arith, append-nil}
 use Rattle.std.specs.Prelude.{IsPermutation}
-use Rattle.std.specs.List.{All, filter}
+use Rattle.std.specs.Option.{option_eq}
+use Rattle.std.specs.List.{filter}
 use Rattle.std.proofs.lemmas.Bool.{cases_lt}
 use Rattle.std.proofs.lemmas.Bool.Decides.{nat_tests}
 use Rattle.std.proofs.lemmas.List.{get_or-map, length-map}
@@ -12,7 +13,7 @@ use Rattle.fdb_lines.specs.declared.opts.AuditOpts.{AuditOpts}
 use Rattle.fdb_lines.specs.Audit.{case_of}
 use Rattle.fdb_lines.specs.Carried.{places_where}
 use Rattle.fdb_lines.specs.Divided.{faults_apart, faults_by_part, places_in}
-use Rattle.fdb_lines.specs.Keys.{case_of_key, faults_by_key, key_at, placed_found, places_below, places_of, same_key}
+use Rattle.fdb_lines.specs.Keys.{case_of_key, faults_by_key, key_at, placed_found, places_below}
 use Rattle.fdb_lines.specs.Lines.{Lines, line_at, lines_in, part_of}
 use Rattle.fdb_lines.specs.Listing.{faults_of}
 use Rattle.fdb_lines.specs.StandByKey.{keys_in}
@@ -47,7 +48,7 @@ one_gone p n false is = refl
 
 module _ (rule : Option ℕ → ℕ) (keys : List (Option ℕ)) (q : Option ℕ) where
   abbrev of_key : ℕ → Bool
-  of_key k = same_key (key_at keys k) q
+  of_key k = option_eq ◌==◌ (key_at keys k) q
 
   abbrev of_part : ℕ → ℕ → Bool
   of_part part k = rule (key_at keys k) == part
@@ -79,11 +80,11 @@ module _ (log : Lines) (keys : List (Option ℕ)) (opts : AuditOpts) (q : Option
 
   apart_at : (places : List ℕ) → at_key keys q (faults_apart log keys opts places) ≡ found_at (its keys places q)
   apart_at places =
-      filter_mapped (λ (one : Found). same_key (key_at keys one.line) q) (placed_found places) found
-      ∙ (ap (map (placed_found places)) (filter_same (λ (one : Found). same_key (key_at keys (slice_index places one.line)) q) (λ (one : Found). same_key (key_at part_keys one.line) q) found
+      filter_mapped (λ (one : Found). option_eq ◌==◌ (key_at keys one.line) q) (placed_found places) found
+      ∙ (ap (map (placed_found places)) (filter_same (λ (one : Found). option_eq ◌==◌ (key_at keys (slice_index places one.line)) q) (λ (one : Found). option_eq ◌==◌ (key_at part_keys one.line) q) found
       (λ k d lt.
       let inside = at_lines part part_keys opts (length part.lines) k d lt in
-      ap (λ key. same_key key q) (sym (get_or-map (key_at keys) places _ 0 None (omega (arith, inside, size)))))
+      ap (λ key. option_eq ◌==◌ key q) (sym (get_or-map (key_at keys) places _ 0 None (omega (arith, inside, size)))))
       ∙ kept_of_key part part_keys opts q (many keys places q ∙ sym size))
       ∙ (placed_on places mine (faults_of (case_of_key part part_keys opts q)) (λ k d lt.
       let less = all_below (case_of_key part part_keys opts q) (length (lines_in part.lines mine)) k d lt in
@@ -124,7 +125,7 @@ module _ (log : Lines) (keys : List (Option ℕ)) (opts : AuditOpts) (q : Option
 
     more : (n : ℕ) → at_key keys q (faults_by_part log keys opts rule (suc n))
         ≡ at_key keys q (faults_by_part log keys opts rule n) ++ at_key keys q (faults_apart log keys opts (places_in rule keys n))
-    more n = filter-append (λ (found : Found). same_key (key_at keys found.line) q) (faults_by_part log keys opts rule n) (faults_apart log keys opts (places_in rule keys n))
+    more n = filter-append (λ (found : Found). option_eq ◌==◌ (key_at keys found.line) q) (faults_by_part log keys opts rule n) (faults_apart log keys opts (places_in rule keys n))
 
     none_before : (n : ℕ) → n ≤ rule q → at_key keys q (faults_by_part log keys opts rule n) ≡ []
     none_before zero le = refl

@@ -4,9 +4,8 @@ use Rattle.std.proofs.lemmas.Bool.{and_parts, and_from}
 use Rattle.std.proofs.lemmas.Bool.Decides.{nat_tests}
 use Rattle.fdb_lines.specs.Lines.{Read, Report, Case, kind_at, version_at, client_at, may_be_same_client, draws, reports, shows}
 use Rattle.fdb_lines.specs.declared.fault.Fault.TheVariants.{Order, Wrong, NotAbove, Stray}
-use Rattle.fdb_lines.specs.Faults.{IsFaultless, knows, last, is_reported, is_drawn}
+use Rattle.fdb_lines.specs.Faults.{IsFaultless, knows, last, is_reported, is_drawn, draws_it}
 use Rattle.fdb_lines.specs.Order.{needs_ask, needs_report, IsRanked}
-use Rattle.fdb_lines.specs.Reasons.{draws_it}
 use Rattle.fdb_lines.proofs.Numbers.{greatest_bound, greatest_least, some_at, some_find}
 
 -- whether a line raises the register to a version

@@ -1,4 +1,5 @@
 -- What was found at the lines of each key, key by key and then sorted, is what stands in the whole log line by line.
+use Rattle.std.specs.Option.{option_eq}
 use Rattle.std.proofs.Common.{◌≡◌, ◌≢◌, ◌↔◌, ◌==◌, ℕ, zero, suc, ◌+◌, ◌<◌, ◌≤◌, nat_lt, Bool, true, false, cond, List, [], ◌∷◌, ◌++◌, Option, None, length, map, take, slice_index, get_or, refl, ap, sym, subst, ◌∙◌, inl, inr, arith, append-nil, length-append}
 use Rattle.std.specs.List.{All, filter, flat_map}
 use Rattle.std.specs.List.Sorted.{ties, IsNonDecreasingBy, IsStableBy}
@@ -16,7 +17,7 @@ use Rattle.fdb_lines.specs.declared.opts.AuditOpts.{AuditOpts}
 use Rattle.fdb_lines.specs.declared.reason.Finding.{Finding}
 use Rattle.fdb_lines.specs.declared.reason.Reason.TheVariants.{Unreported}
 use Rattle.fdb_lines.specs.Audit.{case_of, AreExplained}
-use Rattle.fdb_lines.specs.Keys.{case_of_key, faults_at_by_key, faults_below_by_key, faults_by_key, key_at, keys_below, keys_of, lines_of_key, place_among, placed_finding, placed_found, placed_late, placed_reason, places_below, places_of, same_key, told_at, AreExplainedByKey, HasLateByKey, HasReasonByKey}
+use Rattle.fdb_lines.specs.Keys.{case_of_key, faults_at_by_key, faults_below_by_key, faults_by_key, key_at, keys_below, keys_of, lines_of_key, place_among, placed_finding, placed_found, placed_late, placed_reason, places_below, places_of, told_at, AreExplainedByKey, HasLateByKey, HasReasonByKey}
 use Rattle.fdb_lines.specs.Late.{HasLate, IsLateAt}
 use Rattle.fdb_lines.specs.Lines.{Case, Lines, line_at, part_of}
 use Rattle.fdb_lines.specs.Listing.{faults_at, faults_below, faults_of}
@@ -76,7 +77,7 @@ module _ (log : Lines) (opts : AuditOpts) (keys : List (Option ℕ)) where
   size_of : (key : Option ℕ) → length (lines_of_key log keys key).lines ≡ length (places_of keys key)
   size_of key = length-map (places_of keys key) (line_at log.lines)
 
-  of_one : (k : ℕ) → k < length keys → (key : Option ℕ) (b : Bool) → same_key key (key_at keys k) ≡ b
+  of_one : (k : ℕ) → k < length keys → (key : Option ℕ) (b : Bool) → option_eq ◌==◌ key (key_at keys k) ≡ b
       → filter (stands_at k) (faults_of_key log keys opts key) ≡ cond b (faults_at_by_key log keys opts k) []
   of_one k lt key true is =
       let own = key_at keys k in
@@ -92,23 +93,23 @@ module _ (log : Lines) (opts : AuditOpts) (keys : List (Option ℕ)) where
       let c = case_of_key log keys opts key in
       elsewhere c (places_of keys key) k (length c.lines) (λ i less e.
       let its = (of_key keys key (places_of keys key) refl i (omega arith)).1 in
-      both_ways _ is (subst (λ q. same_key q (key_at keys k) ≡ true) (ap (key_at keys) (sym e) ∙ its) (same_self (key_at keys k))))
+      both_ways _ is (subst (λ q. option_eq ◌==◌ q (key_at keys k) ≡ true) (ap (key_at keys) (sym e) ∙ its) (same_self (key_at keys k))))
 
   -- each of some keys that is that of the line brings its faults
   abbrev own_faults : ℕ → Option ℕ → List Found
-  own_faults k key = cond (same_key key (key_at keys k)) (faults_at_by_key log keys opts k) []
+  own_faults k key = cond (option_eq ◌==◌ key (key_at keys k)) (faults_at_by_key log keys opts k) []
 
   of_all : (k : ℕ) → k < length keys → (names : List (Option ℕ)) → filter (stands_at k) (faults_of_keys log keys opts names) ≡ flat_map (own_faults k) names
   of_all k lt [] = refl
   of_all k lt (key ∷ names) =
       filter-append (stands_at k) (faults_of_key log keys opts key) (faults_of_keys log keys opts names)
-      ∙ (λ i. of_one k lt key (same_key key (key_at keys k)) refl i ++ of_all k lt names i)
+      ∙ (λ i. of_one k lt key (option_eq ◌==◌ key (key_at keys k)) refl i ++ of_all k lt names i)
 
   -- and one of them is
   abbrev seen : ℕ → ℕ → List Found
   seen k n = cond (nat_lt 0 (length (places_below keys (key_at keys k) n))) (faults_at_by_key log keys opts k) []
 
-  key_more : (k n : ℕ) (b first : Bool) → same_key (key_at keys n) (key_at keys k) ≡ b → (place_among keys n == 0) ≡ first
+  key_more : (k n : ℕ) (b first : Bool) → option_eq ◌==◌ (key_at keys n) (key_at keys k) ≡ b → (place_among keys n == 0) ≡ first
       → flat_map (own_faults k) (keys_below keys n) ≡ seen k n
       → flat_map (own_faults k) (keys_below keys n) ++ flat_map (own_faults k) (cond first (key_at keys n ∷ []) [])
       ≡ cond (nat_lt 0 (length (places_below keys (key_at keys k) n ++ cond b (n ∷ []) []))) (faults_at_by_key log keys opts k) []
@@ -124,7 +125,7 @@ module _ (log : Lines) (opts : AuditOpts) (keys : List (Option ℕ)) where
       rw (some, before) (by first new among)
     where
       by : (first : Bool) → (place_among keys n == 0) ≡ first → place_among keys n ≡ length (places_below keys (key_at keys k) n)
-          → seen k n ++ flat_map (λ (key : Option ℕ). cond (same_key key (key_at keys k)) (faults_at_by_key log keys opts k) []) (cond first (key_at keys n ∷ []) []) ≡ faults_at_by_key log keys opts k
+          → seen k n ++ flat_map (λ (key : Option ℕ). cond (option_eq ◌==◌ key (key_at keys k)) (faults_at_by_key log keys opts k) []) (cond first (key_at keys n ∷ []) []) ≡ faults_at_by_key log keys opts k
       by true new among =
           let none : nat_lt 0 (length (places_below keys (key_at keys k) n)) ≡ false = grind (arith, nat_tests) in
           rw (none, same) (append-nil _)
@@ -136,7 +137,7 @@ module _ (log : Lines) (opts : AuditOpts) (keys : List (Option ℕ)) where
   of_names k zero = refl
   of_names k (suc n) =
       flat_map-append (own_faults k) (keys_below keys n) (cond (place_among keys n == 0) (key_at keys n ∷ []) [])
-      ∙ key_more k n (same_key (key_at keys n) (key_at keys k)) (place_among keys n == 0) refl refl (of_names k n)
+      ∙ key_more k n (option_eq ◌==◌ (key_at keys n) (key_at keys k)) (place_among keys n == 0) refl refl (of_names k n)
 
   -- the faults of all keys at a line are its own
   at_each : (k : ℕ) → k < length keys → filter (stands_at k) (faults_of_keys log keys opts (keys_of keys)) ≡ faults_at_by_key log keys opts k

@@ -1,6 +1,7 @@
 -- Lines that stand for all, each key by itself, do so with the lines that come since.
 use Rattle.std.proofs.Common.{◌≡◌, ◌∙◌, ℕ, suc, ◌<◌, ◌≤◌, Bool, true, false, cond, List, [], ◌∷◌, ◌++◌, Option, None, Some, length, map, get_or, refl, ap, sym, subst, inl, inr, arith, append-nil, append_assoc, length-append}
-use Rattle.std.specs.Prelude.{IsPermutation}
+use Rattle.std.specs.Prelude.{◌==◌, IsPermutation}
+use Rattle.std.specs.Option.{option_eq}
 use Rattle.std.specs.List.{All, filter, range_with_len}
 use Rattle.std.proofs.lemmas.Bool.{cases_lt}
 use Rattle.std.proofs.lemmas.List.{ext_get_or, get_or-append-add, get_or_append_left, get_or_push, length_push, length-map, map-append}
@@ -12,7 +13,7 @@ use Rattle.fdb_lines.specs.declared.line.Line.{Line}
 use Rattle.fdb_lines.specs.Before.{began}
 use Rattle.fdb_lines.specs.Carried.{StandFor}
 use Rattle.fdb_lines.specs.KeyParts.{lines_of_one}
-use Rattle.fdb_lines.specs.Keys.{key_at, place_among, placed_found, places_below, places_of, same_key}
+use Rattle.fdb_lines.specs.Keys.{key_at, place_among, placed_found, places_below, places_of}
 use Rattle.fdb_lines.specs.Lines.{line_at, lines_in, nobody}
 use Rattle.fdb_lines.specs.Renumbered.{AreSameButForNumbers}
 use Rattle.fdb_lines.specs.StandByKey.{StandForByKey, audited_from, kept_of, keys_in}
@@ -50,7 +51,7 @@ module _ (margin at : ℕ) (lines : List Line) (keys : List (Option ℕ)) (place
   new_key = get_or_push keys key None (length lines) stand.as_many
 
   old_below : (q : Option ℕ) (n : ℕ) → n ≤ length keys → places_below names q n ≡ places_below keys q n
-  old_below q n le = places_same names keys q q n (λ j lt. ap (λ k. same_key k q) (old_key j (omega arith)))
+  old_below q n le = places_same names keys q q n (λ j lt. ap (λ k. option_eq ◌==◌ k q) (old_key j (omega arith)))
 
   old_among : (k : ℕ) → k < length keys → place_among names k ≡ place_among keys k
   old_among k lt = ap (λ q. length (places_below names q k)) (old_key k lt) ∙ ap length (old_below (key_at keys k) k (omega arith))
@@ -62,23 +63,23 @@ module _ (margin at : ℕ) (lines : List Line) (keys : List (Option ℕ)) (place
       ∙ (ap length (old_below key (length lines) (omega arith))
       ∙ (ap (λ n. length (places_below keys key n)) (sym many) ∙ sym (length-map (places_of keys key) (line_at lines))))
 
-  kept_more : (q : Option ℕ) → kept_of names there q ≡ kept_of keys places q ++ cond (same_key key q) (length (lines_of_one lines keys key) ∷ []) []
+  kept_more : (q : Option ℕ) → kept_of names there q ≡ kept_of keys places q ++ cond (option_eq ◌==◌ key q) (length (lines_of_one lines keys key) ∷ []) []
   kept_more q =
-      let its = λ (k : ℕ). same_key (key_at keys k) q in
-      let now = λ (k : ℕ). same_key (key_at names k) q in
+      let its = λ (k : ℕ). option_eq ◌==◌ (key_at keys k) q in
+      let now = λ (k : ℕ). option_eq ◌==◌ (key_at names k) q in
       let last = length lines in
       ap (map (place_among names)) (filter-append now places (last ∷ [])
-      ∙ (λ i. filter_same now its places (λ k d lt. ap (λ key. same_key key q) (old_key (get_or places k d) (low k d lt))) i ++ cond (same_key (new_key i) q) (last ∷ []) []))
-      ∙ (map-append (place_among names) (filter its places) (cond (same_key key q) (last ∷ []) [])
-      ∙ (ap (λ (ps : List ℕ). ps ++ map (place_among names) (cond (same_key key q) (last ∷ []) []))
+      ∙ (λ i. filter_same now its places (λ k d lt. ap (λ key. option_eq ◌==◌ key q) (old_key (get_or places k d) (low k d lt))) i ++ cond (option_eq ◌==◌ (new_key i) q) (last ∷ []) []))
+      ∙ (map-append (place_among names) (filter its places) (cond (option_eq ◌==◌ key q) (last ∷ []) [])
+      ∙ (ap (λ (ps : List ℕ). ps ++ map (place_among names) (cond (option_eq ◌==◌ key q) (last ∷ []) []))
       (maps_same (place_among names) (place_among keys) (filter its places) (λ k d lt. old_among (get_or (filter its places) k d) (All-filter its (λ k. k < length keys) places low k d lt)))
       ∙ ap (λ (ps : List ℕ). kept_of keys places q ++ ps)
-      (one_if (place_among names) (same_key key q) last ∙ ap (λ n. cond (same_key key q) (n ∷ []) []) new_among)))
+      (one_if (place_among names) (option_eq ◌==◌ key q) last ∙ ap (λ n. cond (option_eq ◌==◌ key q) (n ∷ []) []) new_among)))
 
   each_more : (q : Option ℕ) → StandFor margin at (lines_of_one all names q) (kept_of names there q)
-  each_more q = by (same_key key q) refl
+  each_more q = by (option_eq ◌==◌ key q) refl
     where
-      by : (b : Bool) → same_key key q ≡ b → StandFor margin at (lines_of_one all names q) (kept_of names there q)
+      by : (b : Bool) → option_eq ◌==◌ key q ≡ b → StandFor margin at (lines_of_one all names q) (kept_of names there q)
       by true same =
           let mine = lines_of_one lines keys key in
           subst (λ k. StandFor margin at (lines_of_one all names k) (kept_of names there k)) (same_is key q same)
@@ -168,10 +169,10 @@ module _ (margin from : ℕ) (lines : List Line) (keys : List (Option ℕ)) (as_
       let now = audited_to margin from both both_keys in
       permuted_by_key (λ (found : Found). key_at both_keys found.line) (length was) was now (omega arith) (λ q.
       let of_q : at_key both_keys q was ≡ at_key both_keys q now =
-      filter_same (λ (found : Found). same_key (key_at both_keys found.line) q) (λ (found : Found). same_key (key_at keys found.line) q) was
+      filter_same (λ (found : Found). option_eq ◌==◌ (key_at both_keys found.line) q) (λ (found : Found). option_eq ◌==◌ (key_at keys found.line) q) was
       (λ k d lt.
       let is = audited_there margin from lines keys k d lt in
-      ap (λ key. same_key key q) (get_or_append_left keys more_keys None _ (omega (arith, is))))
+      ap (λ key. option_eq ◌==◌ key q) (get_or_append_left keys more_keys None _ (omega (arith, is))))
       ∙ (audited_to_of margin from lines keys q as_many
       ∙ (sym (to_tell_on margin from q lines keys more more_keys as_many same later) ∙ sym (audited_to_of margin from both both_keys q both_many))) in
       subst (IsPermutation (at_key both_keys q was)) of_q (IsPermutation-refl (at_key both_keys q was)))

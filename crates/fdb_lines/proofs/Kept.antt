@@ -1,11 +1,13 @@
 -- The faults at the lines of one key, among those of the whole log.
+use Rattle.std.specs.Prelude.{◌==◌}
+use Rattle.std.specs.Option.{option_eq}
 use Rattle.std.proofs.Common.{◌≡◌, ℕ, zero, suc, ◌<◌, ◌≤◌, Bool, true, false, cond, List, [], ◌∷◌, ◌++◌, Option, length, map, slice_index, refl, ap, sym, ◌∙◌, arith, add-one, append-nil}
 use Rattle.std.specs.List.{All, filter}
 use Rattle.std.proofs.lemmas.List.{length_push, map-append}
 use Rattle.std.proofs.lemmas.List.Elements.{All-head, All-tail, filter-append}
 use Rattle.fdb_lines.specs.declared.fault.Found.{Found}
 use Rattle.fdb_lines.specs.declared.opts.AuditOpts.{AuditOpts}
-use Rattle.fdb_lines.specs.Keys.{case_of_key, faults_at_by_key, faults_below_by_key, faults_by_key, key_at, place_among, placed_found, places_below, places_of, same_key, told_at}
+use Rattle.fdb_lines.specs.Keys.{case_of_key, faults_at_by_key, faults_below_by_key, faults_by_key, key_at, place_among, placed_found, places_below, places_of, told_at}
 use Rattle.fdb_lines.specs.Lines.{Lines, line_at}
 use Rattle.fdb_lines.specs.Listing.{faults_at, faults_below, faults_of}
 use Rattle.std.proofs.lemmas.List.{length-map}
@@ -29,10 +31,10 @@ placed_told places k j at (x ∷ xs) all =
     rw line (ap (λ (zs : List Found). told_at k x ∷ zs) (placed_told places k j at xs (All-tail (λ (found : Found). found.line ≡ j) x xs all)))
 
 abbrev Tests : List (Option ℕ) → Option ℕ → Found → Bool
-Tests keys key found = same_key (key_at keys found.line) key
+Tests keys key found = option_eq ◌==◌ (key_at keys found.line) key
 
 -- one line more
-line_more : (log : Lines) (keys : List (Option ℕ)) (opts : AuditOpts) (key : Option ℕ) (n : ℕ) (b : Bool) → n < length keys → same_key (key_at keys n) key ≡ b
+line_more : (log : Lines) (keys : List (Option ℕ)) (opts : AuditOpts) (key : Option ℕ) (n : ℕ) (b : Bool) → n < length keys → option_eq ◌==◌ (key_at keys n) key ≡ b
     → filter (Tests keys key) (faults_below_by_key log keys opts n) ≡ map (placed_found (places_of keys key)) (faults_below (case_of_key log keys opts key) (length (places_below keys key n)))
     → filter (Tests keys key) (faults_below_by_key log keys opts n) ++ filter (Tests keys key) (faults_at_by_key log keys opts n)
     ≡ map (placed_found (places_of keys key)) (faults_below (case_of_key log keys opts key) (length (places_below keys key n ++ cond b (n ∷ []) [])))
@@ -59,10 +61,10 @@ kept_below : (log : Lines) (keys : List (Option ℕ)) (opts : AuditOpts) (key : 
 kept_below log keys opts key zero le = refl
 kept_below log keys opts key (suc n) le =
     filter-append (Tests keys key) (faults_below_by_key log keys opts n) (faults_at_by_key log keys opts n)
-    ∙ line_more log keys opts key n (same_key (key_at keys n) key) (omega arith) refl (kept_below log keys opts key n (omega arith))
+    ∙ line_more log keys opts key n (option_eq ◌==◌ (key_at keys n) key) (omega arith) refl (kept_below log keys opts key n (omega arith))
 
 pub kept_of_key : (log : Lines) (keys : List (Option ℕ)) (opts : AuditOpts) (key : Option ℕ) → length keys ≡ length log.lines
-    → filter (λ (found : Found). same_key (key_at keys found.line) key) (faults_by_key log keys opts) ≡ map (placed_found (places_of keys key)) (faults_of (case_of_key log keys opts key))
+    → filter (λ (found : Found). option_eq ◌==◌ (key_at keys found.line) key) (faults_by_key log keys opts) ≡ map (placed_found (places_of keys key)) (faults_of (case_of_key log keys opts key))
 kept_of_key log keys opts key as_many =
     ap (λ n. filter (Tests keys key) (faults_below_by_key log keys opts n)) (sym as_many)
     ∙ (kept_below log keys opts key (length keys) (omega arith)

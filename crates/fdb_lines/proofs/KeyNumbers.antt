@@ -1,4 +1,4 @@
-use Rattle.std.proofs.Common.{◌≡◌, ◌<◌, None, Option, Some, arith, length, ℕ}
+use Rattle.std.proofs.Common.{◌≡◌, ◌<◌, Option, Some, arith, length, ℕ}
 use Rattle.std.proofs.lemmas.List.{length-map}
 use Rattle.std.specs.BTreeMap.{get}
 use Rattle.std.specs.Ordering.{nat_cmp}

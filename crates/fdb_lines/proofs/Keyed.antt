@@ -1,20 +1,21 @@
 -- The keys of lines, and the places of the lines of a key.
+use Rattle.std.specs.Option.{option_eq}
 use Rattle.std.proofs.Common.{◌≡◌, ◌≢◌, ◌==◌, ℕ, zero, suc, ◌<◌, ◌≤◌, Bool, true, false, cond, List, [], ◌∷◌, ◌++◌, ◌+◌, Option, None, Some, length, slice_index, refl, ap, sym, subst, ◌∙◌, inl, inr, arith, append-nil, length-append, zero-le}
 use Rattle.std.proofs.lemmas.Bool.{both_ways, cases_lt, eqb-true}
 use Rattle.std.proofs.lemmas.Bool.Decides.{nat_tests}
 use Rattle.std.proofs.lemmas.List.{get_or_append_left, get_or_push}
-use Rattle.fdb_lines.specs.Keys.{key_at, keys_below, place_among, places_below, places_of, same_key}
+use Rattle.fdb_lines.specs.Keys.{key_at, keys_below, place_among, places_below, places_of}
 use Rattle.fdb_lines.specs.private.Keys.{key_of, number_of}
 
 -- ---- keys and their numbers
 
-pub same_is : (a b : Option ℕ) → same_key a b ≡ true → a ≡ b
+pub same_is : (a b : Option ℕ) → option_eq ◌==◌ a b ≡ true → a ≡ b
 same_is None None h = refl
 same_is None (Some b) h = absurd (both_ways false refl h)
 same_is (Some a) None h = absurd (both_ways false refl h)
 same_is (Some a) (Some b) h = ap (λ (k : ℕ). Some k) (eqb-true a b h)
 
-pub same_self : (a : Option ℕ) → same_key a a ≡ true
+pub same_self : (a : Option ℕ) → option_eq ◌==◌ a a ≡ true
 same_self None = refl
 same_self (Some a) = grind (arith, nat_tests)
 
@@ -26,13 +27,13 @@ key_back (Some key) = refl
 
 -- a place has a line of the key, of which so many stand above
 abbrev pub IsPlaceOf : List (Option ℕ) → Option ℕ → ℕ → ℕ → ℕ → Type 0
-IsPlaceOf keys key n j k = (k < n) × (same_key (key_at keys k) key ≡ true) × (length (places_below keys key k) ≡ j)
+IsPlaceOf keys key n j k = (k < n) × (option_eq ◌==◌ (key_at keys k) key ≡ true) × (length (places_below keys key k) ≡ j)
 
 further : (keys : List (Option ℕ)) (key : Option ℕ) (n j k : ℕ) → IsPlaceOf keys key n j k → IsPlaceOf keys key (suc n) j k
 further keys key n j k is = let lt = is.0 in (omega arith, is.1, is.2)
 
 -- one place more, where a line of the key stands
-place_more : (keys : List (Option ℕ)) (key : Option ℕ) (n : ℕ) (b : Bool) → same_key (key_at keys n) key ≡ b
+place_more : (keys : List (Option ℕ)) (key : Option ℕ) (n : ℕ) (b : Bool) → option_eq ◌==◌ (key_at keys n) key ≡ b
     → ((j : ℕ) → j < length (places_below keys key n) → IsPlaceOf keys key n j (slice_index (places_below keys key n) j))
     → (j : ℕ) → j < length (places_below keys key n ++ cond b (n ∷ []) [])
     → IsPlaceOf keys key (suc n) j (slice_index (places_below keys key n ++ cond b (n ∷ []) []) j)
@@ -53,13 +54,13 @@ place_more keys key n false other are j lt =
 pub place_is : (keys : List (Option ℕ)) (key : Option ℕ) (n j : ℕ) → j < length (places_below keys key n)
     → IsPlaceOf keys key n j (slice_index (places_below keys key n) j)
 place_is keys key zero j lt = absurd (omega arith)
-place_is keys key (suc n) j lt = place_more keys key n (same_key (key_at keys n) key) refl (place_is keys key n) j lt
+place_is keys key (suc n) j lt = place_more keys key n (option_eq ◌==◌ (key_at keys n) key) refl (place_is keys key n) j lt
 
 -- each line of the key has a place
 abbrev pub HasPlace : List (Option ℕ) → Option ℕ → ℕ → List ℕ → Type 0
 HasPlace keys key k places = (length (places_below keys key k) < length places) × (slice_index places (length (places_below keys key k)) ≡ k)
 
-has_more : (keys : List (Option ℕ)) (key : Option ℕ) (n k : ℕ) (b : Bool) → same_key (key_at keys n) key ≡ b → same_key (key_at keys k) key ≡ true → k < suc n
+has_more : (keys : List (Option ℕ)) (key : Option ℕ) (n k : ℕ) (b : Bool) → option_eq ◌==◌ (key_at keys n) key ≡ b → option_eq ◌==◌ (key_at keys k) key ≡ true → k < suc n
     → (k < n → HasPlace keys key k (places_below keys key n)) → HasPlace keys key k (places_below keys key n ++ cond b (n ∷ []) [])
 has_more keys key n k true here same lt has =
     let before = places_below keys key n in
@@ -74,13 +75,13 @@ has_more keys key n k true here same lt has =
 has_more keys key n k false other same lt has =
     let old : k < n = elim (cases_lt k n) [
       | inl old ↦ old
-      | inr ge ↦ let at : k ≡ n = omega arith in absurd (both_ways _ other (sym (ap (λ m. same_key (key_at keys m) key) at) ∙ same))
+      | inr ge ↦ let at : k ≡ n = omega arith in absurd (both_ways _ other (sym (ap (λ m. option_eq ◌==◌ (key_at keys m) key) at) ∙ same))
     ] in
     rw append-nil (has old)
 
-pub has_place : (keys : List (Option ℕ)) (key : Option ℕ) (n k : ℕ) → same_key (key_at keys k) key ≡ true → k < n → HasPlace keys key k (places_below keys key n)
+pub has_place : (keys : List (Option ℕ)) (key : Option ℕ) (n k : ℕ) → option_eq ◌==◌ (key_at keys k) key ≡ true → k < n → HasPlace keys key k (places_below keys key n)
 has_place keys key zero k same lt = absurd (omega arith)
-has_place keys key (suc n) k same lt = has_more keys key n k (same_key (key_at keys n) key) refl same lt (λ old. has_place keys key n k same old)
+has_place keys key (suc n) k same lt = has_more keys key n k (option_eq ◌==◌ (key_at keys n) key) refl same lt (λ old. has_place keys key n k same old)
 
 -- no two of them are one
 pub apart : (keys : List (Option ℕ)) (key : Option ℕ) (n i j : ℕ) → i < length (places_below keys key n) → j < length (places_below keys key n)
@@ -98,7 +99,7 @@ of_key keys key places is j lt =
 -- ---- the keys, each once
 
 more_lines : (keys : List (Option ℕ)) (key : Option ℕ) (n : ℕ) → length (places_below keys key n) ≤ length (places_below keys key (suc n))
-more_lines keys key n = let sum = length-append (places_below keys key n) (cond (same_key (key_at keys n) key) (n ∷ []) []) in omega arith
+more_lines keys key n = let sum = length-append (places_below keys key n) (cond (option_eq ◌==◌ (key_at keys n) key) (n ∷ []) []) in omega arith
 
 line_here : (keys : List (Option ℕ)) (n : ℕ) → 0 < length (places_below keys (key_at keys n) (suc n))
 line_here keys n = let sum = length-append (places_below keys (key_at keys n) n) (n ∷ []) in rw (same_self (key_at keys n)) (omega arith)

@@ -1,10 +1,11 @@
 -- Logs that say the same, by whatever numbers of their names, are the same but for numbers.
+use Rattle.std.specs.Option.{option_eq}
 use Rattle.std.proofs.Common.{◌≡◌, ◌∙◌, ℕ, ◌==◌, List, Option, None, Some, option_map, refl, ap, sym, arith}
 use Rattle.std.proofs.lemmas.Bool.Decides.{nat_tests}
 use Rattle.std.proofs.lemmas.Option.{same_Some}
 use Rattle.fdb_lines.specs.declared.line.Line.{Line}
 use Rattle.fdb_lines.specs.Before.{one_client}
-use Rattle.fdb_lines.specs.Keys.{key_at, same_key}
+use Rattle.fdb_lines.specs.Keys.{key_at}
 use Rattle.fdb_lines.specs.Lines.{line_at}
 use Rattle.fdb_lines.specs.Renumbered.{AreNamedApart, AreSameButForNumbers, Naming, SayTheSame}
 
@@ -33,7 +34,7 @@ module _ (name other : ℕ → List ℕ) where
   one_by (Some a) (Some b) (Some x) (Some y) one two a_apart x_apart = equal_by a b x y (carried a b x y one two x_apart) (back a b x y one two a_apart)
 
   same_by : (a b x y : Option ℕ) → option_map name a ≡ option_map other x → option_map name b ≡ option_map other y → IsApart name a b → IsApart other x y
-      → same_key a b ≡ same_key x y
+      → option_eq ◌==◌ a b ≡ option_eq ◌==◌ x y
   same_by None None None None one two a_apart x_apart = refl
   same_by None None None (Some y) one two a_apart x_apart = absurd cc
   same_by None (Some b) None None one two a_apart x_apart = absurd cc

@@ -1,6 +1,7 @@
 -- Of each key is told, each fault once, what there is to tell.
 use Rattle.std.proofs.Common.{◌≡◌, ◌≢◌, ◌⊎◌, ℕ, zero, suc, ◌==◌, ◌<◌, ◌≤◌, nat_le, Bool, true, false, cond, ◌&&◌, ◌||◌, List, [], ◌∷◌, ◌++◌, Option, None, Some, IfSome, length, map, get_or, slice_index, refl, ap, sym, subst, ◌∙◌, inl, inr, arith, append-nil, length-append}
 use Rattle.std.specs.Prelude.{IsPermutation}
+use Rattle.std.specs.Option.{option_eq}
 use Rattle.std.specs.List.{All, AllPairs, filter}
 use Rattle.std.proofs.lemmas.Bool.{both_ways, cases_lt, false_from_ne_true}
 use Rattle.std.proofs.lemmas.Bool.Decides.{nat_tests}
@@ -18,7 +19,7 @@ use Rattle.fdb_lines.specs.declared.reason.Finding.{Finding}
 use Rattle.fdb_lines.specs.Before.{began}
 use Rattle.fdb_lines.specs.Carried.{with_times}
 use Rattle.fdb_lines.specs.KeyParts.{lines_of_one, names_of, HasSeenOne, HasStayed, HaveStayed}
-use Rattle.fdb_lines.specs.Keys.{case_of_key, faults_at_by_key, faults_below_by_key, faults_by_key, key_at, keys_of, place_among, placed_found, places_of, same_key, told_at as placed_at}
+use Rattle.fdb_lines.specs.Keys.{case_of_key, faults_at_by_key, faults_below_by_key, faults_by_key, key_at, keys_of, place_among, placed_found, places_of, told_at as placed_at}
 use Rattle.fdb_lines.specs.KeyWatch.{AreTold, GoesOn, HasEntry, HasNothingToTell, HasSeenByKey, IsToldOf}
 use Rattle.fdb_lines.specs.Lines.{Case, Lines, line_at, lines_in, nobody}
 use Rattle.fdb_lines.specs.Listing.{faults_at, faults_of}
@@ -153,36 +154,36 @@ entry_of to lines keys entry part is =
 
 -- ---- of a key, what entries tell
 
-all_of_key : (keys : List (Option ℕ)) (key q : Option ℕ) (told : List Found) → All (IsOf keys key) told → same_key key q ≡ true → at_key keys q told ≡ told
-all_of_key keys key q told are same = all_pass (λ (found : Found). same_key (key_at keys found.line) q) told (λ k d lt. ap (λ key. same_key key q) (are k d lt).its ∙ same)
+all_of_key : (keys : List (Option ℕ)) (key q : Option ℕ) (told : List Found) → All (IsOf keys key) told → option_eq ◌==◌ key q ≡ true → at_key keys q told ≡ told
+all_of_key keys key q told are same = all_pass (λ (found : Found). option_eq ◌==◌ (key_at keys found.line) q) told (λ k d lt. ap (λ key. option_eq ◌==◌ key q) (are k d lt).its ∙ same)
 
-none_of_key : (keys : List (Option ℕ)) (key q : Option ℕ) (told : List Found) → All (IsOf keys key) told → same_key key q ≡ false → at_key keys q told ≡ []
-none_of_key keys key q told are other = none_pass (λ (found : Found). same_key (key_at keys found.line) q) told (λ k d lt. ap (λ key. same_key key q) (are k d lt).its ∙ other)
+none_of_key : (keys : List (Option ℕ)) (key q : Option ℕ) (told : List Found) → All (IsOf keys key) told → option_eq ◌==◌ key q ≡ false → at_key keys q told ≡ []
+none_of_key keys key q told are other = none_pass (λ (found : Found). option_eq ◌==◌ (key_at keys found.line) q) told (λ k d lt. ap (λ key. option_eq ◌==◌ key q) (are k d lt).its ∙ other)
 
 abbrev Is_told : List (Option ℕ) → SettledKey → Type 0
 Is_told keys entry = All (IsOf keys entry.key) (told_by entry)
 
 in_two : (keys : List (Option ℕ)) (q : Option ℕ) (one more : List Found) → at_key keys q (one ++ more) ≡ at_key keys q one ++ at_key keys q more
-in_two keys q one more = filter-append (λ (found : Found). same_key (key_at keys found.line) q) one more
+in_two keys q one more = filter-append (λ (found : Found). option_eq ◌==◌ (key_at keys found.line) q) one more
 
-others_tell : (keys : List (Option ℕ)) (q : Option ℕ) (entries : List SettledKey) → All (Is_told keys) entries → All (λ (entry : SettledKey). same_key entry.key q ≡ false) entries
+others_tell : (keys : List (Option ℕ)) (q : Option ℕ) (entries : List SettledKey) → All (Is_told keys) entries → All (λ (entry : SettledKey). option_eq ◌==◌ entry.key q ≡ false) entries
     → at_key keys q (told_by_all entries) ≡ []
 others_tell keys q [] are others = refl
 others_tell keys q (entry ∷ entries) are others =
     in_two keys q (told_by entry) (told_by_all entries)
     ∙ (ap (λ (l : List Found). l ++ at_key keys q (told_by_all entries))
-    (none_of_key keys entry.key q (told_by entry) (All-head (Is_told keys) entry entries are) (All-head (λ (entry : SettledKey). same_key entry.key q ≡ false) entry entries others))
-    ∙ others_tell keys q entries (All-tail (Is_told keys) entry entries are) (All-tail (λ (entry : SettledKey). same_key entry.key q ≡ false) entry entries others))
+    (none_of_key keys entry.key q (told_by entry) (All-head (Is_told keys) entry entries are) (All-head (λ (entry : SettledKey). option_eq ◌==◌ entry.key q ≡ false) entry entries others))
+    ∙ others_tell keys q entries (All-tail (Is_told keys) entry entries are) (All-tail (λ (entry : SettledKey). option_eq ◌==◌ entry.key q ≡ false) entry entries others))
 
-pub apart : (a q : Option ℕ) → (a ≡ q → ⊥) → same_key a q ≡ false
-apart a q differ = false_from_ne_true (same_key a q) (λ is. differ (same_is a q is))
+pub apart : (a q : Option ℕ) → (a ≡ q → ⊥) → option_eq ◌==◌ a q ≡ false
+apart a q differ = false_from_ne_true (option_eq ◌==◌ a q) (λ is. differ (same_is a q is))
 
 entries_tell : (keys : List (Option ℕ)) (q : Option ℕ) (told : List Found) (entries : List SettledKey) → All (Is_told keys) entries
     → AllPairs (λ (one other : SettledKey). one.key ≢ other.key) entries → All (λ (entry : SettledKey). entry.key ≡ q → told_by entry ≡ told) entries
     → HasEntry entries q ⊎ (told ≡ []) → at_key keys q (told_by_all entries) ≡ told
 entries_tell keys q told [] are once tell (inl (k, lt, is)) = absurd (omega (arith, lt))
 entries_tell keys q told [] are once tell (inr none) = sym none
-entries_tell keys q told (entry ∷ entries) are once tell has = by (same_key entry.key q) refl (λ other.
+entries_tell keys q told (entry ∷ entries) are once tell has = by (option_eq ◌==◌ entry.key q) refl (λ other.
     entries_tell keys q told entries rest (λ i j d less lt. once (suc i) (suc j) d (omega (arith, less)) (omega (arith, lt)))
     (All-tail (λ (entry : SettledKey). entry.key ≡ q → told_by entry ≡ told) entry entries tell) (left other has))
   where
@@ -192,12 +193,12 @@ entries_tell keys q told (entry ∷ entries) are once tell has = by (same_key en
     rest : All (Is_told keys) entries
     rest = All-tail (Is_told keys) entry entries are
 
-    left : same_key entry.key q ≡ false → HasEntry (entry ∷ entries) q ⊎ (told ≡ []) → HasEntry entries q ⊎ (told ≡ [])
-    left other (inl (zero, lt, is)) = absurd (both_ways (same_key entry.key q) other (ap (λ key. same_key key q) is ∙ same_self q))
+    left : option_eq ◌==◌ entry.key q ≡ false → HasEntry (entry ∷ entries) q ⊎ (told ≡ []) → HasEntry entries q ⊎ (told ≡ [])
+    left other (inl (zero, lt, is)) = absurd (both_ways (option_eq ◌==◌ entry.key q) other (ap (λ key. option_eq ◌==◌ key q) is ∙ same_self q))
     left other (inl (suc k, lt, is)) = inl (k, omega (arith, lt), is)
     left other (inr none) = inr none
 
-    by : (b : Bool) → same_key entry.key q ≡ b → (same_key entry.key q ≡ false → at_key keys q (told_by_all entries) ≡ told) → at_key keys q (told_by entry ++ told_by_all entries) ≡ told
+    by : (b : Bool) → option_eq ◌==◌ entry.key q ≡ b → (option_eq ◌==◌ entry.key q ≡ false → at_key keys q (told_by_all entries) ≡ told) → at_key keys q (told_by entry ++ told_by_all entries) ≡ told
     by true same others =
         let key = same_is entry.key q same in
         in_two keys q (told_by entry) (told_by_all entries)
@@ -240,7 +241,7 @@ module _ (lines : List Line) (keys : List (Option ℕ)) (as_many : length keys �
   nobody_tells : (q : Option ℕ) (d : KeyPart) (told : List Found) → ((i : ℕ) → i < length parts → (get_or parts i d).key ≢ q) → All (λ (found : Found). found.line < length lines) told
       → at_key keys q told ≡ []
   nobody_tells q d told none came =
-      none_pass (λ (found : Found). same_key (key_at keys found.line) q) told (λ k e lt.
+      none_pass (λ (found : Found). option_eq ◌==◌ (key_at keys found.line) q) told (λ k e lt.
       let found = get_or told k e in
       let has = key_there found d (came k e lt) in
       apart (key_at keys found.line) q (λ is. none has.0 has.1 (has.2 ∙ is)))
@@ -346,16 +347,16 @@ settled_on lines keys as_many old new named each at margin entries told tell siz
 
 pub is_there : (names : List (Option ℕ)) (q : Option ℕ) → HasKey names q ⊎ ((i : ℕ) → i < length names → key_at names i ≢ q)
 is_there [] q = inr (λ i lt. absurd (omega (arith, lt)))
-is_there (name ∷ names) q = by (same_key name q) refl (is_there names q)
+is_there (name ∷ names) q = by (option_eq ◌==◌ name q) refl (is_there names q)
   where
-    by : (b : Bool) → same_key name q ≡ b → HasKey names q ⊎ ((i : ℕ) → i < length names → key_at names i ≢ q)
+    by : (b : Bool) → option_eq ◌==◌ name q ≡ b → HasKey names q ⊎ ((i : ℕ) → i < length names → key_at names i ≢ q)
         → HasKey (name ∷ names) q ⊎ ((i : ℕ) → i < length (name ∷ names) → key_at (name ∷ names) i ≢ q)
     by true same rest = inl (0, omega arith, same_is name q same)
     by false other (inl (i, lt, is)) = inl (suc i, omega (arith, lt), is)
     by false other (inr none) = inr none_now
       where
         none_now : (i : ℕ) → i < length (name ∷ names) → key_at (name ∷ names) i ≢ q
-        none_now zero lt is = both_ways (same_key name q) other (ap (λ key. same_key key q) is ∙ same_self q)
+        none_now zero lt is = both_ways (option_eq ◌==◌ name q) other (ap (λ key. option_eq ◌==◌ key q) is ∙ same_self q)
         none_now (suc i) lt is = none i (omega (arith, lt)) is
 
 pub and_other : (a b : Bool) → (a && b) ≡ (b && a)
@@ -369,7 +370,7 @@ pub audited_of : (margin : ℕ) (lines : List Line) (keys : List (Option ℕ)) (
     → at_key keys q (audited margin lines keys) ≡ to_tell margin None lines keys q
 audited_of margin lines keys q as_many =
     let all = faults_by_key (with_times lines) keys (opts_of margin) in
-    let its = λ (found : Found). same_key (key_at keys found.line) q in
+    let its = λ (found : Found). option_eq ◌==◌ (key_at keys found.line) q in
     let wanted = λ (found : Found). is_watched found.fault in
     let place = placed_found (places_of keys q) in
     let mine = lines_of_one lines keys q in
@@ -403,7 +404,7 @@ told_of_each lines keys as_many parts named each margin to entries told tell res
         let found = told_of margin (is_due 0 0 0 to) mine in
         let nothing : found ≡ [] = none_of_none (length mine) found (size ∙ empty) (told_there margin (is_due 0 0 0 to) mine) in
         let quiet : at_key keys q (told ++ told_by_all entries) ≡ [] =
-        none_pass (λ (found : Found). same_key (key_at keys found.line) q) (told ++ told_by_all entries) (λ k e lt.
+        none_pass (λ (found : Found). option_eq ◌==◌ (key_at keys found.line) q) (told ++ told_by_all entries) (λ k e lt.
         let one = get_or (told ++ told_by_all entries) k e in
         let there = told_came lines keys as_many parts named each to entries tell told came k e lt in
         let key = has_key keys (length keys) one.line (omega (arith, there, as_many)) in
@@ -454,8 +455,8 @@ module _ (lines : List Line) (keys : List (Option ℕ)) (as_many : length keys �
       by [] all = refl
       by (one ∷ found) all =
           let there = All-head (λ (one : Found). one.line < length lines) one found all in
-          ap (λ k. cond (same_key k q) (one ∷ at_key names q found) (at_key names q found)) (get_or_append_left keys (key ∷ []) None one.line (omega (arith, there, as_many)))
-          ∙ ap (λ (l : List Found). cond (same_key (key_at keys one.line) q) (one ∷ l) l) (by found (All-tail (λ (one : Found). one.line < length lines) one found all))
+          ap (λ k. cond (option_eq ◌==◌ k q) (one ∷ at_key names q found) (at_key names q found)) (get_or_append_left keys (key ∷ []) None one.line (omega (arith, there, as_many)))
+          ∙ ap (λ (l : List Found). cond (option_eq ◌==◌ (key_at keys one.line) q) (one ∷ l) l) (by found (All-tail (λ (one : Found). one.line < length lines) one found all))
 
   -- the lines of a key are as they were, or there is one more
   record IsMoreOf (q : Option ℕ) (mine : List Line) (places : List ℕ) : Type 0 where
@@ -466,12 +467,12 @@ module _ (lines : List Line) (keys : List (Option ℕ)) (as_many : length keys �
     only : All (λ (one : Line). one ≡ line) later
 
   of_each : (q : Option ℕ) → IsMoreOf q (lines_of_one more names q) (places_of names q)
-  of_each q = by (same_key key q) refl
+  of_each q = by (option_eq ◌==◌ key q) refl
     where
-      by : (b : Bool) → same_key key q ≡ b → IsMoreOf q (lines_of_one more names q) (places_of names q)
+      by : (b : Bool) → option_eq ◌==◌ key q ≡ b → IsMoreOf q (lines_of_one more names q) (places_of names q)
       by true same = subst (λ k. IsMoreOf k (lines_of_one more names k) (places_of names k)) (same_is key q same) (record {
         later = line ∷ [];
-        beyond = cond (same_key key key) (length keys ∷ []) [];
+        beyond = cond (option_eq ◌==◌ key key) (length keys ∷ []) [];
         lines_are = its_lines lines keys as_many line key;
         places_are = places_more keys key key;
         only = All-cons (λ (one : Line). one ≡ line) line [] refl (All-nil (λ (one : Line). one ≡ line));
@@ -613,7 +614,7 @@ filter_same {X} p q (x ∷ xs) same =
 pub audited_to_of : (margin to : ℕ) (lines : List Line) (keys : List (Option ℕ)) (q : Option ℕ) → length keys ≡ length lines
     → at_key keys q (audited_to margin to lines keys) ≡ to_tell margin (Some to) lines keys q
 audited_to_of margin to lines keys q as_many =
-    let its = λ (found : Found). same_key (key_at keys found.line) q in
+    let its = λ (found : Found). option_eq ◌==◌ (key_at keys found.line) q in
     let before = λ (found : Found). begins_before (Some to) (line_at lines found.line) in
     let places = places_of keys q in
     let mine = lines_of_one lines keys q in

@@ -1,4 +1,5 @@
 -- The parts of a log: one line more, and a key that comes in.
+use Rattle.std.specs.Option.{option_eq}
 use Rattle.std.proofs.Common.{◌≡◌, ◌≢◌, ◌==◌, ℕ, zero, suc, ◌+◌, ◌<◌, Bool, true, false, cond, List, [], ◌∷◌, ◌++◌, Option, None, Some, length, set, get_or, refl, ap, sym, subst, ◌∙◌, inl, inr, arith, append-nil, length-append}
 use Rattle.std.specs.List.{All}
 use Rattle.std.proofs.lemmas.Bool.{cases_eq, cases_lt, eqb-true, false_from_ne_true}
@@ -7,7 +8,7 @@ use Rattle.std.proofs.lemmas.List.{get_or_append_left, get_or_push, get_or-map, 
 use Rattle.std.proofs.lemmas.List.Elements.{All-append, All-cons, All-from_get_or, All-get_or, All-nil}
 use Rattle.std.proofs.lemmas.List.Sums.{sum_by_push, sum_by-set}
 use Rattle.fdb_lines.specs.declared.parts.Part.{Part}
-use Rattle.fdb_lines.specs.Keys.{key_at, keys_below, keys_of, place_among, places_below, places_of, same_key}
+use Rattle.fdb_lines.specs.Keys.{key_at, keys_below, keys_of, place_among, places_below, places_of}
 use Rattle.fdb_lines.specs.private.Keys.{key_of, keys_in, number_of, AreNumbered, IsPartMore, IsPlaceMore}
 use Rattle.fdb_lines.specs.private.KeySums.{lines_in_all}
 use Rattle.fdb_lines.proofs.Keyed.{each_once, has_lines, has_none, key_back, same_is, same_self}
@@ -119,7 +120,7 @@ place_here keys n number mid new are all lt at (part, key, places, is) = (
     other i less away =
         let size : length (keys_below keys (suc n)) ≡ length mid = ap length (sym are) ∙ length-map mid of in
         let had = All-get_or (IsPart keys n) mid i part less all in
-        let differs : same_key (key_at keys n) (get_or mid i part).key ≡ false = false_from_ne_true _ (λ same.
+        let differs : option_eq ◌==◌ (key_at keys n) (get_or mid i part).key ≡ false = false_from_ne_true _ (λ same.
         away (each_once keys (suc n) i number (omega arith) (omega arith)
         (ap (λ ks. key_at ks i) (sym are) ∙ (get_or-map of mid i part None less ∙ (sym (same_is _ _ same) ∙ (sym at ∙ ap (λ ks. key_at ks number) are)))))) in
         rw (differs, append-nil) had

@@ -1,12 +1,12 @@
 -- Lists that have the same elements, and the elements that pass a test.
 use Rattle.std.proofs.Common.{◌≡◌, ℕ, zero, suc, ◌≤◌, ◌==◌, Bool, true, false, cond, ◌&&◌, not, List, [], ◌∷◌, ◌++◌, Option, None, Some, length, map, refl, ap, sym, subst, ◌∙◌, arith}
 use Rattle.std.specs.Prelude.{IsPermutation}
+use Rattle.std.specs.Option.{option_eq}
 use Rattle.std.specs.List.{All, filter}
 use Rattle.std.proofs.lemmas.Bool.{and_right}
 use Rattle.std.proofs.lemmas.Bool.Decides.{nat_tests}
 use Rattle.std.proofs.lemmas.List.Elements.{All-head, All-tail, filter_agree}
 use Rattle.std.proofs.lemmas.List.Sorted.{IsPermutation-append, IsPermutation-cons, IsPermutation-middle, IsPermutation-refl, IsPermutation-sym, IsPermutation-trans, length_permutation}
-use Rattle.fdb_lines.specs.Keys.{same_key}
 use Rattle.fdb_lines.proofs.Keyed.{same_self}
 
 -- ---- of a list, what passes a test and what does not
@@ -59,7 +59,7 @@ filter_mapped p f (x ∷ xs) = filter_mapped_more f x (filter (λ x. p (f x)) xs
 
 -- ---- lists that have the same elements of each key have the same elements
 
-not_both : (a q r : Option ℕ) → (not (same_key a q) && same_key a r) ≡ (not (same_key q r) && same_key a r)
+not_both : (a q r : Option ℕ) → (not (option_eq ◌==◌ a q) && option_eq ◌==◌ a r) ≡ (not (option_eq ◌==◌ q r) && option_eq ◌==◌ a r)
 not_both None None None = refl
 not_both None None (Some r) = refl
 not_both None (Some q) None = refl
@@ -71,10 +71,10 @@ not_both (Some a) (Some q) (Some r) = grind (arith, nat_tests)
 
 module _ {X : Type 0} (key : X → Option ℕ) where
   abbrev Of : Option ℕ → X → Bool
-  Of q x = same_key (key x) q
+  Of q x = option_eq ◌==◌ (key x) q
 
   abbrev Others : Option ℕ → X → Bool
-  Others q x = not (same_key (key x) q)
+  Others q x = not (option_eq ◌==◌ (key x) q)
 
   none_there : (ys : List X) → ((q : Option ℕ) → IsPermutation {X = X} [] (filter (Of q) ys)) → IsPermutation [] ys
   none_there [] same = IsPermutation-refl []
@@ -91,16 +91,16 @@ module _ {X : Type 0} (key : X → Option ℕ) where
       subst (λ l. IsPermutation l (filter (λ x. false) ys)) (sym (none xs)) (subst (IsPermutation []) (sym (none ys)) (IsPermutation-refl []))
   if_other false r xs ys same = same
 
-  of_others : (q r : Option ℕ) (xs : List X) → filter (Of r) (filter (Others q) xs) ≡ filter (λ x. not (same_key q r) && Of r x) xs
+  of_others : (q r : Option ℕ) (xs : List X) → filter (Of r) (filter (Others q) xs) ≡ filter (λ x. not (option_eq ◌==◌ q r) && Of r x) xs
   of_others q r xs =
       filter_both (Of r) (Others q) xs
-      ∙ filter_agree (λ x. Others q x && Of r x) (λ x. not (same_key q r) && Of r x) (λ x. not_both (key x) q r) xs
+      ∙ filter_agree (λ x. Others q x && Of r x) (λ x. not (option_eq ◌==◌ q r) && Of r x) (λ x. not_both (key x) q r) xs
 
   same_others : (q r : Option ℕ) (xs ys : List X) → IsPermutation (filter (Of r) xs) (filter (Of r) ys)
       → IsPermutation (filter (Of r) (filter (Others q) xs)) (filter (Of r) (filter (Others q) ys))
   same_others q r xs ys same =
       subst (λ l. IsPermutation l (filter (Of r) (filter (Others q) ys))) (sym (of_others q r xs))
-      (subst (IsPermutation (filter (λ x. not (same_key q r) && Of r x) xs)) (sym (of_others q r ys)) (if_other (same_key q r) r xs ys same))
+      (subst (IsPermutation (filter (λ x. not (option_eq ◌==◌ q r) && Of r x) xs)) (sym (of_others q r ys)) (if_other (option_eq ◌==◌ q r) r xs ys same))
 
   pub permuted_by_key : (n : ℕ) (xs ys : List X) → length xs ≤ n → ((q : Option ℕ) → IsPermutation (filter (Of q) xs) (filter (Of q) ys)) → IsPermutation xs ys
   permuted_by_key n [] ys le same = none_there ys same
@@ -110,7 +110,7 @@ module _ {X : Type 0} (key : X → Option ℕ) where
       let all = x ∷ xs in
       let others = filter (Others q) xs in
       let few = fewer (Others q) xs in
-      let gone : length (cond (not (same_key q q)) (x ∷ others) others) ≡ length others = ap (λ b. length (cond (not b) (x ∷ others) others)) (same_self q) in
+      let gone : length (cond (not (option_eq ◌==◌ q q)) (x ∷ others) others) ≡ length others = ap (λ b. length (cond (not b) (x ∷ others) others)) (same_self q) in
       let rest = permuted_by_key n (filter (Others q) all) (filter (Others q) ys) (omega (arith, le, few, gone)) (λ r. same_others q r all ys (same r)) in
       IsPermutation-trans all (filter (Of q) all ++ filter (Others q) all) ys
       (IsPermutation-sym (filter (Of q) all ++ filter (Others q) all) all (both_parts (Of q) all))

@@ -1,4 +1,5 @@
 -- An audit is the same where clients and keys are numbered otherwise.
+use Rattle.std.specs.Option.{option_eq}
 use Rattle.std.proofs.Common.{◌≡◌, ◌∙◌, ℕ, zero, suc, max, ◌+◌, ◌==◌, ◌<◌, ◌≤◌, nat_le, nat_lt, Bool, true, false, cond, ◌&&◌, ◌||◌, not, List, [], ◌∷◌, ◌++◌, Option, None, Some, length, map, slice_index, refl, ap, sym, inl, inr, arith}
 use Rattle.std.specs.List.{filter}
 use Rattle.std.proofs.lemmas.Bool.{cases_lt, eqb-true}
@@ -11,10 +12,10 @@ use Rattle.fdb_lines.specs.declared.fault.Found.{Found}
 use Rattle.fdb_lines.specs.declared.line.Line.{Line}
 use Rattle.fdb_lines.specs.declared.opts.AuditOpts.{AuditOpts}
 use Rattle.fdb_lines.specs.Audit.{case_of}
-use Rattle.fdb_lines.specs.Before.{began, began_of, by_telling, comes_before, ended, ended_before, ended_of, has_heard, heard_by, is_of, one_client}
+use Rattle.fdb_lines.specs.Before.{began, began_of, comes_before, ended, ended_before, ended_of, has_heard, heard_by, is_of, one_client}
 use Rattle.fdb_lines.specs.Carried.{with_times}
 use Rattle.fdb_lines.specs.Faults.{greatest_of, is_drawn, is_own, is_raised, is_reported, is_twice, knows, last, some_below, stands}
-use Rattle.fdb_lines.specs.Keys.{faults_at_by_key, faults_below_by_key, faults_by_key, key_at, place_among, places_below, places_of, same_key, told_at}
+use Rattle.fdb_lines.specs.Keys.{faults_at_by_key, faults_below_by_key, faults_by_key, key_at, place_among, places_below, places_of, told_at}
 use Rattle.fdb_lines.specs.Lines.{Case, Lines, client_at, draws, is_commit, is_learn, is_read, is_report, kind_at, kind_of, line_at, lines_in, may_be_same_client, nobody, reports, shows, teller_of, version_at, version_of}
 use Rattle.fdb_lines.specs.Listing.{faults_at, found_if}
 use Rattle.fdb_lines.specs.Renumbered.{AreSameButForNumbers}
@@ -211,7 +212,7 @@ module _ (lines others : List Line) (alike : AreAlike lines others) (timed : Boo
 
 -- ---- the lines of a key
 
-pub places_same : (keys others : List (Option ℕ)) (key other : Option ℕ) (n : ℕ) → ((j : ℕ) → j < n → same_key (key_at keys j) key ≡ same_key (key_at others j) other)
+pub places_same : (keys others : List (Option ℕ)) (key other : Option ℕ) (n : ℕ) → ((j : ℕ) → j < n → option_eq ◌==◌ (key_at keys j) key ≡ option_eq ◌==◌ (key_at others j) other)
     → places_below keys key n ≡ places_below others other n
 places_same keys others key other zero same = refl
 places_same keys others key other (suc n) same = λ i.

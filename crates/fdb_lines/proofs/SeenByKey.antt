@@ -1,4 +1,5 @@
 -- What the watch of each key has seen, as lines come.
+use Rattle.std.specs.Option.{option_eq}
 use Rattle.std.proofs.Common.{◌≡◌, ◌≢◌, ◌==◌, ℕ, zero, suc, ◌<◌, ◌≤◌, true, false, cond, List, [], ◌∷◌, ◌++◌, Option, None, length, map, set, get_or, slice_index, refl, ap, sym, subst, ◌∙◌, inl, inr, add-one, arith, append-nil, length-append}
 use Rattle.std.specs.List.{All}
 use Rattle.std.proofs.lemmas.Bool.{cases_eq, cases_lt, false_from_ne_true}
@@ -10,7 +11,7 @@ use Rattle.fdb_lines.specs.declared.key_part.KeyPart.{KeyPart}
 use Rattle.fdb_lines.specs.declared.line.Line.{Line}
 use Rattle.fdb_lines.specs.declared.reason.Finding.{Finding}
 use Rattle.fdb_lines.specs.KeyParts.{lines_of_one, names_of, HasSeenOne, HasStayed, HaveStayed}
-use Rattle.fdb_lines.specs.Keys.{key_at, keys_below, keys_of, place_among, places_below, places_of, same_key}
+use Rattle.fdb_lines.specs.Keys.{key_at, keys_below, keys_of, place_among, places_below, places_of}
 use Rattle.fdb_lines.specs.Lines.{line_at, lines_in, nobody}
 use Rattle.fdb_lines.specs.Watch.{HasSeen}
 use Rattle.fdb_lines.specs.private.Keys.{number_of, AreNumbered}
@@ -25,16 +26,16 @@ key_is part = part.key
 below_same : (keys more : List (Option ℕ)) (q : Option ℕ) (n : ℕ) → n ≤ length keys → places_below (keys ++ more) q n ≡ places_below keys q n
 below_same keys more q zero le = refl
 below_same keys more q (suc n) le =
-    ap (λ (ps : List ℕ). ps ++ cond (same_key (key_at (keys ++ more) n) q) (n ∷ []) []) (below_same keys more q n (omega arith))
-    ∙ ap (λ k. places_below keys q n ++ cond (same_key k q) (n ∷ []) []) (get_or_append_left keys more None n (omega arith))
+    ap (λ (ps : List ℕ). ps ++ cond (option_eq ◌==◌ (key_at (keys ++ more) n) q) (n ∷ []) []) (below_same keys more q n (omega arith))
+    ∙ ap (λ k. places_below keys q n ++ cond (option_eq ◌==◌ k q) (n ∷ []) []) (get_or_append_left keys more None n (omega arith))
 
-pub places_more : (keys : List (Option ℕ)) (key q : Option ℕ) → places_of (keys ++ key ∷ []) q ≡ places_of keys q ++ cond (same_key key q) (length keys ∷ []) []
+pub places_more : (keys : List (Option ℕ)) (key q : Option ℕ) → places_of (keys ++ key ∷ []) q ≡ places_of keys q ++ cond (option_eq ◌==◌ key q) (length keys ∷ []) []
 places_more keys key q =
     let more = keys ++ key ∷ [] in
     let n = length keys in
     ap (places_below more q) (length_push keys key ∙ add-one n)
-    ∙ (ap (λ (ps : List ℕ). ps ++ cond (same_key (key_at more n) q) (n ∷ []) []) (below_same keys (key ∷ []) q n (omega arith))
-    ∙ ap (λ k. places_of keys q ++ cond (same_key k q) (n ∷ []) []) (get_or_push keys key None n refl))
+    ∙ (ap (λ (ps : List ℕ). ps ++ cond (option_eq ◌==◌ (key_at more n) q) (n ∷ []) []) (below_same keys (key ∷ []) q n (omega arith))
+    ∙ ap (λ k. places_of keys q ++ cond (option_eq ◌==◌ k q) (n ∷ []) []) (get_or_push keys key None n refl))
 
 names_same : (keys more : List (Option ℕ)) (n : ℕ) → n ≤ length keys → keys_below (keys ++ more) n ≡ keys_below keys n
 names_same keys more zero le = refl
@@ -83,10 +84,10 @@ module _ (lines : List Line) (keys : List (Option ℕ)) (as_many : length keys �
   inside q i lt = let is = (place_is keys q (length keys) i lt).0 in omega arith
 
   -- of another key there are none
-  pub other_places : (q : Option ℕ) → same_key key q ≡ false → places_of names q ≡ places_of keys q
+  pub other_places : (q : Option ℕ) → option_eq ◌==◌ key q ≡ false → places_of names q ≡ places_of keys q
   other_places q other = places_more keys key q ∙ (ap (λ b. places_of keys q ++ cond {A = List ℕ} b (length keys ∷ []) []) other ∙ append-nil (places_of keys q))
 
-  pub seen_other : (part : KeyPart) → same_key key part.key ≡ false → HasSeenOne lines keys part → HasSeenOne all names part
+  pub seen_other : (part : KeyPart) → option_eq ◌==◌ key part.key ≡ false → HasSeenOne lines keys part → HasSeenOne all names part
   seen_other part other has = record {
     seen = subst (HasSeen part.watch) (sym (ap (lines_in all) (other_places part.key other) ∙ in_more lines line (places_of keys part.key) (inside part.key))) has.seen;
     numbers = has.numbers ∙ ap (λ (ps : List ℕ). map (slice_index ps) part.watch.numbers.items) (sym (other_places part.key other));
@@ -209,7 +210,7 @@ module _ (lines : List Line) (keys : List (Option ℕ)) (as_many : length keys �
                 subst (HasSeenOne (lines ++ line ∷ []) (keys ++ key ∷ [])) (sym (ap (λ m. get_or (set parts place part) m part) same ∙ get_or-set_same parts place part part lt))
                 (seen_one_more lines keys as_many line key (get_or parts place part) part its (All-get_or (HasSeenOne lines keys) parts place part lt each) more)
             | inr away ↦
-                let differs : same_key key (get_or parts i part).key ≡ false = false_from_ne_true _ (λ same.
+                let differs : option_eq ◌==◌ key (get_or parts i part).key ≡ false = false_from_ne_true _ (λ same.
                 away (each_once keys (length keys) i place (omega (arith, size)) (omega (arith, size))
                 (ap (λ ks. key_at ks i) (sym are) ∙ (get_or-map key_is parts i part None inside ∙ (sym (same_is _ _ same) ∙ (sym at ∙ ap (λ ks. key_at ks place) are)))))) in
                 subst (HasSeenOne (lines ++ line ∷ []) (keys ++ key ∷ [])) (sym (get_or-set_other parts place i part part away))
@@ -244,7 +245,7 @@ module _ (lines : List Line) (keys : List (Option ℕ)) (as_many : length keys �
 
       others : All (HasSeenOne (lines ++ line ∷ []) (keys ++ key ∷ [])) parts
       others = λ i d lt.
-          let differs : same_key key (get_or parts i d).key ≡ false = false_from_ne_true _ (λ same.
+          let differs : option_eq ◌==◌ key (get_or parts i d).key ≡ false = false_from_ne_true _ (λ same.
           absent i (omega (arith, length-map parts key_is)) (get_or-map key_is parts i d None lt ∙ sym (same_is _ _ same))) in
           seen_other lines keys as_many line key (get_or parts i d) differs (each i d lt)
 

@@ -7,8 +7,7 @@ use Rattle.fdb_lines.specs.declared.effect.Effect.{Effect}
 use Rattle.fdb_lines.specs.declared.effect.Effect.TheVariants.{Asks, Reports, Reads}
 use Rattle.fdb_lines.specs.Explained.{Happens, ReportedBefore, IsMoment, Explains}
 use Rattle.fdb_lines.specs.declared.fault.Fault.TheVariants.{Order, Wrong, NotAbove, Twice, Stray}
-use Rattle.fdb_lines.specs.Faults.{stands, IsFaultless, knows, last, is_drawn, is_own, is_raised, is_reported}
-use Rattle.fdb_lines.specs.Reasons.{draws_it, reports_it, draws_again}
+use Rattle.fdb_lines.specs.Faults.{stands, IsFaultless, knows, last, is_drawn, is_own, is_raised, is_reported, draws_it, reports_it, draws_again}
 use Rattle.fdb_lines.proofs.Numbers.{greatest_among, some_at, some_find}
 use Rattle.fdb_lines.proofs.Facts.{raises_it, draws_own}
 

@@ -1,6 +1,7 @@
 -- What is told of lines with keys from a moment on, by lines that stand for them, is what is told of them by all.
 use Rattle.std.proofs.Common.{◌≡◌, ◌∙◌, ℕ, zero, suc, ◌<◌, ◌≤◌, Bool, true, false, cond, not, List, [], ◌∷◌, ◌++◌, Option, None, Some, length, map, get_or, slice_index, take, refl, ap, sym, subst, arith, add-one}
-use Rattle.std.specs.Prelude.{IsPermutation}
+use Rattle.std.specs.Prelude.{◌==◌, IsPermutation}
+use Rattle.std.specs.Option.{option_eq}
 use Rattle.std.specs.List.{All, filter}
 use Rattle.std.proofs.lemmas.List.{get_or-map, length-map, map-append, map-id, take_all}
 use Rattle.std.proofs.lemmas.List.Elements.{All-filter, All-from_get_or, filter_more, filter_passes}
@@ -10,7 +11,7 @@ use Rattle.fdb_lines.specs.declared.fault.Found.{Found}
 use Rattle.fdb_lines.specs.declared.line.Line.{Line}
 use Rattle.fdb_lines.specs.Carried.{with_times}
 use Rattle.fdb_lines.specs.KeyParts.{lines_of_one}
-use Rattle.fdb_lines.specs.Keys.{faults_by_key, key_at, place_among, placed_found, places_below, places_of, same_key}
+use Rattle.fdb_lines.specs.Keys.{faults_by_key, key_at, place_among, placed_found, places_below, places_of}
 use Rattle.fdb_lines.specs.Lines.{line_at, lines_in}
 use Rattle.fdb_lines.specs.StandByKey.{StandForByKey, audited_from, kept_of, keys_in}
 use Rattle.fdb_lines.specs.ToldByKey.{at_key, audited}
@@ -32,7 +33,7 @@ audited_there margin lines keys =
 pub audited_from_of : (margin from : ℕ) (lines : List Line) (keys : List (Option ℕ)) (q : Option ℕ) → length keys ≡ length lines
     → at_key keys q (audited_from margin from lines keys) ≡ map (placed_found (places_of keys q)) (told_of margin (is_due from from 0 None) (lines_of_one lines keys q))
 audited_from_of margin from lines keys q as_many =
-    let its = λ (found : Found). same_key (key_at keys found.line) q in
+    let its = λ (found : Found). option_eq ◌==◌ (key_at keys found.line) q in
     let later = λ (found : Found). not (begins_before (Some from) (line_at lines found.line)) in
     let places = places_of keys q in
     let mine = lines_of_one lines keys q in
@@ -56,7 +57,7 @@ one_if f false n = refl
 
 module _ (keys : List (Option ℕ)) (places : List ℕ) (q : Option ℕ) where
   abbrev pub is_its : ℕ → Bool
-  is_its k = same_key (key_at keys k) q
+  is_its k = option_eq ◌==◌ (key_at keys k) q
 
   abbrev pub its : List ℕ
   its = filter is_its places
@@ -67,10 +68,10 @@ module _ (keys : List (Option ℕ)) (places : List ℕ) (q : Option ℕ) where
   below_are : (n : ℕ) → n ≤ length places → map (slice_index places) (places_below (keys_in keys places) q n) ≡ filter is_its (take n places)
   below_are zero le = refl
   below_are (suc n) le =
-      map-append (slice_index places) (places_below (keys_in keys places) q n) (cond (same_key (key_at (keys_in keys places) n) q) (n ∷ []) [])
-      ∙ (ap (λ (ps : List ℕ). ps ++ map (slice_index places) (cond (same_key (key_at (keys_in keys places) n) q) (n ∷ []) [])) (below_are n (omega arith))
+      map-append (slice_index places) (places_below (keys_in keys places) q n) (cond (option_eq ◌==◌ (key_at (keys_in keys places) n) q) (n ∷ []) [])
+      ∙ (ap (λ (ps : List ℕ). ps ++ map (slice_index places) (cond (option_eq ◌==◌ (key_at (keys_in keys places) n) q) (n ∷ []) [])) (below_are n (omega arith))
       ∙ (ap (λ (ps : List ℕ). filter is_its (take n places) ++ ps)
-      (ap (λ key. map (slice_index places) (cond (same_key key q) (n ∷ []) [])) (get_or-map (key_at keys) places n 0 None (omega arith))
+      (ap (λ key. map (slice_index places) (cond (option_eq ◌==◌ key q) (n ∷ []) [])) (get_or-map (key_at keys) places n 0 None (omega arith))
       ∙ one_if (slice_index places) (is_its (slice_index places n)) n)
       ∙ (sym (filter_more is_its places n 0 (omega arith)) ∙ ap (λ m. filter is_its (take m places)) (add-one n))))
 
@@ -152,11 +153,11 @@ module _ (margin at from : ℕ) (lines : List Line) (keys : List (Option ℕ)) (
     by_them : at_key keys q (map (placed_found places) (audited_from margin from part part_keys)) ≡ map (placed_found (its keys places q)) (told_of margin due (lines_of_one part part_keys q))
     by_them =
         let found = audited_from margin from part part_keys in
-        filter_mapped (λ (one : Found). same_key (key_at keys one.line) q) (placed_found places) found
-        ∙ (ap (map (placed_found places)) (filter_same (λ (one : Found). same_key (key_at keys (slice_index places one.line)) q) (λ (one : Found). same_key (key_at part_keys one.line) q) found
+        filter_mapped (λ (one : Found). option_eq ◌==◌ (key_at keys one.line) q) (placed_found places) found
+        ∙ (ap (map (placed_found places)) (filter_same (λ (one : Found). option_eq ◌==◌ (key_at keys (slice_index places one.line)) q) (λ (one : Found). option_eq ◌==◌ (key_at part_keys one.line) q) found
         (λ k d lt.
         let is = All-filter (λ (found : Found). not (begins_before (Some from) (line_at part found.line))) (λ (found : Found). found.line < length part) (audited margin part part_keys) (audited_there margin part part_keys) k d lt in
-        ap (λ key. same_key key q) (sym (get_or-map (key_at keys) places _ 0 None (omega (arith, is, length-map places (line_at lines))))))
+        ap (λ key. option_eq ◌==◌ key q) (sym (get_or-map (key_at keys) places _ 0 None (omega (arith, is, length-map places (line_at lines))))))
         ∙ audited_from_of margin from part part_keys q part_many)
         ∙ (placed_on places (there keys places q) (told_of margin due (lines_of_one part part_keys q)) told_part
         ∙ ap (λ (ps : List ℕ). map (placed_found ps) (told_of margin due (lines_of_one part part_keys q))) (there_are keys places q)))

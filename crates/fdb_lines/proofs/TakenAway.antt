@@ -1,6 +1,7 @@
 -- Where two lists of faults have the same elements, and the same are taken from both, the rest have the same.
 use Rattle.std.proofs.Common.{◌≡◌, ◌∙◌, ℕ, zero, suc, ◌+◌, ◌*◌, ◌<◌, Bool, cond, List, [], ◌∷◌, ◌++◌, Option, Some, length, get_or, refl, ap, sym, subst, arith}
-use Rattle.std.specs.Prelude.{IsPermutation}
+use Rattle.std.specs.Prelude.{◌==◌, IsPermutation}
+use Rattle.std.specs.Option.{option_eq}
 use Rattle.std.specs.List.{filter, sum_by}
 use Rattle.std.proofs.lemmas.List.Elements.{filter_passes}
 use Rattle.std.proofs.lemmas.List.Sorted.{IsPermutation-refl, sum_by-IsPermutation}
@@ -9,7 +10,6 @@ use Rattle.std.proofs.lemmas.Option.{same_Some}
 use Rattle.fdb_lines.specs.declared.fault.Fault.{Fault}
 use Rattle.fdb_lines.specs.declared.fault.Fault.TheVariants.{Order, Wrong, NotAbove, Twice, Stray}
 use Rattle.fdb_lines.specs.declared.fault.Found.{Found}
-use Rattle.fdb_lines.specs.Keys.{same_key}
 use Rattle.fdb_lines.proofs.Keyed.{same_is}
 use Rattle.fdb_lines.proofs.Permuted.{permuted_by_key}
 
@@ -80,7 +80,7 @@ all_one (x ∷ xs) (y ∷ ys) many one = λ i.
 pub the_rest : (was now others : List Found) → IsPermutation (was ++ now) (was ++ others) → IsPermutation now others
 the_rest was now others same =
     permuted_by_key code (length now) now others (omega arith) (λ q.
-    let of = λ (found : Found). same_key (code found) q in
+    let of = λ (found : Found). option_eq ◌==◌ (code found) q in
     let mine = filter of now in
     let theirs = filter of others in
     let are = all_one mine theirs (as_many of was now others same) (λ k j d e lk lj.

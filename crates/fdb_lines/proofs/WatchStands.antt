@@ -1,6 +1,7 @@
 -- The lines that a watch keeps stand for all that came, each key by itself.
 use Rattle.std.proofs.Common.{◌≡◌, ◌≢◌, ◌∙◌, ℕ, zero, suc, ◌-◌, ◌<◌, ◌≤◌, Bool, true, cond, List, [], ◌∷◌, ◌++◌, Option, None, length, map, get_or, slice_index, refl, ap, sym, subst, inl, inr, arith, length-append}
-use Rattle.std.specs.Prelude.{IsPermutation}
+use Rattle.std.specs.Prelude.{◌==◌, IsPermutation}
+use Rattle.std.specs.Option.{option_eq}
 use Rattle.std.specs.List.{AllPairs, Contains, filter, flat_map, range_with_len}
 use Rattle.std.proofs.lemmas.Bool.{cases_lt}
 use Rattle.std.proofs.lemmas.List.{get_or_default, get_or-map, length-map, map-id}
@@ -16,7 +17,7 @@ use Rattle.fdb_lines.specs.Before.{began}
 use Rattle.fdb_lines.specs.Carried.{StandFor}
 use Rattle.fdb_lines.specs.KeyParts.{lines_of_one, names_of}
 use Rattle.fdb_lines.specs.KeyWatch.{HasSeenByKey}
-use Rattle.fdb_lines.specs.Keys.{key_at, keys_of, place_among, placed_found, places_below, places_of, same_key}
+use Rattle.fdb_lines.specs.Keys.{key_at, keys_of, place_among, placed_found, places_below, places_of}
 use Rattle.fdb_lines.specs.Lines.{line_at, lines_in}
 use Rattle.fdb_lines.specs.Renumbered.{AreSameButForNumbers}
 use Rattle.fdb_lines.specs.StandByKey.{StandForByKey, audited_from, keys_in, kept_of}
@@ -90,7 +91,7 @@ lines_rise keys key n (suc m) le = elim (cases_lt m n) [
   | inl more ↦ let is : n ≡ suc m = omega arith in let same = ap (λ k. length (places_below keys key k)) is in omega arith
   | inr less ↦
       let before = lines_rise keys key n m less in
-      let one = length-append (places_below keys key m) (cond (same_key (key_at keys m) key) (m ∷ []) []) in
+      let one = length-append (places_below keys key m) (cond (option_eq ◌==◌ (key_at keys m) key) (m ∷ []) []) in
       omega arith
 ]
 
@@ -132,7 +133,7 @@ module _ (watch : KeyWatch) (lines : List Line) (keys : List (Option ℕ)) (seen
   parts = watch.parts.items
 
   abbrev its : Option ℕ → ℕ → Bool
-  its q k = same_key (key_at keys k) q
+  its q k = option_eq ◌==◌ (key_at keys k) q
 
   -- what a part keeps is of its key, and rises
   abbrev IsOf : KeyPart → ℕ → Type 0
@@ -184,7 +185,7 @@ module _ (watch : KeyWatch) (lines : List Line) (keys : List (Option ℕ)) (seen
       subst (λ m. Contains (numbers_of (get_or parts m d)) z) at (by.2 d))
       (λ z has.
       let of = its_key i d lt z has in
-      in_filter (its q) places z (ap (λ k. same_key k q) (of.1 ∙ key) ∙ same_self q)
+      in_filter (its q) places z (ap (λ k. option_eq ◌==◌ k q) (of.1 ∙ key) ∙ same_self q)
       (Contains-permutation (flat_map numbers_of parts) places z are (from_part parts i d z lt has)))
 
   of_none : (q : Option ℕ) → ((i : ℕ) → i < length (names_of parts) → key_at (names_of parts) i ≢ q) → filter (its q) places ≡ []

@@ -1,15 +1,15 @@
 -- The orders that explain a log with keys, one for each key. (this product's own)
-use Rattle.std.specs.Prelude.{◌≡◌, ℕ, List, Option, map, option_map}
+use Rattle.std.specs.Prelude.{◌≡◌, ℕ, List, Option, map, option_map, slice_index}
 use Rattle.fdb_lines.specs.declared.key_order.KeyOrder.{KeyOrder}
 use Rattle.fdb_lines.specs.declared.opts.AuditOpts.{AuditOpts}
 use Rattle.fdb_lines.specs.declared.step.OrderStep.{OrderStep}
-use Rattle.fdb_lines.specs.Keys.{case_of_key, place_in, places_of}
+use Rattle.fdb_lines.specs.Keys.{case_of_key, places_of}
 use Rattle.fdb_lines.specs.Lines.{Lines}
 use Rattle.fdb_lines.specs.OrderSteps.{IsOrderOf}
 
 -- a step among the lines at some places, with its line told of the whole log
 abbrev pub placed_step : List ℕ → OrderStep → OrderStep
-placed_step places step = record { effect = step.effect; line = option_map (place_in places) step.line; shared = step.shared }
+placed_step places step = record { effect = step.effect; line = option_map (slice_index places) step.line; shared = step.shared }
 
 -- the steps of a key are an order of its lines, which are told at their places in the whole log
 abbrev pub IsOrderOfKey : Lines → List (Option ℕ) → AuditOpts → KeyOrder → Type 0

@@ -1,5 +1,6 @@
 -- Logs with keys: each key is a register of its own, with versions of its own. (this product's own)
-use Rattle.std.specs.Prelude.{◌≡◌, ℕ, zero, suc, ◌==◌, Bool, true, false, cond, List, [], ◌∷◌, ◌++◌, Option, None, Some, length, map, slice_index, slice_index_or}
+use Rattle.std.specs.Prelude.{◌≡◌, ℕ, zero, suc, ◌==◌, cond, List, [], ◌∷◌, ◌++◌, Option, None, Some, length, map, slice_index, slice_index_or}
+use Rattle.std.specs.Option.{option_eq}
 use Rattle.fdb_lines.specs.declared.fault.Found.{Found}
 use Rattle.fdb_lines.specs.declared.late.Late.{Late}
 use Rattle.fdb_lines.specs.declared.opts.AuditOpts.{AuditOpts}
@@ -17,12 +18,6 @@ use Rattle.fdb_lines.specs.Reasons.{IsReason}
 
 -- ---- the lines of a key
 
-abbrev pub same_key : Option ℕ → Option ℕ → Bool
-same_key None None = true
-same_key None (Some b) = false
-same_key (Some a) None = false
-same_key (Some a) (Some b) = a == b
-
 -- the key of the line at a place; lines that name none are of one register too
 abbrev pub key_at : List (Option ℕ) → ℕ → Option ℕ
 key_at keys k = slice_index_or keys k None
@@ -30,7 +25,7 @@ key_at keys k = slice_index_or keys k None
 -- the places below n at which a line of a key stands, in order
 abbrev pub places_below : List (Option ℕ) → Option ℕ → ℕ → List ℕ
 places_below keys key zero = []
-places_below keys key (suc n) = places_below keys key n ++ cond (same_key (key_at keys n) key) (n ∷ []) []
+places_below keys key (suc n) = places_below keys key n ++ cond (option_eq ◌==◌ (key_at keys n) key) (n ∷ []) []
 
 abbrev pub places_of : List (Option ℕ) → Option ℕ → List ℕ
 places_of keys key = places_below keys key (length keys)
@@ -80,28 +75,25 @@ placed_found places found = record { line = slice_index places found.line; fault
 
 -- ---- why they stand: the lines that a reason names are those at their places in the whole log
 
-abbrev pub place_in : List ℕ → ℕ → ℕ
-place_in places j = slice_index places j
-
 abbrev pub placed_means : List ℕ → Means → Means
 placed_means places Ended = Ended
 placed_means places Own = Own
-placed_means places (Learnt j) = Learnt (place_in places j)
+placed_means places (Learnt j) = Learnt (slice_index places j)
 
 abbrev pub placed_by : List ℕ → Option Witness → Option Witness
 placed_by places None = None
-placed_by places (Some by) = Some (record { line = place_in places by.line; means = placed_means places by.means })
+placed_by places (Some by) = Some (record { line = slice_index places by.line; means = placed_means places by.means })
 
 abbrev pub placed_reason : List ℕ → Reason → Reason
 placed_reason places (Known version by) = Known version (placed_by places by)
 placed_reason places Unreported = Unreported
-placed_reason places (Reported j version by) = Reported (place_in places j) version (placed_by places by)
-placed_reason places (Drawn j) = Drawn (place_in places j)
+placed_reason places (Reported j version by) = Reported (slice_index places j) version (placed_by places by)
+placed_reason places (Drawn j) = Drawn (slice_index places j)
 placed_reason places Undrawn = Undrawn
 
 abbrev pub placed_late : List ℕ → Option Late → Option Late
 placed_late places None = None
-placed_late places (Some late) = Some (record { line = place_in places late.line; by = late.by })
+placed_late places (Some late) = Some (record { line = slice_index places late.line; by = late.by })
 
 -- a finding among the lines at some places, told of the whole log
 abbrev pub placed_finding : List ℕ → Finding → Finding

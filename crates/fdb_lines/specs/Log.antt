@@ -1,5 +1,6 @@
 -- What a log is, and which lines it takes. (this product's own)
-use Rattle.std.specs.Prelude.{ℕ, ◌==◌, ◌&&◌, not, nat_le, Bool, true, false, cond, [], ◌∷◌, ◌++◌, Option, None, Some, length}
+use Rattle.std.specs.Prelude.{◌==◌, ◌&&◌, not, nat_le, false, cond, [], ◌∷◌, ◌++◌, Option, None, Some, is_none, length}
+use Rattle.std.specs.Bool.{beq}
 use Rattle.fdb_lines.specs.declared.line.Line.{Line}
 use Rattle.fdb_lines.specs.declared.log.Log.{Log}
 use Rattle.fdb_lines.specs.declared.log.LineError.{LineError}
@@ -12,14 +13,6 @@ lines_of log = record { timed = log.timed; lines = log.lines.items }
 abbrev pub added : Lines → Line → Lines
 added log line = record { timed = has_times line; lines = log.lines ++ line ∷ [] }
 
-abbrev pub same_bool : Bool → Bool → Bool
-same_bool true b = b
-same_bool false b = not b
-
-abbrev pub is_nobody : Option ℕ → Bool
-is_nobody None = true
-is_nobody (Some a) = false
-
 abbrev pub no_lines : Lines
 no_lines = record { timed = false; lines = [] }
 
@@ -27,6 +20,6 @@ no_lines = record { timed = false; lines = [] }
 abbrev pub refusal_of : Lines → Line → Option LineError
 refusal_of log line =
     cond (nat_le 4294967295 (length log.lines)) (Some TooMany)
-    (cond (not (length log.lines == 0) && not (same_bool log.timed (has_times line))) (Some SomeTimes)
+    (cond (not (length log.lines == 0) && not (beq log.timed (has_times line))) (Some SomeTimes)
     (cond (has_times line && is_learn (kind_of line.call)) (Some TimedLearn)
-    (cond (not (has_times line) && is_nobody line.client) (Some NoClient) None)))
+    (cond (not (has_times line) && is_none line.client) (Some NoClient) None)))

@@ -1,5 +1,5 @@
 -- Why a fault stands, in words of the log. (this product's own)
-use Rattle.std.specs.Prelude.{◌≡◌, ℕ, max, ◌+◌, ◌<◌, ◌≤◌, ◌==◌, ◌&&◌, ◌||◌, not, Bool, false, List, Option, None, Some, IsTrue, IsFalse, length}
+use Rattle.std.specs.Prelude.{◌≡◌, ℕ, max, ◌+◌, ◌<◌, ◌≤◌, ◌==◌, ◌&&◌, ◌||◌, Bool, false, List, Option, None, Some, IsTrue, IsFalse, length}
 use Rattle.fdb_lines.specs.declared.fault.Fault.{Fault}
 use Rattle.fdb_lines.specs.declared.fault.Fault.TheVariants.{Order, Wrong, NotAbove, Twice, Stray}
 use Rattle.fdb_lines.specs.declared.fault.Found.{Found}
@@ -12,9 +12,9 @@ use Rattle.fdb_lines.specs.declared.reason.Reason.{Reason}
 use Rattle.fdb_lines.specs.declared.reason.Reason.TheVariants.{Known, Unreported, Reported, Drawn, Undrawn}
 use Rattle.fdb_lines.specs.declared.reason.Witness.{Witness}
 use Rattle.fdb_lines.specs.Audit.{case_of, start_of}
-use Rattle.fdb_lines.specs.Lines.{Case, Kind, Lines, kind_at, version_at, line_at, draws, reports, shows, is_commit, is_learn, kind_of, version_of, teller_of}
+use Rattle.fdb_lines.specs.Lines.{Kind, Lines, version_at, line_at, draws, shows, is_learn, kind_of, version_of, teller_of}
 use Rattle.fdb_lines.specs.Before.{began, comes_before, ended, has_heard, one_client}
-use Rattle.fdb_lines.specs.Faults.{is_drawn, is_own, is_reported, knows, last}
+use Rattle.fdb_lines.specs.Faults.{draws_again, draws_it, is_drawn, is_own, is_reported, knows, last, reports_it}
 
 -- ---- a line of which a call knew
 
@@ -49,18 +49,6 @@ IsKnown log opts lets_know k version (Some by) = IsWitness log opts lets_know k 
 
 abbrev pub IsFirst : (ℕ → Bool) → ℕ → ℕ → Type 0
 IsFirst test n j = (j < n) × IsTrue (test j) × ((i : ℕ) → i < j → IsFalse (test i))
-
--- whether a line reports a version, or draws it
-abbrev pub reports_it : Case → ℕ → ℕ → Bool
-reports_it c v j = reports (kind_at c j) && version_at c j == v
-
-abbrev pub draws_it : Case → ℕ → ℕ → Bool
-draws_it c v j = draws (kind_at c j) && version_at c j == v
-
--- whether a line is another than this one and draws its version, and not both are commits
-abbrev pub draws_again : Case → ℕ → ℕ → Bool
-draws_again c k j =
-    not (j == k) && (draws (kind_at c j) && (version_at c j == version_at c k && not (is_commit (kind_at c j) && is_commit (kind_at c k))))
 
 -- which kinds have a version that others may know: one that was shown or drawn
 abbrev pub shows_or_draws : Kind → Bool

@@ -1,8 +1,9 @@
 -- Logs that are the same but for how clients and keys are numbered in them. (this product's own)
-use Rattle.std.specs.Prelude.{◌≡◌, ℕ, ◌<◌, List, Option, length, option_map}
+use Rattle.std.specs.Prelude.{◌==◌, ◌≡◌, ℕ, ◌<◌, List, Option, length, option_map}
+use Rattle.std.specs.Option.{option_eq}
 use Rattle.fdb_lines.specs.declared.line.Line.{Line}
 use Rattle.fdb_lines.specs.Before.{one_client}
-use Rattle.fdb_lines.specs.Keys.{key_at, same_key}
+use Rattle.fdb_lines.specs.Keys.{key_at}
 use Rattle.fdb_lines.specs.Lines.{line_at}
 
 -- line by line the same calls with the same times, and each line has its own key, or none
@@ -21,7 +22,7 @@ pub record AreSameButForNumbers (lines : List Line) (keys : List (Option ℕ)) (
   pub clients : (j k : ℕ) → j < length lines → k < length lines
       → one_client (line_at lines j).client (line_at lines k).client ≡ one_client (line_at others j).client (line_at others k).client
   pub keys_alike : (j k : ℕ) → j < length lines → k < length lines
-      → same_key (key_at keys j) (key_at keys k) ≡ same_key (key_at other_keys j) (key_at other_keys k)
+      → option_eq ◌==◌ (key_at keys j) (key_at keys k) ≡ option_eq ◌==◌ (key_at other_keys j) (key_at other_keys k)
 
 -- What the numbers of a log stand for: the names of its clients, and of its keys.
 pub record Naming : Type 0 where

@@ -9,15 +9,15 @@ use Rattle.fdb_lines.specs.declared.watch.WatchError.{WatchError}
 use Rattle.fdb_lines.specs.declared.watch.WatchError.TheVariants.{NoTimes, Line}
 
 abbrev pub fault_name : Fault → List ℕ
-fault_name Order = codes "Order "
-fault_name Wrong = codes "Wrong "
-fault_name NotAbove = codes "NotAbove "
-fault_name Twice = codes "Twice "
-fault_name Stray = codes "Stray "
+fault_name Order = codes "Order"
+fault_name Wrong = codes "Wrong"
+fault_name NotAbove = codes "NotAbove"
+fault_name Twice = codes "Twice"
+fault_name Stray = codes "Stray"
 
 -- a fault, by its name and its line, counted from 1
 abbrev pub found_text : Found → List ℕ
-found_text found = fault_name found.fault ++ decimal (found.line + 1)
+found_text found = fault_name found.fault ++ codes " " ++ decimal (found.line + 1)
 
 abbrev pub line_error_text : LineError → List ℕ
 line_error_text TooMany = codes "too many lines"

@@ -1,5 +1,6 @@
 -- What an audit that watches by key has told in all: each fault once. (this product's own)
-use Rattle.std.specs.Prelude.{ℕ, ◌<◌, ◌≤◌, All, IsPermutation, List, Option, Some, length, map}
+use Rattle.std.specs.Prelude.{◌==◌, ℕ, ◌<◌, ◌≤◌, All, IsPermutation, List, Option, Some, length, map}
+use Rattle.std.specs.Option.{option_eq}
 use Rattle.std.specs.List.{filter, flat_map}
 use Rattle.fdb_lines.specs.declared.fault.Found.{Found}
 use Rattle.fdb_lines.specs.declared.key_part.KeyPart.{KeyPart}
@@ -9,7 +10,7 @@ use Rattle.fdb_lines.specs.declared.line.Line.{Line}
 use Rattle.fdb_lines.specs.Before.{began}
 use Rattle.fdb_lines.specs.Carried.{with_times}
 use Rattle.fdb_lines.specs.KeyParts.{lines_of_one}
-use Rattle.fdb_lines.specs.Keys.{faults_by_key, key_at, placed_found, places_of, same_key}
+use Rattle.fdb_lines.specs.Keys.{faults_by_key, key_at, placed_found, places_of}
 use Rattle.fdb_lines.specs.Lines.{line_at}
 use Rattle.fdb_lines.specs.Reasons.{found_of}
 use Rattle.fdb_lines.specs.Watching.{begins_before, is_due, is_watched, opts_of, told_of}
@@ -23,7 +24,7 @@ told_by_all entries = flat_map told_by entries
 
 -- of what is told, that of the lines of a key
 abbrev pub at_key : List (Option ℕ) → Option ℕ → List Found → List Found
-at_key keys key told = filter (λ (found : Found). same_key (key_at keys found.line) key) told
+at_key keys key told = filter (λ (found : Found). option_eq ◌==◌ (key_at keys found.line) key) told
 
 -- what there is to tell of the lines of a key that began before a moment, or of all, at their places among all lines that came
 abbrev pub to_tell : ℕ → Option ℕ → List Line → List (Option ℕ) → Option ℕ → List Found

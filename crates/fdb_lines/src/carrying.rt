@@ -15,9 +15,12 @@ use crate::line::{Line, Operation};
 use crate::log::Log;
 use std::alloc::{AllocError, Global};
 
-/// The places of lines that stand for all of a log: whatever begins from a moment on knows as much
-/// by these. They are open, but for at most two: a call without a known end comes before none. An
-/// error only where memory is refused.
+/// The places, counted from 0, of lines that stand for all of a log: whatever begins from the
+/// moment `at` on knows by these lines as much as it knows by all. At most two of them are not
+/// open; a line is open where it began at that moment or later, or is known to have ended, but not
+/// by more than `margin` before it. A line without a known end may be left out, since it comes
+/// before no other. `margin` and `at` are in the unit of the log's times. An error says that memory
+/// was refused.
 ///
 /// Linear in how many lines there are.
 pub fn standing(alloc: Global, log: &Log, margin: u64, at: u64) -> Result<Vec<u32>, AllocError>

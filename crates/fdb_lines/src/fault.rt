@@ -7,7 +7,8 @@ use std::fmt;
 pub enum Fault {
     /// A stale read: below a version that its caller knew.
     Order,
-    /// A read of a version that is not there: nobody reported it, or all who did knew as much before.
+    /// A read of a version that is not there: nobody can have reported it, or each who reported it
+    /// knew that version, or a newer one, before.
     Wrong,
     /// A version was drawn that is not above all that its caller knew.
     NotAbove,
@@ -15,6 +16,23 @@ pub enum Fault {
     Twice,
     /// A report of a version that others drew, or that nobody can have drawn.
     Stray,
+}
+
+impl fmt::Display for Fault {
+    ghost use Rattle.std.specs.Prelude.{Some};
+    ghost use Rattle.fdb_lines.specs.Text.{fault_name};
+
+    ghost output = { λ fault. Some (fault_name fault) };
+
+    fn fmt<W: fmt::Write>(&self, f: &mut fmt::Formatter<W>) -> fmt::Result {
+        f.write_str(match self {
+            Fault::Order => "Order",
+            Fault::Wrong => "Wrong",
+            Fault::NotAbove => "NotAbove",
+            Fault::Twice => "Twice",
+            Fault::Stray => "Stray",
+        })
+    }
 }
 
 /// A fault, and the line at which it stands, counted from 0. What is printed counts from 1.
@@ -31,13 +49,6 @@ impl fmt::Display for Found {
     ghost output = { λ found. Some (found_text found) };
 
     fn fmt<W: fmt::Write>(&self, f: &mut fmt::Formatter<W>) -> fmt::Result {
-        let number = self.line as u64 + 1;
-        match self.fault {
-            Fault::Order => write!(f, "Order {number}"),
-            Fault::Wrong => write!(f, "Wrong {number}"),
-            Fault::NotAbove => write!(f, "NotAbove {number}"),
-            Fault::Twice => write!(f, "Twice {number}"),
-            Fault::Stray => write!(f, "Stray {number}"),
-        }
+        write!(f, "{} {}", self.fault, self.line as u64 + 1)
     }
 }

@@ -22,9 +22,10 @@ use std::thread::{Threads, join};
 /// stands, and of a stale read or a version that is not above others by how much it is late. There
 /// is none exactly where some history explains the lines. An error only where memory is refused.
 ///
-/// Where lines have keys, or none, each key is a register of its own, and lines without one are of
-/// one register too: the lines of each are judged as a log of their own, and told of the whole log.
-/// In a log without times what is learnt counts within each key alone.
+/// Where `keys` are given, they say for each line its key, or that it has none. Each key is then a
+/// register of its own, and the lines without a key are one register more: the lines of each
+/// register are judged as a log of their own, and their faults are told at their places in the
+/// whole log. In a log without times what is learnt counts within each key alone.
 ///
 /// `n log n` in how many lines there are, whatever the keys, and however many faults.
 pub fn findings(

@@ -14,8 +14,8 @@ pub struct KeyOrder {
 /// An order that explains all lines of a log, or one for each key.
 #[derive(Debug, Drop)]
 pub enum Order {
-    /// Of lines without keys.
+    /// The steps of one order that explains all lines, where they have no keys.
     One(Vec<OrderStep>),
-    /// In the order of the first lines of the keys.
+    /// An order for each key. They stand in the order of the keys' first lines.
     ByKey(Vec<KeyOrder>),
 }

@@ -26,9 +26,9 @@ use crate::watch::WatchError;
 use std::alloc::{AllocError, Global};
 use std::collections::BTreeMap;
 
-/// An audit that watches a log whose lines have keys, or none. Each key is a register of its own,
-/// and lines without one are of one register too: the lines of each are watched by a
-/// [`Watch`](crate::Watch) of their own.
+/// An audit that watches a log each line of which may have a key. Each key is a register of its
+/// own, and the lines without a key are one register more: the lines of each register are watched
+/// by a [`Watch`](crate::Watch) of their own.
 ///
 /// A push is logarithmic in the keys. A settling goes over the keys alone to which a line was added
 /// since they settled last, and those that still keep more than two lines, or one of which it was
@@ -55,7 +55,9 @@ impl KeyWatch {
     ghost use Rattle.fdb_lines.specs.KeyWatch.{refusal_in, IsJudgedFrom, IsRefusedFor};
     ghost use Rattle.fdb_lines.specs.ToldByKey.{audited, told_by_all, HasTold};
 
-    /// A watch that has seen no line.
+    /// A watch that has seen no line. Margin and horizon are in the unit of the times: the clocks
+    /// of two clients may be `margin` apart, and a line that comes late is judged if it began at
+    /// most `horizon` before the moment up to which its key has settled.
     pub fn new(alloc: Global, margin: u64, horizon: u64) -> Self
         ensures seen { HasSeenByKey result [] [] }
         ensures told { HasTold result [] [] [] }

@@ -1,8 +1,8 @@
 //! Logs with keys: each key is a register of its own, and its lines are judged by themselves.
 
-ghost use Rattle.std.specs.Prelude.{◌≡◌, ◌↔◌, ◌++◌, IfOk, OnOk, Some, length, map};
+ghost use Rattle.std.specs.Prelude.{◌≡◌, ◌↔◌, ◌++◌, IfOk, OnOk, Some, length, map, slice_index};
 ghost use Rattle.fdb_lines.specs.Judged.{AreAll};
-ghost use Rattle.fdb_lines.specs.Keys.{place_in, placed_by, placed_finding};
+ghost use Rattle.fdb_lines.specs.Keys.{placed_by, placed_finding};
 ghost use Rattle.fdb_lines.specs.Keys.{placed_late, placed_means, placed_reason};
 ghost use Rattle.fdb_lines.specs.Keys.{AreExplainedByKey};
 ghost use Rattle.fdb_lines.specs.Log.{lines_of};
@@ -133,7 +133,7 @@ fn placed_late(places: &[u32], late: Option<Late>) -> Option<Late>
 
 /// Where a line of some stands in the whole log; 0 where there is none.
 pub(crate) fn place_in(places: &[u32], line: u32) -> u32
-    ensures { result ≡ place_in places.now line }
+    ensures { result ≡ slice_index places.now line }
 {
     match places.get(line as usize) {
         Some(place) => *place,

@@ -15,11 +15,13 @@ use crate::opts::AuditOpts;
 /// By how much a call is late, and by which line.
 #[derive(Clone, Copy, Debug, PartialEq, Eq)]
 pub struct Late {
-    /// The line that outdates it and ended first, counted from 0: it shows a newer version than was
-    /// read, or shows or draws one that the version drawn is not above.
+    /// The first line to end, counted from 0, of those that outdate the call: such a line shows a
+    /// newer version than the call read, or shows or draws one that the version drawn by the call
+    /// is not above.
     pub line: u32,
-    /// The time from the end of that line to where the call began: the fault stands under each
-    /// lesser margin. It is 0 where the line had not ended by then.
+    /// The time from the end of `line` to where the call began, in the unit of the log's times: the
+    /// fault stands under each lesser margin. It is 0 where `line` had not ended when the call
+    /// began.
     pub by: u64,
 }
 

@@ -1,6 +1,7 @@
 //! Laws of the definitions. The functions do nothing: each stands for its contract.
 
-ghost use Rattle.std.specs.Prelude.{ℕ, ◌<◌, ◌≤◌, ◌≡◌, ◌≢◌, ◌↔◌, ◌++◌, ◌∷◌, [], List, Option};
+ghost use Rattle.std.specs.Prelude.{◌==◌, ℕ, ◌<◌, ◌≤◌, ◌≡◌, ◌≢◌, ◌↔◌, ◌++◌, ◌∷◌, [], List, Option};
+ghost use Rattle.std.specs.Option.{option_eq};
 ghost use Rattle.std.specs.Prelude.{length, map, not, slice_index, true, IfSome, IsTrue, None};
 ghost use Rattle.std.specs.Prelude.{◌-◌, IsPermutation, Some};
 ghost use Rattle.std.specs.List.{filter, flat_map, range_with_len};
@@ -18,7 +19,7 @@ ghost use Rattle.fdb_lines.specs.Carried.{with_times, AreLeftBelow, StandFor};
 ghost use Rattle.fdb_lines.specs.Divided.{faults_by_part, LearnsNothing};
 ghost use Rattle.fdb_lines.specs.KeyWatch.{HasSeenByKey};
 ghost use Rattle.fdb_lines.specs.Keys.{case_of_key, faults_by_key, key_at, placed_found};
-ghost use Rattle.fdb_lines.specs.Keys.{places_of, same_key};
+ghost use Rattle.fdb_lines.specs.Keys.{places_of};
 ghost use Rattle.fdb_lines.specs.Listing.{faults_of};
 ghost use Rattle.fdb_lines.specs.Lines.{Case, Lines, Read, Ask, Learn, kind_at, line_at};
 ghost use Rattle.fdb_lines.specs.Lines.{lines_in, shows, version_at, version_of};
@@ -66,13 +67,16 @@ pub fn legal_exactly_where_it_runs()
     ensures { (start : ℕ) (history : List Effect) → IsTrue (runs (fresh start) history) ↔ IsLegal start history }
 {}
 
-/// Only an ask is exempt: any other call precedes each line that it comes before.
+/// What comes before in the log precedes in a history too, with one exception: an ask precedes only
+/// the asks and commits that it comes before, since no read and no report shows what an ask drew.
 pub fn all_counts_without_asks()
     ensures { (c : Case) (j k : ℕ) → kind_at c j ≢ Ask → kind_at c j ≢ Learn → precedes c j k ≡ c.before j k }
 {}
 
-/// Where lines stand for all from a moment on, a call that begins then or later is judged by them as
-/// by all: whether it is a stale read, and whether it draws a version that is not above.
+/// Some lines of a log stand for all of them from a moment on (`StandFor`) where each line that is
+/// left out began before it, and lets nothing be known to what begins from it on that these do not.
+/// A call that begins then or later is judged by them as by all: whether it is a stale read, and
+/// whether it draws a version that is not above.
 pub fn lines_that_stand_for_all_judge_as_all()
     ensures order { (opts : AuditOpts) (at : ℕ) (lines : List Line) (places : List ℕ) (i : ℕ)
         → StandFor opts.margin at lines places → i < length places
@@ -86,8 +90,10 @@ pub fn lines_that_stand_for_all_judge_as_all()
         ≡ stands (case_of (with_times lines) opts) NotAbove (slice_index places i) }
 {}
 
-/// Whenever a call begins, what is told by lines that stand for all is true of all. It is not so of
-/// a read of a version that is not there, nor of a stray.
+/// What lines that stand for all (`StandFor`) tell of a call, whenever it began, is true by all
+/// lines: that it is a stale read, that it draws a version that is not above, or that another drew.
+/// Of a read of a version that is not there and of a stray report this is not said: these lines may
+/// tell one that all lines do not.
 pub fn nothing_is_told_by_them_alone()
     ensures order { (opts : AuditOpts) (at : ℕ) (lines : List Line) (places : List ℕ) (i : ℕ)
         → StandFor opts.margin at lines places → i < length places
@@ -103,8 +109,9 @@ pub fn nothing_is_told_by_them_alone()
         → stands (case_of (with_times lines) opts) Twice (slice_index places i) ≡ true }
 {}
 
-/// Whenever a call begins, where its version is above those of all lines that are left out, each
-/// fault stands at it by the others exactly where it stands by all.
+/// Where lines stand for all (`StandFor`), and the version of a call is above those of all lines
+/// that are left out, each fault stands at the call by the lines that are kept exactly where it
+/// stands by all lines, whenever the call began.
 pub fn above_what_is_left_out_all_faults_are_told()
     ensures { (opts : AuditOpts) (at : ℕ) (lines : List Line) (places : List ℕ) (i : ℕ)
         → StandFor opts.margin at lines places → i < length places
@@ -113,8 +120,9 @@ pub fn above_what_is_left_out_all_faults_are_told()
         ≡ stands (case_of (with_times lines) opts) fault (slice_index places i) }
 {}
 
-/// Lines that stand for all go on to stand for all: from a later moment on, with one line more, and
-/// where only some of them are kept that stand for these lines.
+/// Lines that stand for all from a moment on (`StandFor`) do so from any later moment on, too; they
+/// do so with one line more, which is added to the log and to them; and where some of them stand
+/// for them, these stand for all.
 pub fn they_go_on_to_stand_for_all()
     ensures later { (margin at then : ℕ) (lines : List Line) (places : List ℕ) → at ≤ then
         → StandFor margin at lines places → StandFor margin then lines places }
@@ -162,13 +170,13 @@ pub fn windows_add_up()
 pub fn faults_by_key_are_those_of_each_key()
     ensures { (log : Lines) (keys : List (Option ℕ)) (opts : AuditOpts) (key : Option ℕ)
         → length keys ≡ length log.lines
-        → filter (λ (found : Found). same_key (key_at keys found.line) key) (faults_by_key log keys opts)
+        → filter (λ (found : Found). option_eq ◌==◌ (key_at keys found.line) key) (faults_by_key log keys opts)
         ≡ map (placed_found (places_of keys key)) (faults_of (case_of_key log keys opts key)) }
 {}
 
-/// What a watch has told is all that there is to tell of the lines that began before the moment up to
-/// which it has settled, each fault once, if none of them came late; so it may as well be said to have
-/// told that.
+/// What a watch has told is all that there is to tell of the lines that began before the moment up
+/// to which it has settled, each fault once, maybe in another order, if none of them came late.
+/// Where a law asks for what a watch has told, that list will do.
 pub fn all_is_told_up_to_where_it_settled()
     ensures each_once { (watch : KeyWatch) (lines : List Line) (keys : List (Option ℕ))
         (told : List Found) → HasSeenByKey watch lines keys → HasTold watch lines keys told
@@ -178,10 +186,11 @@ pub fn all_is_told_up_to_where_it_settled()
         → HasTold watch lines keys (audited_to watch.margin watch.from lines keys) }
 {}
 
-/// Lines that stand for all do so for whoever goes on from them: of the lines that begin from a moment
-/// on they tell, with all lines that come since, what all lines tell. Where none of those began before
-/// the moment, what was told up to it and what is told then are, together, what an audit of all lines
-/// finds, each fault once.
+/// Lines that stand for all from a moment on (`StandFor`) will do for whoever goes on from them
+/// alone: together with the lines that come later they tell, of the lines that begin from that
+/// moment on, what all lines tell. Where no line that comes later began before the moment, what was
+/// told up to it and what is told from it on are, together, what an audit of all lines finds, each
+/// fault once.
 pub fn who_goes_on_from_them_tells_the_rest()
     ensures rest { (margin at from : ℕ) (lines : List Line) (places : List ℕ) (more : List Line)
         → at ≤ from → StandFor margin at lines places
@@ -218,11 +227,12 @@ pub fn how_clients_and_keys_are_numbered_does_not_matter()
         → audited_from margin from lines keys ≡ audited_from margin from others other_keys }
 {}
 
-/// Lines that stand for all, each key by itself, do so for whoever goes on from them: of the lines
-/// that begin from a moment on an audit of them finds what an audit of all finds, each fault once;
-/// and they go on to stand for all with one line more. Where none that comes since began before the
-/// moment, what was found up to it, and what is found then by them and all that came since, however
-/// clients and keys are numbered there, are, together, what an audit of all lines finds.
+/// Lines that stand for all, each key by itself (`StandForByKey`), will do for whoever goes on from
+/// them alone. Of the lines that begin from a moment on an audit of them finds what an audit of all
+/// finds, each fault once; and with one line more they stand for all with that line. Where no line
+/// that comes later began before the moment, take what was found of all lines up to it, and what an
+/// audit of the kept lines and of those that came later finds from it on, however it numbers
+/// clients and keys: together these are what an audit of all lines finds.
 pub fn by_key_they_tell_the_rest_too()
     ensures rest { (margin at from : ℕ) (lines : List Line) (keys : List (Option ℕ))
         (places : List ℕ) → at ≤ from → StandForByKey margin at lines keys places
@@ -244,9 +254,9 @@ pub fn by_key_they_tell_the_rest_too()
         (audited margin (lines ++ more) (keys ++ more_keys)) }
 {}
 
-/// What is told once all that there was to tell up to a moment has been told, so that all is told in
-/// the end, each fault once, is what stands at lines that began from the moment on, where none that
-/// came since began before.
+/// All that there was to tell up to a moment has been told, and no line that came since began
+/// before the moment. Whatever is told after that, so that in the end all is told, each fault once,
+/// then stands at lines that began from the moment on.
 pub fn what_is_told_then_began_then()
     ensures { (margin from : ℕ) (lines more : List Line) (keys more_keys : List (Option ℕ))
         (told new : List Found) → length keys ≡ length lines → length more_keys ≡ length more

@@ -15,7 +15,8 @@ pub enum Operation {
     Ask(u64),
     /// This version was reported as committed, apart from the call that drew it.
     Report(u64),
-    /// From here on the client knows what this one had seen by the lines above.
+    /// From here on the client of the line knows what the client of this number had seen by the
+    /// lines above.
     Learn(u32),
 }
 

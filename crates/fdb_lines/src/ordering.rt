@@ -21,9 +21,10 @@ use crate::tables::Tables;
 use crate::tables_of::tables_of;
 use std::alloc::{AllocError, Global};
 
-/// An order of the effects of a log that explains its lines, or, where lines have keys, one for each
-/// key, in the order of its first line; where the lines, or those of some key, have none, all faults,
-/// as [`findings`](crate::findings) tells them. An error only where memory is refused.
+/// An order of the effects of a log that explains its lines; or, where `keys` are given, such an
+/// order for each key, in the order of the keys' first lines. Where no order explains the lines, or
+/// those of some key, the inner error has all faults, as [`findings`](crate::findings) tells them.
+/// The outer error says that memory was refused.
 ///
 /// `n log n` in how many lines there are, whatever the keys.
 pub fn order_or_findings(

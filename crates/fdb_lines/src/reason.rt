@@ -36,7 +36,7 @@ pub enum Reason {
     /// `Wrong`: the first line that reports the version knew it before, or a newer one.
     Reported {
         line: u32,
-        /// The greatest version that the caller of this line knew.
+        /// The greatest version that the caller of the line `line` knew.
         version: u64,
         /// A line that let it be known; none where no line did and all began with it.
         by: Option<Witness>,
@@ -55,8 +55,8 @@ pub enum Reason {
 pub struct Finding {
     pub found: Found,
     pub reason: Reason,
-    /// Of `Order` and `NotAbove`: by how much the call is late. It is none of other faults, and
-    /// where no line that outdates the call has a known end, or the call itself is the first of
-    /// them to end.
+    /// By how much the call is late, for `Order` and `NotAbove`. There is none for other faults;
+    /// nor where no line that outdates the call has a known end, or the call itself is the first of
+    /// these lines to end.
     pub late: Option<Late>,
 }

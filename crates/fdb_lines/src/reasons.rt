@@ -1,13 +1,13 @@
 //! Whether a fault stands at a line, and why.
 
 ghost use Rattle.std.specs.Prelude.{◌≡◌, ◌<◌, true, length};
-ghost use Rattle.fdb_lines.specs.Faults.{stands};
+ghost use Rattle.fdb_lines.specs.Faults.{stands, is_stray, is_wrong};
 ghost use Rattle.fdb_lines.specs.Late.{IsLateAt};
 ghost use Rattle.fdb_lines.specs.Lines.{version_at};
 ghost use Rattle.fdb_lines.specs.Log.{lines_of};
 ghost use Rattle.fdb_lines.specs.Reasons.{IsReason};
 ghost use Rattle.fdb_lines.specs.declared.fault.Fault.TheVariants.{NotAbove, Order, Wrong};
-ghost use Rattle.fdb_lines.specs.private.Tables.{case_in, drawn_by, is_stray, is_wrong, IsAnswer};
+ghost use Rattle.fdb_lines.specs.private.Tables.{case_in, drawn_by, IsAnswer};
 
 use crate::fault::Fault;
 use crate::known::version_in;

@@ -1,12 +1,11 @@
 //! The tables of a log, in which each question of the rule is answered by a search.
 
 ghost use Rattle.std.specs.Prelude.{◌≡◌, ◌<◌, ◌≤◌, None, length, max, true};
-ghost use Rattle.fdb_lines.specs.Faults.{is_drawn, is_own, is_raised, is_reported, is_twice, knows};
-ghost use Rattle.fdb_lines.specs.Faults.{last};
+ghost use Rattle.fdb_lines.specs.Faults.{draws_again, draws_it, is_drawn, is_own, is_raised};
+ghost use Rattle.fdb_lines.specs.Faults.{is_reported, is_twice, knows, last, reports_it};
 ghost use Rattle.fdb_lines.specs.Late.{outdates};
 ghost use Rattle.fdb_lines.specs.Lines.{version_at};
 ghost use Rattle.fdb_lines.specs.Log.{lines_of};
-ghost use Rattle.fdb_lines.specs.Reasons.{draws_again, draws_it, reports_it};
 ghost use Rattle.fdb_lines.specs.declared.exposure.Exposure.TheVariants.{Drawn, Shown};
 ghost use Rattle.fdb_lines.specs.private.Entries.{other, IsFirstFrom};
 ghost use Rattle.fdb_lines.specs.private.Known.{of_version};

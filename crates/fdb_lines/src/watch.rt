@@ -25,7 +25,8 @@ use std::mem::replace;
 pub enum WatchError {
     /// The line has no times.
     NoTimes,
-    /// The log of the lines that are kept does not take it, or there have been 2^64 - 1 lines.
+    /// The log of the lines that are kept refuses the line, for this reason. It is `TooMany` also
+    /// where 2^64 - 1 lines have come.
     Line(LineError),
 }
 
@@ -54,7 +55,8 @@ pub struct Settled {
     /// The stale reads and the versions that are not above what was known, at the lines of which it
     /// is time to tell. Each line is told by its place among those that were kept.
     pub found: Vec<Finding>,
-    /// The places of those that are kept on; none where it was settled for good.
+    /// The places in `log` of the lines that the watch keeps on; none where it was settled for
+    /// good.
     pub kept: Vec<u32>,
 }
 
@@ -71,16 +73,17 @@ impl Settled {
     }
 }
 
-/// An audit that watches. It keeps the lines that may yet come to matter, and at most two that stand
-/// for all others.
+/// An audit that watches. It keeps the lines that may yet come to matter, and at most two that
+/// stand for all others.
 ///
-/// It settles up to a moment, in the unit of the times: it tells of the lines that began before, each
-/// once, what an audit of all lines that have come would tell. A line that comes late, and begins
-/// before that moment, is told of at the next settling, if it begins no further back than a horizon;
-/// else it is known to others, and is not judged. What was told before is not told anew by it.
+/// It settles up to a moment, in the unit of the times: it tells of the lines that began before,
+/// each once, what an audit of all lines that have come would tell. A line that comes late, and
+/// begins before that moment, is told of at the next settling, if it begins no further back than a
+/// horizon; else it is known to others, and is not judged. What was told before such a line came is
+/// not told anew because of it.
 ///
-/// How late a call is is exact where the line that outdated it first had ended no further back than
-/// the horizon from what was settled before; else it is at least so late, by another line.
+/// How late a call is, is told exactly where the first line to outdate it had ended no further than
+/// the horizon before what was settled. Else what is told is a lower bound, by another line.
 #[derive(Drop)]
 pub struct Watch {
     margin: u64,

@@ -15,7 +15,7 @@ use Rattle.fdb_history.specs.declared.register.Record.{Record}
 use Rattle.fdb_chain.specs.declared.error.ChainError.{ChainError}
 use Rattle.fdb_live.specs.Holding.{AreDrawn, IsAboveRead, above_last, least_above, versions}
 use Rattle.fdb_live.specs.Seen.{Sight, last_record}
-use Rattle.fdb_live.specs.declared.change.Change.{Change}
+use Rattle.fdb_live.specs.declared.view.Change.{Change}
 use Rattle.fdb_live.proofs.Drawn.{IsDrawn, all_begins, chain_begins}
 use Rattle.fdb_live.proofs.Prefixes.{prefix_length}
 

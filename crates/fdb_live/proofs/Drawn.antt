@@ -10,7 +10,7 @@ use Rattle.fdb_history.specs.Chain.{GoesOn, IsChain, IsNext}
 use Rattle.fdb_history.specs.declared.chain.Issued.{Issued}
 use Rattle.fdb_live.specs.Holding.{AreDrawn, answers_to, own_answers, versions}
 use Rattle.fdb_live.specs.Seen.{Sight}
-use Rattle.fdb_live.specs.declared.change.Change.{Change}
+use Rattle.fdb_live.specs.declared.view.Change.{Change}
 
 pub versions-append : (xs ys : List Issued) → versions (xs ++ ys) ≡ versions xs ++ versions ys
 versions-append xs ys = map-append (λ (answer : Issued). answer.version) xs ys

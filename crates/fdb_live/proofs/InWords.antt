@@ -9,9 +9,9 @@ use Rattle.fdb_history.specs.declared.register.Record.{Record}
 use Rattle.fdb_history.specs.Register.{after_report, changes}
 use Rattle.fdb_live.specs.Holding.{versions}
 use Rattle.fdb_live.specs.Seen.{IsRecord, last_record}
-use Rattle.fdb_live.specs.declared.fetched.Fetched.{Fetched}
+use Rattle.fdb_live.specs.declared.held.Fetched.{Fetched}
 use Rattle.fdb_live.specs.declared.held.Held.{Held}
-use Rattle.fdb_live.specs.declared.epoch.Epoch.{Epoch}
+use Rattle.fdb_live.specs.declared.view.Epoch.{Epoch}
 use Rattle.fdb_live.specs.declared.view.View.{View}
 use Rattle.fdb_live.specs.private.Rule.{Kept, Keeps, InWords, Adds, Draws, Looks, Opens, Settles, copy_of, drawer_of, first, joined, lowest_of, served, spent, taken, without_drawing, without_lowest}
 use Rattle.fdb_live.specs.private.Words.{fetched_of}

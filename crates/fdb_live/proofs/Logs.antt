@@ -9,7 +9,7 @@ use mathlib.Core.List.{IsPrefix}
 use Rattle.fdb_history.specs.declared.register.Record.{Record}
 use Rattle.fdb_history.specs.Register.{after_report, changes}
 use Rattle.fdb_live.specs.Seen.{last_record, all_change, changed_by, IsLog, IsRecord}
-use Rattle.fdb_live.specs.declared.change.Change.{Change}
+use Rattle.fdb_live.specs.declared.view.Change.{Change}
 use Rattle.fdb_live.proofs.Register.{reach, changed_reaches, version_at_least, after_taken}
 
 pub last_record-push : (start : Record) (log : List Change) (r : Change) → last_record start (log ++ r ∷ []) ≡ after_report (last_record start log) r.rec

@@ -9,7 +9,7 @@ use Rattle.fdb_live.proofs.Prefixes.{prefix_trans}
 use mathlib.Core.List.{IsPrefix}
 use Rattle.fdb_live.specs.Gathering.{IsOwnKept, IsOwnedOnce, IsSeenBy}
 use Rattle.fdb_live.specs.Seen.{Sight, changed_by, longer, own_positions}
-use Rattle.fdb_live.specs.declared.change.Change.{Change}
+use Rattle.fdb_live.specs.declared.view.Change.{Change}
 
 module _ {A : Type 0} where
   pub some_at : (xs : List A) (i : ℕ) → i < length xs → (x : A) × (slice_get xs i ≡ Some x)

@@ -9,9 +9,9 @@ use Rattle.fdb_history.specs.declared.chain.Issued.{Issued}
 use Rattle.fdb_history.specs.declared.register.Record.{Record}
 use Rattle.fdb_history.specs.declared.register.TheConstants.{MAX_VERSION}
 use Rattle.fdb_history.specs.Register.{after_report, changes, raises}
-use Rattle.fdb_live.specs.declared.fetched.Fetched.{Fetched}
-use Rattle.fdb_live.specs.declared.change.Change.{Change}
-use Rattle.fdb_live.specs.declared.epoch.Epoch.{Epoch}
+use Rattle.fdb_live.specs.declared.held.Fetched.{Fetched}
+use Rattle.fdb_live.specs.declared.view.Change.{Change}
+use Rattle.fdb_live.specs.declared.view.Epoch.{Epoch}
 use Rattle.fdb_live.specs.declared.view.View.{View}
 use Rattle.fdb_live.specs.Holding.{answers_among, answers_to, versions}
 use Rattle.fdb_live.specs.Seen.{Sight, last_record, IsLog, IsRecord, changed_by, IsChangedBy}

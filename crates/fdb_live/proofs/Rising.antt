@@ -4,7 +4,7 @@ use mathlib.Core.List.{IsPrefix}
 use Rattle.fdb_history.specs.declared.register.Record.{Record}
 use Rattle.fdb_history.specs.Register.{after_report}
 use Rattle.fdb_live.specs.Seen.{last_record, IsBounded, IsLog, IsNotBehind}
-use Rattle.fdb_live.specs.declared.change.Change.{Change}
+use Rattle.fdb_live.specs.declared.view.Change.{Change}
 use Rattle.fdb_live.proofs.Logs.{position_below, taken_last}
 use Rattle.fdb_live.proofs.Register.{version_at_least, min_known_at_least}
 

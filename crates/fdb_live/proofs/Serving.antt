@@ -11,7 +11,7 @@ use Rattle.fdb_history.specs.declared.chain.Ask.{Ask}
 use Rattle.fdb_history.specs.declared.chain.Issued.{Issued}
 use Rattle.fdb_live.specs.Holding.{AreDrawn, IsAsked, answers_to}
 use Rattle.fdb_live.specs.Seen.{Sight}
-use Rattle.fdb_live.specs.declared.fetched.Fetched.{Fetched}
+use Rattle.fdb_live.specs.declared.held.Fetched.{Fetched}
 use Rattle.fdb_live.specs.declared.view.View.{View}
 use Rattle.fdb_live.specs.private.Rule.{Draws, Settles, lowest_of, served, without_lowest}
 use Rattle.fdb_live.specs.private.Token.{DrawsAny, IsServed}

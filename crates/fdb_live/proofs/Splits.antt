@@ -6,7 +6,7 @@ use Rattle.std.proofs.lemmas.List.Elements.{All-nil}
 use mathlib.Core.Option.{some, some-ne-none, some-injective}
 use lib.ListN.{get_elem?}
 use Rattle.crossbeam_utils.specs.Register.{Forks}
-use Rattle.fdb_live.specs.declared.fetched.Fetched.{Fetched}
+use Rattle.fdb_live.specs.declared.held.Fetched.{Fetched}
 use Rattle.fdb_live.specs.declared.view.View.{View}
 use Rattle.fdb_live.specs.private.Rule.{Fits, Kept, Whole, no_record, first, spent, copy_of, drawer_of, lowest_of, without_drawing, without_lowest}
 use Rattle.fdb_live.proofs.ChainParts.{chain_bare, chain_copy, chain_drawer, chain_else, chain_fewer, chain_moved}

@@ -7,9 +7,9 @@ use mathlib.Core.List.{IsPrefix}
 use Rattle.fdb_history.specs.Chain.{IsChain}
 use Rattle.fdb_history.specs.declared.chain.Issued.{Issued}
 use Rattle.fdb_history.specs.declared.register.Record.{Record}
-use Rattle.fdb_live.specs.declared.fetched.Fetched.{Fetched}
-use Rattle.fdb_live.specs.declared.change.Change.{Change}
-use Rattle.fdb_live.specs.declared.epoch.Epoch.{Epoch}
+use Rattle.fdb_live.specs.declared.held.Fetched.{Fetched}
+use Rattle.fdb_live.specs.declared.view.Change.{Change}
+use Rattle.fdb_live.specs.declared.view.Epoch.{Epoch}
 use Rattle.fdb_live.specs.declared.view.View.{View}
 use Rattle.fdb_live.specs.Holding.{AreDrawn, versions}
 use Rattle.fdb_live.specs.Seen.{IsRecord, epoch_from, epoch_of, own_among}

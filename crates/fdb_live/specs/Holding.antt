@@ -9,7 +9,7 @@ use Rattle.fdb_history.specs.Issuing.{Chain, answer_to, with_answer}
 use Rattle.fdb_history.specs.declared.chain.Ask.{Ask}
 use Rattle.fdb_history.specs.declared.chain.Issued.{Issued}
 use Rattle.fdb_live.specs.Seen.{Sight}
-use Rattle.fdb_live.specs.declared.change.Change.{Change}
+use Rattle.fdb_live.specs.declared.view.Change.{Change}
 
 -- The commit versions that some answers give, in their order.
 abbrev pub versions : List Issued → List ℕ

@@ -7,10 +7,10 @@ use Rattle.fdb_history.specs.declared.chain.Issued.{Issued}
 use Rattle.fdb_history.specs.declared.register.Record.{Record}
 use Rattle.fdb_history.specs.declared.register.TheConstants.{MAX_VERSION}
 use Rattle.fdb_history.specs.Register.{after_report, raises, changes}
-use Rattle.fdb_live.specs.declared.change.Change.{Change}
-use Rattle.fdb_live.specs.declared.epoch.Epoch.{Epoch}
-use Rattle.fdb_live.specs.declared.error.LiveError.{LiveError}
-use Rattle.fdb_live.specs.declared.error.LiveError.TheVariants.{TooLarge, MinAbove, Memory}
+use Rattle.fdb_live.specs.declared.view.Change.{Change}
+use Rattle.fdb_live.specs.declared.view.Epoch.{Epoch}
+use Rattle.fdb_live.specs.declared.live_record.LiveError.{LiveError}
+use Rattle.fdb_live.specs.declared.live_record.LiveError.TheVariants.{TooLarge, MinAbove, Memory}
 
 -- What its holder has seen: the reports that changed the record, and the answers by which versions
 -- were drawn, each from the first on and in order. The token of a reporter has its number. There are

@@ -1,12 +1,21 @@
-//! How the cell keeps the record and its position.
+//! What a read answers, and how the cell keeps the record and its position.
 
 ghost use Rattle.std.specs.Prelude.{◌≡◌, Some};
 ghost use Rattle.fdb_live.specs.private.Words.{fetched_of, first_word, held_of, metadata_of};
 ghost use Rattle.fdb_live.specs.private.Words.{second_word};
 
-use crate::fetched::Fetched;
 use crossbeam_utils::atomic::Words;
 use fdb_history::Record;
+
+/// The record, with the live committed version and the minimum known committed version, and the
+/// number of reports that had changed it by then (`version`, `locked`, `metadataVersion` and
+/// `minKnownCommittedVersion` of `GetRawCommittedVersionReply`, FoundationDB 7.1; the position is
+/// this product's own).
+#[derive(Clone, Copy, Debug, PartialEq, Eq)]
+pub struct Fetched {
+    pub rec: Record,
+    pub position: u64,
+}
 
 /// Bit 0 of the flags: the database is locked.
 const LOCKED: u64 = 1;

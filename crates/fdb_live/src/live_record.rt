@@ -1,25 +1,65 @@
 //! The live record, which reports replace under a lock and reads load without it.
 
-ghost use Rattle.std.specs.Prelude.{◌≡◌, ◌≢◌, ◌<◌, ◌≤◌, ◌⊎◌, [], length, None};
-ghost use Rattle.std.specs.Prelude.{Contains, IsSome, IfErr, IfOk, OnOk, OnErr, Some, slice_get};
-ghost use Rattle.std.specs.Prelude.{true, false};
+ghost use Rattle.std.specs.Prelude.{◌≡◌, ◌≢◌, ◌<◌, ◌≤◌, ◌⊎◌, [], length, None, Contains, IsSome};
+ghost use Rattle.std.specs.Prelude.{IfErr, IfOk, OnOk, OnErr, Some, slice_get, true, false, ℕ};
 ghost use mathlib.Core.List.{IsPrefix};
 ghost use Rattle.fdb_history.specs.declared.chain.Issued.{Issued};
 ghost use Rattle.fdb_live.specs.Holding.{AreDrawn, least_above, own_answers, versions};
 ghost use Rattle.fdb_live.specs.Seen.{IsBounded, IsChangedBy, IsLog, IsNotBehind, IsNotChangedBy};
 ghost use Rattle.fdb_live.specs.Seen.{IsRecord, IsRefusedFor, last_record, longer, own_positions};
+ghost use Rattle.fdb_live.specs.Seen.{Sight};
+ghost use Rattle.fdb_live.specs.Gathering.{AreNumbered, IsOwnKept, IsOwnedOnce, IsSeenBy};
 
-use crate::ack::Ack;
-use crate::error::LiveError;
-use crate::fetched::Fetched;
-use crate::live::Live;
+use crate::held::Fetched;
 use crate::passes;
 use crate::right::Right;
-use crate::seen::Seen;
+use crate::seen::{Live, Seen};
 use crate::view::Cell;
 use fdb_history::{Gate, Issued, MAX_VERSION, Place, Record, laws};
+use std::alloc::AllocError;
 use std::marker::PhantomData;
 use std::sync::{Mutex, Wait};
+use thiserror::Error;
+
+/// Why a live record is not opened, or a report not taken.
+#[derive(Clone, Copy, Debug, PartialEq, Eq, Error)]
+pub enum LiveError {
+    /// The version is above the greatest one, `MAX_VERSION` of `fdb_history`.
+    #[error("the version is out of range")]
+    TooLarge,
+    /// The minimum known committed version is above the version. (this product's own: masterserver
+    /// takes it as it comes)
+    #[error("the minimum known committed version is above the version")]
+    MinAbove,
+    /// Memory was refused to an opening, or to the tokens; a report takes none.
+    #[error("out of memory")]
+    Memory,
+}
+
+impl From<AllocError> for LiveError {
+    ghost use Rattle.std.specs.Prelude.{◌≡◌};
+    ghost use Rattle.fdb_live.specs.declared.live_record.LiveError.TheVariants.{Memory};
+
+    ghost from_gives = { λ _ cause. cause ≡ Memory };
+
+    fn from(_refused: AllocError) -> Self {
+        LiveError::Memory
+    }
+}
+
+/// That a report was taken: whether it raised the record, whether it changed it, and the number of
+/// changes by then (the reply of `reportLiveCommittedVersion` of masterserver, FoundationDB 7.1; all
+/// members are this product's own).
+#[derive(Clone, Copy, Debug, PartialEq, Eq)]
+pub struct Ack {
+    /// Whether the report raised the record: its version was greater.
+    pub raised: bool,
+    /// Whether it changed the record: its version or its minimum known committed version was
+    /// greater.
+    pub changed: bool,
+    /// How many changes there were by then, with this report where it is one.
+    pub position: u64,
+}
 
 /// The live committed version of the service `J`, in one register that threads share
 /// (`liveCommittedVersion` and its companions in masterserver, FoundationDB 7.1).
@@ -28,8 +68,9 @@ use std::sync::{Mutex, Wait};
 /// words of a sequence cell, and only where a replacement came between does it take the cell's own
 /// lock for a moment. No call on it takes memory, and each takes constant time, waiting aside.
 ///
-/// Where the service has a chain of commit versions, its [`Master`](crate::Master) lends its record,
-/// and only versions that were drawn are reported. Where it has none, no answer is ever seen.
+/// Where the service has a chain of commit versions, its [`Master`](crate::Master) lends its
+/// record, and only versions that the chain has drawn are reported. Where it has no chain, other
+/// versions may be reported too, and no token has seen an answer to a request for a commit version.
 #[derive(Drop)]
 pub struct LiveRecord<J: Live> {
     pub(crate) cell: Cell,
@@ -183,8 +224,10 @@ impl<J: Live> LiveRecord<J> {
         }
     }
 
-    /// Compares two tokens: of the changes, and of the answers, one holder has seen all that the
-    /// other has, from the first on. A version belongs to one answer. Both tokens stay as they are.
+    /// Shows by its clauses, and answers nothing, that of two tokens one has seen all changes that
+    /// the other has seen, from the first on, and that one has seen all answers that the other has;
+    /// and that no two answers that they have seen are of one version. Both tokens stay as they
+    /// are.
     #[inline]
     pub fn meet<R: Wait>(&self, rt: &R, first: &mut Seen<J>, second: &mut Seen<J>)
         ensures first { first.new ≡ first.old }
@@ -227,5 +270,79 @@ impl<J: Live> LiveRecord<J> {
     {
         let _ = (one, other);
         self.meet(rt, first, second);
+    }
+}
+
+impl<J: Live> LiveRecord<J> {
+    /// Brings together what the holders of all reporters' tokens, in order, and of another token
+    /// have seen. All of them have then seen the same, up to the position that is answered, and each
+    /// position is owned by exactly one of the reporters. What each owns is as before.
+    ///
+    /// It refuses nothing, takes no memory, and waits as a read does. It takes time in proportion to
+    /// the number of reporters.
+    pub fn gather<R: Wait>(&self, rt: &R, first: &mut Seen<J>, others: &mut [Seen<J>]) -> u64
+        requires count { length others.old ≡ J.reporters }
+        requires numbered { AreNumbered others.old }
+        ensures position { result ≡ length first.new.changes }
+        ensures count { length others.new ≡ J.reporters }
+        ensures one_list { (k : ℕ) → k < J.reporters → slice_get others.new k
+            ≡ Some (record first.new { reporter = Some k }) }
+        ensures extends { IsPrefix first.old.changes first.new.changes }
+        ensures answers { IsPrefix first.old.answers first.new.answers }
+        ensures extends_each { (k : ℕ) (token : Sight) → slice_get others.old k ≡ Some token
+            → IsPrefix token.changes first.new.changes }
+        ensures answers_each { (k : ℕ) (token : Sight) → slice_get others.old k ≡ Some token
+            → IsPrefix token.answers first.new.answers }
+        ensures reporter { first.new.reporter ≡ first.old.reporter }
+        ensures own { own_positions first.new ≡ own_positions first.old }
+        ensures own_answers { own_answers first.new ≡ own_answers first.old }
+        ensures own_each { (k : ℕ) (token other : Sight) → slice_get others.old k ≡ Some token
+            → slice_get others.new k ≡ Some other → own_positions other ≡ own_positions token }
+        ensures own_answers_each { (k : ℕ) (token other : Sight)
+            → slice_get others.old k ≡ Some token → slice_get others.new k ≡ Some other
+            → own_answers other ≡ own_answers token }
+        ensures one_owner { (position : ℕ) → 1 ≤ position → position ≤ result
+            → IsOwnedOnce others.new position }
+        ensures log { IsLog J.start J.reporters first.new.changes }
+    {
+        self.learn_from(rt, first, others);
+        let position = self.read(rt, first).position;
+        self.teach(rt, first, others);
+        position
+    }
+
+    /// The holder of the first token learns what those of the others have seen.
+    fn learn_from<R: Wait>(&self, rt: &R, first: &mut Seen<J>, others: &mut [Seen<J>])
+        ensures others { others.new ≡ others.old }
+        ensures reporter { first.new.reporter ≡ first.old.reporter }
+        ensures extends { IsPrefix first.old.changes first.new.changes }
+        ensures answers { IsPrefix first.old.answers first.new.answers }
+        ensures each { (k : ℕ) (token : Sight) → slice_get others.old k ≡ Some token
+            → IsSeenBy first.new token }
+        ensures own { own_positions first.new ≡ own_positions first.old }
+        ensures own_answers { own_answers first.new ≡ own_answers first.old }
+    {
+        for other in others.iter_mut() {
+            let told = self.split(other);
+            self.learn(rt, first, told);
+        }
+    }
+
+    /// The holders of the others learn what that of the first token has seen, which is no less.
+    fn teach<R: Wait>(&self, rt: &R, first: &mut Seen<J>, others: &mut [Seen<J>])
+        requires { (k : ℕ) (token : Sight) → slice_get others.old k ≡ Some token
+            → IsSeenBy first.old token }
+        ensures first { first.new ≡ first.old }
+        ensures count { length others.new ≡ length others.old }
+        ensures each { (k : ℕ) (token : Sight) → slice_get others.old k ≡ Some token
+            → slice_get others.new k
+            ≡ Some (record first.new { reporter = token.reporter }) }
+        ensures own { (k : ℕ) (token : Sight) → slice_get others.old k ≡ Some token
+            → IsOwnKept first.new token }
+    {
+        for other in others.iter_mut() {
+            let told = self.split(first);
+            self.learn(rt, other, told);
+        }
     }
 }

@@ -1,23 +1,21 @@
 //! The master of a service: its sequencer and its live record, asked with tokens.
 
-ghost use Rattle.std.specs.Prelude.{◌≡◌, ◌≢◌, ◌+◌, ◌<◌, ◌≤◌, ℕ, length};
-ghost use Rattle.std.specs.Prelude.{Contains, List, IfOk, Some, slice_get, true};
+ghost use Rattle.std.specs.Prelude.{◌≡◌, ◌≢◌, ◌+◌, ◌<◌, ◌≤◌, ℕ, length, Contains, List, IfOk, Some};
+ghost use Rattle.std.specs.Prelude.{slice_get, true};
 ghost use mathlib.Core.List.{IsPrefix};
 ghost use Rattle.fdb_chain.specs.ChainCore.{IsAnswer, IsEpoch, IsFor, new_chain};
 ghost use Rattle.fdb_history.specs.Chain.{latest};
 ghost use Rattle.fdb_history.specs.Issuing.{answer_to};
 ghost use Rattle.fdb_history.specs.declared.chain.Issued.{Issued};
 ghost use Rattle.fdb_live.specs.Gathering.{AreNumbered};
-ghost use Rattle.fdb_live.specs.Holding.{DrewNone, IsAboveRead, IsAsked};
-ghost use Rattle.fdb_live.specs.Holding.{IsClosedAfter, IsClosedWith};
-ghost use Rattle.fdb_live.specs.Holding.{IsFreshUnlessOut};
-ghost use Rattle.fdb_live.specs.Holding.{chain_of, least_above, own_answers, versions};
+ghost use Rattle.fdb_live.specs.Holding.{DrewNone, IsAboveRead, IsAsked, IsClosedAfter};
+ghost use Rattle.fdb_live.specs.Holding.{IsClosedWith, IsFreshUnlessOut, chain_of, least_above};
+ghost use Rattle.fdb_live.specs.Holding.{own_answers, versions};
 ghost use Rattle.fdb_live.specs.Seen.{Sight, last_record};
 
-use crate::drawer::Drawer;
-use crate::live::Live;
 use crate::live_record::LiveRecord;
-use crate::seen::Seen;
+use crate::right::Drawer;
+use crate::seen::{Live, Seen};
 use crate::view::Cell;
 use fdb_chain::ChainError;
 use fdb_history::{Ask, Gate, Issued, MAX_VERSION, Place, laws};
@@ -37,7 +35,8 @@ pub struct Master<J: Live> {
 }
 
 impl<J: Live> Master<J> {
-    /// The live record, with which the tokens are read, reported, split, told and compared.
+    /// The live record. With it the holders of tokens read and report, split and compare their
+    /// tokens, and learn from those of others.
     #[inline]
     pub fn record(&self) -> &LiveRecord<J>
         ensures same { result.now ≡ self.now.live }

@@ -1,29 +1,23 @@
-//! A service that was opened, before it has a name.
+//! A service that was opened, and how it gets a name.
 
-ghost use Rattle.std.specs.Prelude.{◌≡◌, ◌+◌, ◌<◌, ◌≤◌, ◌↔◌, ℕ, [], Some};
-ghost use Rattle.std.specs.Prelude.{None, IfOk, IfErr, IsSome};
-ghost use Rattle.std.specs.Prelude.{option_map, vec_len, slice_get, true};
+ghost use Rattle.std.specs.Prelude.{◌≡◌, ◌+◌, ◌<◌, ◌≤◌, ◌↔◌, ℕ, [], Some, None, IfOk, IfErr};
+ghost use Rattle.std.specs.Prelude.{IsSome, option_map, vec_len, slice_get, true, ⊤, false};
+ghost use Rattle.std.specs.Prelude.{is_some};
 ghost use Rattle.std.specs.Option.{ForSome};
 ghost use Rattle.crossbeam_utils.specs.Seq.{cell_view};
 ghost use Rattle.fdb_chain.specs.ChainCore.{IsEpoch, IsProxyCount, new_chain};
 ghost use Rattle.fdb_chain.specs.Recent.{IsStateOf};
-ghost use Rattle.fdb_live.specs.Seen.{IsRecord, MayBegin, epoch_of, origin_of};
+ghost use Rattle.fdb_live.specs.Seen.{IsRecord, MayBegin, epoch_of, origin_of, Origin};
 ghost use Rattle.fdb_live.specs.private.Rule.{left_from, opened};
 ghost use Rattle.fdb_live.specs.private.Token.{IsMadeFor, IsRight};
 
-use crate::drawer::Drawer;
-use crate::epoch::Epoch;
-use crate::error::LiveError;
-use crate::fetched::Fetched;
-use crate::held::Held;
-use crate::live::Live;
-use crate::live_record::LiveRecord;
+use crate::held::{Fetched, Held};
+use crate::live_record::{LiveError, LiveRecord};
 use crate::master::Master;
-use crate::passes;
-use crate::passes::Pass;
-use crate::right::Right;
-use crate::seen::Seen;
-use crate::view::Cell;
+use crate::passes::{self, Pass};
+use crate::right::{Drawer, Right};
+use crate::seen::{Live, Seen};
+use crate::view::{Cell, Epoch};
 use fdb_chain::RecentChain;
 use fdb_history::{MAX_VERSION, Record};
 use std::alloc::{AllocError, Global};
@@ -33,9 +27,10 @@ use std::sync::{Mutex, Wait};
 /// The most reporters that a live record may have.
 pub const MAX_REPORTERS: u32 = 64;
 
-/// A service that was opened. Contracts see it as what it was opened with, and the table of its
-/// cell; a name is picked that stands for these, and [`Opened::parts`] or [`Opened::master`] gives the
-/// record, or the master, and its tokens under that name.
+/// A service that was opened. Contracts see it as what it was opened with, and where its live
+/// record is. [`Opened::parts`] or [`Opened::master`] gives the record, or the master, and its
+/// tokens, under a type `J` that is the name of the service in their types, and stands for what
+/// contracts see.
 #[derive(Drop)]
 pub struct Opened {
     core: Option<RecentChain>,
@@ -298,4 +293,50 @@ fn token<J: Live>(cell: &Cell, pass: &mut Pass, number: u32) -> Seen<J>
         pass: passes::give_lowest(cell, pass),
         of: PhantomData,
     }
+}
+
+/// What is done with a service under a name that stands for it.
+pub trait UnderName<R> {
+    /// What [`run`](UnderName::run) answers, whatever the name is.
+    type Output;
+
+    // What it takes; where nothing is said, a service with no chain.
+    ghost takes: { Self → Origin → Type 0 } = { λ _ opened. is_some opened.epoch ≡ false };
+
+    // What it promises of that, by what was opened, which the name stands for.
+    ghost gives: { Self → Origin → Self.Output → Type 0 } = { λ _ _ _. ⊤ };
+
+    /// Does the work, with what was opened for the service.
+    fn run<J: Live + Send + Sync>(self, rt: &R, opened: Opened) -> Self::Output
+        requires takes { takes self opened }
+        requires chained { J.chained ≡ is_some opened.epoch }
+        requires opened { opened
+            ≡ origin_of J.table J.start J.reporters J.chained J.epoch_end J.recovery }
+        ensures gives { gives self opened result };
+}
+
+impl Opened {
+    /// Has `uses` do its work with what was opened, under a name that stands for that, and answers
+    /// what comes of it.
+    pub fn named<R, U: UnderName<R>>(self, rt: &R, uses: U) -> U::Output
+        requires takes { U.takes uses self }
+        ensures gives { U.gives uses self result }
+    {
+        run_under::<Brand, R, U>(rt, self, uses)
+    }
+}
+
+/// Does it under a name that the caller picks.
+fn run_under<J: Live + Send + Sync, R, U: UnderName<R>>(
+    rt: &R,
+    opened: Opened,
+    uses: U,
+) -> U::Output
+    requires takes { U.takes uses opened }
+    requires chained { J.chained ≡ is_some opened.epoch }
+    requires opened { opened
+        ≡ origin_of J.table J.start J.reporters J.chained J.epoch_end J.recovery }
+    ensures gives { U.gives uses opened result }
+{
+    uses.run::<J>(rt, opened)
 }

@@ -1,7 +1,5 @@
 //! What each pass of the cell knows. It exists in proofs alone: no value of these types is made.
 
-use crate::change::Change;
-use crate::epoch::Epoch;
 use crate::held::Held;
 use atomic_table::{Join, Split};
 use crossbeam_utils::atomic::seq_cell::RuledSeqCell;
@@ -9,6 +7,25 @@ use crossbeam_utils::rule::{Outcome, Protocol};
 use fdb_history::{Issued, Record, Service};
 use std::collections::LinkedList;
 use std::marker::{Brand, PhantomData};
+
+/// A report that changed the record, as the model of a token has it. Running code keeps no list of
+/// them.
+#[derive(Clone, Copy, Debug, PartialEq, Eq)]
+pub struct Change {
+    /// The number of the reporter that made it.
+    pub reporter: u32,
+    /// The record as it was reported, which the live record need not have become.
+    pub rec: Record,
+}
+
+/// The versions that an epoch begins from.
+#[derive(Clone, Copy, Debug, PartialEq, Eq)]
+pub struct Epoch {
+    /// The last version of the epoch before.
+    pub before: u64,
+    /// The first version of this one, its recovery version.
+    pub recovery: u64,
+}
 
 /// What a pass knows of the service, and what it may do with the record.
 pub(crate) struct View {
@@ -65,7 +82,7 @@ pub(crate) type Cell = RuledSeqCell<Held, View, Law, 6>;
 /// Stands for the chain that a service is opened with.
 pub(crate) trait Kind {
     ghost use Rattle.std.specs.Prelude.{Option};
-    ghost use Rattle.fdb_live.specs.declared.epoch.Epoch.{Epoch};
+    ghost use Rattle.fdb_live.specs.declared.view.Epoch.{Epoch};
 
     // The epoch of its chain, if it has one.
     ghost epoch: { Option Epoch };

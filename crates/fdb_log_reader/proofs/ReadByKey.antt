@@ -1,5 +1,6 @@
 -- What is known of a log that was read with the keys of its lines.
 use Rattle.std.proofs.Common.{◌≡◌, ◌∙◌, ◌+◌, ◌==◌, ◌&&◌, ℕ, append-nil, map, ◌<◌, Bool, true, false, cond, nat_le, nat_lt, not, List, [], ◌∷◌, ◌++◌, length, length-append, Option, None, Some, IfSome, is_some, option_and_then, option_map, Result, Ok, Err, All, ap, arith, if◌then◌else◌, refl, subst, sym}
+use Rattle.std.specs.Bool.{beq}
 use Rattle.std.proofs.lemmas.Bool.Decides.{nat_tests}
 use Rattle.std.proofs.lemmas.List.Elements.{All-append, All-cons, All-nil}
 use Rattle.std.proofs.lemmas.Option.{slice_get_within}
@@ -11,7 +12,7 @@ use Rattle.fdb_lines.specs.declared.line.Times.{Times}
 use Rattle.fdb_lines.specs.declared.log.LineError.{LineError}
 use Rattle.fdb_lines.specs.declared.log.TheConstants.{MAX_LINES}
 use Rattle.fdb_lines.specs.Lines.{Lines, has_times, is_learn, kind_of}
-use Rattle.fdb_lines.specs.Log.{added, refusal_of, same_bool}
+use Rattle.fdb_lines.specs.Log.{added, refusal_of}
 use Rattle.fdb_log_reader.specs.declared.error.ReadError.{ReadError}
 use Rattle.fdb_log_reader.specs.declared.error.Why.{Why}
 use Rattle.fdb_log_reader.specs.declared.error.Why.TheVariants.{BadMember, TooLong, TooMany}
@@ -133,7 +134,7 @@ one_of P x is = All-cons P x [] is (All-nil P)
 abbrev AreTimed : Lines → Type 0
 AreTimed log = All (λ (line : Line). has_times line ≡ log.timed) log.lines
 
-as_before : (one other : Bool) → same_bool one other ≡ true → one ≡ other
+as_before : (one other : Bool) → beq one other ≡ true → one ≡ other
 as_before true true is = refl
 as_before true false is = absurd (cc)
 as_before false true is = absurd (cc)
@@ -147,11 +148,11 @@ timed_more : (log : Lines) (line : Line) → refusal_of log line ≡ None → Ar
 timed_more log line fits timed = by log.lines timed (none_first _ _ _ (none_first _ _ _ fits).1).0
   where
     by : (lines : List Line) → All (λ (line : Line). has_times line ≡ log.timed) lines
-        → (not (length lines == 0) && not (same_bool log.timed (has_times line))) ≡ false → All (λ (other : Line). has_times other ≡ has_times line) (lines ++ line ∷ [])
+        → (not (length lines == 0) && not (beq log.timed (has_times line))) ≡ false → All (λ (other : Line). has_times other ≡ has_times line) (lines ++ line ∷ [])
     by [] timed none = one_of (λ (other : Line). has_times other ≡ has_times line) line refl
     by (first ∷ lines) timed none =
         let some : (length (first ∷ lines) == 0) ≡ false = grind (arith, nat_tests) in
-        let same : same_bool log.timed (has_times line) ≡ true = not_not (same_bool log.timed (has_times line)) (ap (λ b. not b && not (same_bool log.timed (has_times line))) (sym some) ∙ none) in
+        let same : beq log.timed (has_times line) ≡ true = not_not (beq log.timed (has_times line)) (ap (λ b. not b && not (beq log.timed (has_times line))) (sym some) ∙ none) in
         let is = as_before log.timed (has_times line) same in
         All-append (λ (other : Line). has_times other ≡ has_times line) (first ∷ lines) (line ∷ []) (λ k d lt. timed k d lt ∙ is)
         (one_of (λ (other : Line). has_times other ≡ has_times line) line refl)

@@ -2,8 +2,8 @@
 
 ghost use Rattle.std.specs.Prelude.{◌≡◌, ◌<◌};
 
-/// How many lines there are above one, and the numbers of the first of them that has times and of
-/// the first that has none.
+/// What stands above a line of a log: how many lines, and the numbers, counted from 1, of the first
+/// of these lines that has times and of the first that has none.
 #[derive(Clone, Copy, Debug, PartialEq, Eq)]
 pub struct Above {
     pub count: u64,

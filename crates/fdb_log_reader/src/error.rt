@@ -7,13 +7,14 @@ use fdb_lines::LineError;
 use std::alloc::AllocError;
 use std::fmt;
 
-/// What is wrong with a text or with a line of it. docs/FORMATS.md has the order in which this is
+/// What is wrong with a text or with a line of it. docs/LOG.md has the order in which this is
 /// looked for.
 #[derive(Clone, Copy, Debug, PartialEq, Eq)]
 pub enum Why {
     /// The text has no line.
     Empty,
-    /// The line has more than [`crate::MAX_LINE_BYTES`] bytes, its line feed not counted.
+    /// The line has more than [`crate::MAX_LINE_BYTES`] bytes, its line feed not counted. Where
+    /// lines have their own numbers, it may have 40 more.
     TooLong,
     /// There are as many lines above the line as a log may have.
     TooMany,
@@ -27,9 +28,10 @@ pub enum Why {
     SomeTimes,
     /// A member is missing, of another kind, or not one that may stand there.
     BadMember(Member),
-    /// Keys are kept, and the member that names the line's key is no name.
+    /// Keys are kept, and what the line has as its key is neither a text nor a whole number.
     BadKey,
-    /// Lines have their own numbers, and this one has none above that of the line before.
+    /// Lines have their own numbers, and this line has no number, or one that is not above that of
+    /// the line before.
     BadNumber,
     /// Memory was refused, which says nothing of the line.
     Memory,
@@ -63,8 +65,9 @@ impl From<AllocError> for Why {
     }
 }
 
-/// Why a text is refused: the first line with which something is wrong, counted from 1, or 0 where
-/// there is no line. Where memory was refused, the line says nothing.
+/// Why a text, or a line of it, is refused: the line, counted from 1, or 0 where there is no line,
+/// and what is wrong. A text is refused for the first line with which something is wrong. Where
+/// memory was refused, the line says nothing.
 #[derive(Clone, Copy, Debug, PartialEq, Eq)]
 pub struct ReadError {
     pub line: u64,

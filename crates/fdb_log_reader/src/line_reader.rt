@@ -1,7 +1,7 @@
 //! Lines that are read one by one, each by itself, however long the text gets.
 
 ghost use Rattle.std.specs.Prelude.{◌≡◌, ◌++◌, ◌∷◌, ◌≤◌, ℕ, List, [], All, IfOk, IfSome, OnOk};
-ghost use Rattle.std.specs.Prelude.{length, MatchOption, map, option_map, take, string_bytes};
+ghost use Rattle.std.specs.Prelude.{length, MatchOption, map, option_map, take, true, string_bytes};
 ghost use Rattle.fdb_log_reader.specs.ReadLine.{known_of, ReadsLine};
 ghost use Rattle.fdb_log_reader.specs.private.{IsOneLine};
 
@@ -80,8 +80,17 @@ impl LineReader {
         self.names.member()
     }
 
-    /// Reads on: what becomes of each line that ends in these bytes, in order: the line, or why it
-    /// is refused. An error says that memory was refused; after it the reader is not to be fed.
+    /// Whether what has come ends where a line does, so that no part of a line waits for its end.
+    pub fn is_at_line_end(&self) -> bool
+        ensures { result ≡ true → (lines_on self.now [] ≡ [])
+            × (names_on self.now [] ≡ line_names self.now) }
+    {
+        self.front.is_empty()
+    }
+
+    /// Takes the next bytes of the text, cut anywhere. Answers what becomes of each line that ends
+    /// in these bytes, in order: the line, or why it is refused. The outer error says that memory
+    /// was refused; after it the reader is not to be fed.
     pub fn feed(
         &mut self,
         alloc: Global,

@@ -7,7 +7,7 @@ use crate::error::Why;
 use crate::reader::MAX_LINE_BYTES;
 use std::alloc::Global;
 
-/// How many bytes more a line may have that has its own number.
+/// Where lines have their own numbers, a line may have so many bytes more than [`MAX_LINE_BYTES`].
 pub const NUMBER_BYTES: usize = 40;
 
 /// The numbers that the lines of a log have in a member, each above that of the line before.

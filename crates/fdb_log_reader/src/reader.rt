@@ -107,7 +107,8 @@ impl LogReader {
         self.named.log.lines().len()
     }
 
-    /// Reads on. An error names the first line that is refused, or says that memory was refused.
+    /// Takes the next bytes of the text, cut anywhere. An error names the first line that is
+    /// refused, or says that memory was refused.
     #[tactic(auto, using(crate::proofs::Splitting::goes_on))]
     pub fn feed(mut self, bytes: &[u8]) -> Result<Self, ReadError>
         ensures { MatchResult result
@@ -250,8 +251,10 @@ pub(crate) fn split_line(bytes: &[u8]) -> Option<(&[u8], &[u8])>
 /// The log that a text of JSON Lines stands for. An error names the first line that is refused, or
 /// says that there is no line, or that memory was refused.
 ///
-/// Linear in the bytes, but that names are looked up by comparing, and that the members of a line are
-/// sorted which has not the usual form. Beside the log and the names it takes the memory of one line.
+/// Linear in the bytes, with two exceptions: a name is looked up in logarithmic time, and the
+/// members of a line are sorted, unless it is an object without white space and escapes whose
+/// members are texts, whole numbers below 2^64 and nulls. Beside the log and the names it takes the
+/// memory of one line.
 pub fn read_log(alloc: Global, bytes: &[u8]) -> Result<NamedLog, ReadError>
     ensures { ReadsAs bytes.now result }
 {

@@ -87,8 +87,8 @@ impl Splitter {
         its.text.clear();
     }
 
-    /// Reads on. An error names the first line that is refused, by its number, or says that memory
-    /// was refused.
+    /// Takes the next bytes of the log, cut anywhere. An error names the first line that is
+    /// refused, by its number, or says that memory was refused.
     pub fn feed(mut self, bytes: &[u8]) -> Result<Self, ReadError>
         ensures { MatchResult result
             (λ it. (placed : List Placed) × HasPlaced self bytes.now placed it)

@@ -3,8 +3,8 @@ use Rattle.std.proofs.Common.{◌≡◌, ℕ, All, List, ◌∷◌, ◌++◌, le
 use Rattle.std.proofs.lemmas.List.{take_all, take-append-le}
 use mathlib.Core.List.{IsPrefix}
 use Rattle.fdb_history.specs.declared.service.Service.{Ghosts as ServiceGhosts}
-use Rattle.fdb_live.specs.declared.live.Live.{Ghosts as LiveGhosts}
-use Rattle.fdb_live.specs.declared.change.Change.{Change}
+use Rattle.fdb_live.specs.declared.seen.Live.{Ghosts as LiveGhosts}
+use Rattle.fdb_live.specs.declared.view.Change.{Change}
 use Rattle.fdb_proxy.specs.declared.request.Request.{Request}
 use Rattle.fdb_queue.specs.declared.request.Req.{Req}
 

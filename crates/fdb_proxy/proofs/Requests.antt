@@ -2,13 +2,13 @@
 use Rattle.std.proofs.Common.{true, ◌≡◌, None, length, refl, sym, subst}
 use Rattle.std.proofs.Props.{props}
 use Rattle.std.proofs.lemmas.Bool.{eq-eqb}
-use Rattle.fdb_history.specs.declared.grv.Priority.{Priority}
-use Rattle.fdb_history.specs.declared.grv.Priority.TheVariants.{System, Default, Batch}
+use Rattle.fdb_history.specs.declared.log.Priority.{Priority}
+use Rattle.fdb_history.specs.declared.log.Priority.TheVariants.{System, Default, Batch}
 use Rattle.fdb_queue.specs.declared.request.Req.{Req}
 use Rattle.fdb_queue.specs.Waiting.{is_priority}
 use Rattle.fdb_proxy.specs.Options.{has_own_options}
 use Rattle.fdb_history.specs.declared.service.Service.{Ghosts as ServiceGhosts}
-use Rattle.fdb_live.specs.declared.live.Live.{Ghosts as LiveGhosts}
+use Rattle.fdb_live.specs.declared.seen.Live.{Ghosts as LiveGhosts}
 use Rattle.fdb_live.specs.Seen.{Sight}
 use Rattle.fdb_proxy.specs.declared.request.Request.{Request}
 

@@ -1,10 +1,10 @@
 -- What the answers to a batch have to do with its requests.
 use Rattle.std.specs.Prelude.{◌≡◌, List, length}
 use mathlib.Core.List.{IsPrefix}
-use Rattle.fdb_history.specs.declared.grv.TagLimit.{TagLimit}
+use Rattle.fdb_history.specs.declared.log.TagLimit.{TagLimit}
 use Rattle.fdb_history.specs.declared.service.Service.{Ghosts as ServiceGhosts}
-use Rattle.fdb_live.specs.declared.live.Live.{Ghosts as LiveGhosts}
-use Rattle.fdb_live.specs.declared.change.Change.{Change}
+use Rattle.fdb_live.specs.declared.seen.Live.{Ghosts as LiveGhosts}
+use Rattle.fdb_live.specs.declared.view.Change.{Change}
 use Rattle.fdb_live.specs.Seen.{last_record}
 use Rattle.fdb_proxy.specs.declared.answer.Addressed.{Addressed}
 use Rattle.fdb_proxy.specs.declared.answer.Reply.{Reply}

@@ -9,9 +9,10 @@ use fdb_queue::MAX_RATE;
 /// FoundationDB 7.1: `transactionRate` and `batchTransactionRate`). Each is in its range.
 #[derive(Clone, Copy, Debug, PartialEq, Eq)]
 pub struct Rates {
-    /// The rate that holds default and batch requests: 1 to `MAX_RATE`.
+    /// The rate that holds back default and batch requests: 1 to `MAX_RATE`.
     pub normal: u64,
-    /// The rate that holds batch requests besides: 0 to `MAX_RATE`. With 0 none is let in.
+    /// The rate that holds back batch requests too: 0 to `MAX_RATE`. With 0 no batch request is let
+    /// in.
     pub batch: u64,
     pub ghost in_range: { AreRates normal batch },
 }

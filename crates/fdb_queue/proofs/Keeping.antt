@@ -13,9 +13,9 @@ use Rattle.std.specs.declared.cmp.Ordering.TheVariants.{Less, Equal, Greater}
 use Rattle.std.proofs.lemmas.Bool.{cases_Bool}
 use Rattle.std.proofs.lemmas.Slice.Eq.{bytes_eq-Decides}
 use Rattle.std.proofs.lemmas.Map.Text.{is_eq-slice_cmp}
-use Rattle.fdb_history.specs.declared.grv.Priority.{Priority}
-use Rattle.fdb_history.specs.declared.grv.Priority.TheVariants.{System, Default, Batch}
-use Rattle.fdb_history.specs.declared.grv.TagLimit.{TagLimit}
+use Rattle.fdb_history.specs.declared.log.Priority.{Priority}
+use Rattle.fdb_history.specs.declared.log.Priority.TheVariants.{System, Default, Batch}
+use Rattle.fdb_history.specs.declared.log.TagLimit.{TagLimit}
 use Rattle.fdb_queue.specs.declared.throttles.Limit.{Limit}
 use Rattle.fdb_queue.specs.private.Kinds.{kept_for}
 use Rattle.fdb_queue.specs.declared.throttles.Throttle.{Throttle}

@@ -9,8 +9,8 @@ use Rattle.std.proofs.lemmas.Bool.Decides.{nat_tests}
 use Rattle.std.proofs.lemmas.List.{nil_from_length}
 use Rattle.std.proofs.lemmas.List.Elements.{All-head}
 use Rattle.std.proofs.lemmas.Grind.{div_ceil_times}
-use Rattle.fdb_history.specs.declared.grv.Priority.{Priority}
-use Rattle.fdb_history.specs.declared.grv.Priority.TheVariants.{System, Default, Batch}
+use Rattle.fdb_history.specs.declared.log.Priority.{Priority}
+use Rattle.fdb_history.specs.declared.log.Priority.TheVariants.{System, Default, Batch}
 use Rattle.fdb_queue.specs.declared.budgets.Budgets.{Budgets}
 use Rattle.fdb_queue.specs.declared.config.QueueConfig.{QueueConfig}
 use Rattle.fdb_queue.specs.declared.config.TheConstants.{MAX_COUNT, MAX_BURST, RATE_WINDOW}

@@ -1,7 +1,7 @@
 -- Words of the laws: which list a priority has, and which priority is lower. (this product's own)
 use Rattle.std.specs.Prelude.{ℕ, List}
-use Rattle.fdb_history.specs.declared.grv.Priority.{Priority}
-use Rattle.fdb_history.specs.declared.grv.Priority.TheVariants.{System, Default, Batch}
+use Rattle.fdb_history.specs.declared.log.Priority.{Priority}
+use Rattle.fdb_history.specs.declared.log.Priority.TheVariants.{System, Default, Batch}
 use Rattle.fdb_queue.specs.declared.request.Req.{Req}
 use Rattle.fdb_queue.specs.Waiting.{Requests}
 

@@ -1,7 +1,7 @@
 -- How long the first request of the row waits. (this product's own)
 use Rattle.std.specs.Prelude.{◌≡◌, ℕ, zero, suc, ◌<◌, ◌≤◌, [], length}
-use Rattle.fdb_history.specs.declared.grv.Priority.{Priority}
-use Rattle.fdb_history.specs.declared.grv.Priority.TheVariants.{System, Default, Batch}
+use Rattle.fdb_history.specs.declared.log.Priority.{Priority}
+use Rattle.fdb_history.specs.declared.log.Priority.TheVariants.{System, Default, Batch}
 use Rattle.fdb_queue.specs.declared.config.QueueConfig.{QueueConfig}
 use Rattle.fdb_queue.specs.declared.config.TheConstants.{MAX_COUNT}
 use Rattle.fdb_queue.specs.Queue.{Queue}

@@ -3,8 +3,8 @@
 use Rattle.std.specs.Prelude.{ℕ, ◌+◌, Bool, true, ◌&&◌, ◌==◌, nat_le, List, [], ◌∷◌, ◌++◌, map, find, None, unwrap_or, length, drop}
 use Rattle.std.specs.List.{list_all, last_or}
 use Rattle.std.specs.Option.{option_map_or}
-use Rattle.fdb_history.specs.declared.grv.Priority.{Priority}
-use Rattle.fdb_history.specs.declared.grv.Priority.TheVariants.{System, Default, Batch}
+use Rattle.fdb_history.specs.declared.log.Priority.{Priority}
+use Rattle.fdb_history.specs.declared.log.Priority.TheVariants.{System, Default, Batch}
 use Rattle.fdb_queue.specs.declared.config.TheConstants.{MAX_STARTED}
 use Rattle.fdb_queue.specs.declared.budgets.Budgets.{Budgets}
 use Rattle.fdb_queue.specs.declared.config.QueueConfig.{QueueConfig}

@@ -14,9 +14,9 @@ use crate::config::{IDLE_BURST, MAX_BURST, RATE_WINDOW};
 /// `RATE_WINDOW`.
 #[derive(Clone, Copy, Debug, Default, PartialEq, Eq)]
 pub struct Budgets {
-    /// The budget of the rate that holds default and batch requests.
+    /// The budget of the rate that holds back default and batch requests.
     pub normal: u64,
-    /// The budget of the rate that holds batch requests besides.
+    /// The budget of the rate that holds back batch requests too.
     pub batch: u64,
 }
 

@@ -41,9 +41,10 @@ pub const MAX_TAG: u64 = 16;
 /// The rates of a queue, in transactions for each `RATE_WINDOW` of time, and its capacity.
 #[derive(Clone, Copy, Debug, PartialEq, Eq)]
 pub struct QueueConfig {
-    /// The rate that holds default and batch requests: 1 to `MAX_RATE`.
+    /// The rate that holds back default and batch requests: 1 to `MAX_RATE`.
     pub normal: u64,
-    /// The rate that holds batch requests besides: 0 to `MAX_RATE`. With 0 none is let in.
+    /// The rate that holds back batch requests too: 0 to `MAX_RATE`. With 0 no batch request is let
+    /// in.
     pub batch: u64,
     /// The capacity, which is the most requests that wait: 1 to `MAX_ROOM`.
     pub room: u64,

@@ -9,8 +9,8 @@ use std::fmt;
 pub enum QueueError {
     /// A rate, the capacity or the time since the last window is out of range.
     BadConfig,
-    /// The request's count is out of range, or above what a batch request is sure to start with
-    /// once nothing else waits.
+    /// The request's count is not 1 to `MAX_COUNT`; or it is that of a batch request, and above the
+    /// normal rate by more than `IDLE_BURST`, so that the request might never start.
     BadCount,
     /// No batch request is let in, since the batch limit is 0.
     BatchThrottled,

@@ -14,7 +14,7 @@ ghost use Rattle.fdb_queue.specs.NewRates.{turned_away, under_rates, with_rates}
 ghost use Rattle.fdb_queue.specs.Queue.{Queue};
 ghost use Rattle.fdb_queue.specs.declared.throttles.Throttle.{Throttle};
 ghost use Rattle.fdb_queue.specs.Throttles.{SameThrottles, limits_of};
-ghost use Rattle.fdb_history.specs.declared.grv.Priority.{Priority};
+ghost use Rattle.fdb_history.specs.declared.log.Priority.{Priority};
 ghost use Rattle.fdb_queue.specs.Waiting.{row, total};
 ghost use Rattle.std.specs.Int.{div_ceil};
 ghost use Rattle.fdb_queue.specs.Waits.{after_windows, IsSure, limit_of};
@@ -23,7 +23,7 @@ ghost use Rattle.fdb_queue.specs.Window.{may_start, fits, window, after_window};
 ghost use Rattle.fdb_queue.specs.Config.{IsConfig};
 ghost use Rattle.fdb_queue.specs.declared.config.TheConstants.{MAX_STARTED, RATE_WINDOW};
 ghost use Rattle.fdb_queue.specs.declared.request.Req.{Req};
-ghost use Rattle.fdb_history.specs.declared.grv.Priority.TheVariants.{Batch, Default};
+ghost use Rattle.fdb_history.specs.declared.log.Priority.TheVariants.{Batch, Default};
 
 /// A window starts a prefix of the row, and so passes over nobody. Each request of it may start,
 /// given the sum of the counts before it; no longer prefix would do; and where one is left, it is

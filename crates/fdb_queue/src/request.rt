@@ -6,7 +6,7 @@ use fdb_history::Priority;
 /// A request for a read version, as the queue sees it. Its payload comes out as it went in.
 #[derive(Debug, PartialEq, Eq, Drop)]
 pub struct Req<T> {
-    /// The list that it waits in, and the rates that hold it.
+    /// Decides in which list the request waits, and which rates hold it back.
     pub priority: Priority,
     /// How many transactions start with it, which is what the rates count.
     pub count: u64,

@@ -6,7 +6,7 @@ ghost use Rattle.std.specs.List.{list_all};
 ghost use Rattle.fdb_queue.specs.Throttles.{is_throttle, last_set, limits_of, unexpired};
 ghost use Rattle.fdb_queue.specs.Throttles.{IsLeftAt, SameThrottles, still_set};
 ghost use Rattle.fdb_queue.specs.private.Kinds.{kept_for};
-ghost use Rattle.fdb_history.specs.declared.grv.Priority.{Priority};
+ghost use Rattle.fdb_history.specs.declared.log.Priority.{Priority};
 
 use crate::config::MAX_TAG;
 use fdb_history::{Priority, Tag, TagLimit};

@@ -10,7 +10,7 @@ use Rattle.fdb_history.specs.Strays.{IsStray}
 use Rattle.fdb_history.specs.declared.register.Record.{Record}
 use Rattle.fdb_script.specs.Answering.{Answers}
 use Rattle.fdb_script.specs.Plan.{Plan}
-use Rattle.fdb_script.specs.declared.outcome.Outcome.{Outcome}
+use Rattle.fdb_script.specs.declared.script.Outcome.{Outcome}
 
 -- The record before any report: the recovery version, unlocked. It has no metadata version, and no
 -- minimum known committed version yet.

@@ -8,10 +8,10 @@ use Rattle.clap.specs.Words.{App, Text, matches_of, one_of}
 use Rattle.fdb_command.specs.Arguments.{command_of, file_rule, flag_rule, is_set, number_rule}
 use Rattle.fdb_command.specs.Driving.{Promise}
 use Rattle.fdb_replay.specs.Replay.{Replays}
-use Rattle.fdb_replay.specs.declared.opts.ReplayOpts.{ReplayOpts}
+use Rattle.fdb_replay.specs.declared.running.ReplayOpts.{ReplayOpts}
 use Rattle.fdb_replay.specs.declared.replay_program.ScriptRefused.{ScriptRefused}
 use Rattle.fdb_script.specs.Reading.{ReadsAs}
-use Rattle.fdb_script.specs.declared.error.ScriptError.TheVariants.{Memory}
+use Rattle.fdb_script.specs.declared.script.ScriptError.TheVariants.{Memory}
 use Rattle.fdb_script.specs.declared.script.TheConstants.{MAX_SCRIPT_BYTES}
 
 -- the words that the program takes: the file of the script, `--proxies` from 1 to 16, and
@@ -43,7 +43,7 @@ replay = record {
   asks = IsAsked;
   tells = λ arguments. false;
   warns = λ arguments. false;
-  keeps = λ arguments. false;
+  fails = λ arguments fault. ⊥;
   taken = λ opts script bytes told. (script.items ≡ bytes) × (told ≡ []);
   prints = λ arguments bytes text found refused. (found ≡ None) × (refused ≡ None)
       × Replays bytes (is_set (codes "history") command arguments) text;

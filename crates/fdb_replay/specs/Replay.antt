@@ -5,9 +5,9 @@ use Rattle.fdb_replay.specs.Outcome.{IsRunOf}
 use Rattle.fdb_script.specs.Plan.{Plan}
 use Rattle.fdb_script.specs.Reading.{ReadsAs}
 use Rattle.fdb_script.specs.Text.{text}
-use Rattle.fdb_script.specs.declared.outcome.Outcome.{Outcome}
-use Rattle.fdb_replay.specs.declared.replaying.ReplayFault.{ReplayFault}
-use Rattle.fdb_replay.specs.declared.replaying.ReplayFault.TheVariants.{Script, Memory, Write}
+use Rattle.fdb_script.specs.declared.script.Outcome.{Outcome}
+use Rattle.fdb_replay.specs.declared.running.ReplayFault.{ReplayFault}
+use Rattle.fdb_replay.specs.declared.running.ReplayFault.TheVariants.{Script, Memory, Write}
 
 -- What is written is the text of a run of the script. The script is the one that these bytes stand
 -- for.

@@ -1,20 +1,90 @@
-//! A client of a run, which does what commands say.
+//! A client of a run, which does what commands say: what it tells others, and the desk for each of
+//! its reads.
 
-ghost use Rattle.std.specs.Prelude.{◌≡◌, ◌≢◌, ◌+◌, ◌++◌, [], Err, true, false, OnOk, length};
+ghost use Rattle.std.specs.Prelude.{◌≡◌, None, length, ◌≢◌, ◌+◌, ◌++◌, [], Err, true, false, OnOk};
 ghost use Rattle.fdb_history.specs.Log.{fresh_answers};
 ghost use Rattle.fdb_history.specs.declared.log.Input.TheVariants as input;
-ghost use Rattle.fdb_replay.specs.private.Rounds.{CallsOnce, tells_since};
 ghost use Rattle.fdb_script.specs.Answering.{input_of, learns};
+ghost use Rattle.fdb_replay.specs.private.Routing.{desk_for, reads_of};
+ghost use Rattle.fdb_replay.specs.private.Rounds.{CallsOnce, tells_since};
 
-use crate::routing::Routing;
-use crate::tell::Tell;
-use fdb_client::{Client, ClientError};
+use fdb_client::{Client, ClientError, Cluster};
 use fdb_history::{Gate, GrvOpts};
-use fdb_live::Live;
+use fdb_live::{Live, Seen};
+use fdb_proxy::Desk;
 use fdb_script::Act;
 use std::alloc::AllocError;
 use std::marker::Model;
 use std::sync::Wait;
+
+/// What a client told another: what it had seen of the commit versions and of the live record.
+///
+/// Contracts see it as who is told, who tells, and the position that the teller had come to.
+#[derive(Drop)]
+pub(crate) struct Tell<J: Live> {
+    pub(crate) to: u32,
+    pub(crate) from: u32,
+    /// What the teller had seen, as a token with no number.
+    pub(crate) seen: Seen<J>,
+}
+
+impl<J: Live> Model for Tell<J> {
+    ghost use Rattle.std.specs.Prelude.{◌≡◌, None, length};
+    ghost use Rattle.fdb_replay.specs.private.Rounds.{Tell};
+
+    ghost Value = { Tell };
+
+    ghost view = { λ tell.
+        record { to = tell.to; from = tell.from; position = length tell.seen.changes } };
+
+    ghost invariant = { λ tell. tell.seen.reporter ≡ None };
+}
+
+impl<J: Live> Tell<J> {
+    /// One client told another what it had seen.
+    pub(crate) fn new(from: u32, to: u32, seen: Seen<J>) -> Self
+        requires { seen.reporter ≡ None }
+        ensures { result ≡ record { to = to; from = from; position = length seen.changes } }
+    {
+        Tell { to, from, seen }
+    }
+}
+
+/// What the clients of a run call, and the gate that their calls pass.
+#[derive(Drop)]
+pub(crate) struct Routing<'a, J: Live, G: Gate> {
+    pub(crate) cluster: &'a Cluster<'a, J>,
+    pub(crate) gate: &'a G,
+}
+
+impl<'a, J: Live, G: Gate> Routing<'a, J, G> {
+    /// The desk for a client's next read, where it has made so many before. (no clause can tell one
+    /// desk from another: that of `desk_at` says which is taken)
+    pub(crate) fn desk(&self, client: &Client<'_, J>, reads: u64) -> &Desk<J>
+        requires { reads ≡ reads_of client.now.calls }
+    {
+        self.desk_at(self.route(client.number(), reads), client)
+    }
+
+    /// The desk with this number, which is that for the client's next read.
+    fn desk_at(&self, number: u32, client: &Client<'_, J>) -> &Desk<J>
+        requires { number ≡ desk_for self.now.cluster.now.config.grv_proxies
+            client.now.number (reads_of client.now.calls) }
+    {
+        let _ = client;
+        self.cluster.desk(number)
+    }
+
+    /// The number of the desk for a client's next read, where it has made so many reads before.
+    #[tactic(auto, using(crate::proofs::Turns::in_turn))]
+    fn route(&self, client: u32, reads: u64) -> u32
+        ensures { result ≡ desk_for self.now.cluster.now.config.grv_proxies client reads }
+    {
+        let desks = u64::from(self.cluster.config().grv_proxies);
+        let place = (u64::from(client) % desks + reads % desks) % desks;
+        place as u32
+    }
+}
 
 /// A client of a run, which sends its reads to the GRV proxies in turn.
 ///

@@ -9,8 +9,7 @@ ghost use Rattle.fdb_command.specs.Driving.{IsBegun, IsDriven, Stops};
 ghost use Rattle.fdb_replay.specs.Program.{command, proxies_named, replay};
 ghost use Rattle.fdb_replay.specs.Replay.{Refuses, Replays};
 
-use crate::opts::ReplayOpts;
-use crate::replaying::{ReplayFault, replayed_text};
+use crate::running::{ReplayFault, ReplayOpts, replayed_text};
 use clap::{ArgMatches, Command};
 use fdb_command::{
     ArgumentsFault, Failure, Output, Program, file_argument, flag_argument, is_given, new_command,
@@ -20,7 +19,7 @@ use fdb_history::OpenGate;
 use fdb_script::{MAX_SCRIPT_BYTES, ScriptError};
 use std::alloc::{AllocError, Global};
 use std::convert::Infallible;
-use std::fs::Files;
+use std::fs::{File, Files};
 use std::io;
 use std::io::{Read, Write};
 use std::sync::Wait;
@@ -30,13 +29,15 @@ use thiserror::Error;
 
 /// The end of the help: what each status means, and where the formats are told.
 const AFTER_HELP: &str = "Exit status:
-  0  the replies are written, or this help
-  1  the script is refused: NotJson, BadLimit, or BadField with the round and the command
-  2  the words are refused
-  3  want of memory
+  0  the replies are written, or help was asked for
+  1  the script is refused: NotJson, BadLimit, or BadField with round and command, from 0
+  2  the arguments are refused
+  3  memory ran out, or a thread could not be started
   5  reading or writing failed
 
-docs/FORMATS.md has the script, what is written, and what each refusal means.";
+On each status but 0 standard error has a line that says why.
+docs/SCRIPT.md has the format of the script, what is written and what each refusal means, and
+docs/STATUSES.md how the program ends.";
 
 const PROXIES_HELP: &str = "The number of GRV proxies, from 1 to 16 [default: 1]";
 
@@ -91,7 +92,7 @@ impl Program for Replay {
         })
     }
 
-    fn begin<R: Files>(
+    fn begin<R: Files<File = File>>(
         &self,
         _rt: &R,
         alloc: Global,
@@ -121,7 +122,7 @@ impl Program for Replay {
 /// Replays the script of the file that the arguments name or else of the input, and writes the
 /// lines to `out`; or writes the help there. Answers the status of the program, as
 /// [`fdb_command::drive`] says. It tells nothing while it reads.
-pub fn drive<R: Threads + Wait + Sync + Files + Clock, I: Read, O: Write, E: Write>(
+pub fn drive<R: Threads + Wait + Sync + Files<File = File> + Clock, I: Read, O: Write, E: Write>(
     rt: &R,
     alloc: Global,
     arguments: io::Result<Vec<String>>,
@@ -183,10 +184,14 @@ fn command<'a>(alloc: Global) -> Result<Command<'a>, AllocError>
     .arg(file_argument(
         alloc,
         "SCRIPT",
-        "The file that has the script; standard input, if left out",
+        "The file with the script; without it standard input is read",
     ))?
     .arg(number_argument(alloc, "proxies", 1, 16, "N", PROXIES_HELP))?
-    .arg(flag_argument(alloc, "history", "Write the history too"))
+    .arg(flag_argument(
+        alloc,
+        "history",
+        "Write also the one history that explains all replies",
+    ))
 }
 
 /// The number of GRV proxies that is asked for, 1 to 16.

@@ -5,22 +5,18 @@ ghost use Rattle.std.specs.Prelude.{length, fold, slice_index_or, vec_len};
 ghost use Rattle.std.specs.List.{FoldsTo};
 ghost use Rattle.std.specs.Thread.{IsSync, IsSend};
 ghost use Rattle.fdb_client.specs.Settling.{logs_of};
-ghost use Rattle.fdb_replay.specs.private.Rounds.{IsPlayed, numbers_of, teach};
-ghost use Rattle.fdb_replay.specs.private.Rounds.{tells_since};
 ghost use Rattle.fdb_script.specs.Answering.{AnswersCommand, AnswersRound, commands_of};
 ghost use Rattle.fdb_script.specs.declared.script.TheConstants.{MAX_CLIENTS};
+ghost use Rattle.fdb_replay.specs.private.Rounds.{IsPlayed, numbers_of, teach, tells_since};
 
-use crate::player::Player;
-use crate::routing::Routing;
-use crate::tell::Tell;
+use crate::player::{Player, Routing, Tell};
 use fdb_history::{Gate, Sequence};
 use fdb_live::Live;
 use fdb_script::{Command, MAX_CLIENTS};
 use std::alloc::{AllocError, Global};
 use std::snapshot::Snapshot;
 use std::sync::Wait;
-use std::thread;
-use std::thread::{Promise, Scope, Threads};
+use std::thread::{self, Promise, Scope, Threads};
 
 /// The most clients of a run, as the length of an array.
 const CLIENTS: usize = MAX_CLIENTS as usize;

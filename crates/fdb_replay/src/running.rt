@@ -1,23 +1,65 @@
-//! A run of a script, from its plan to its outcome.
+//! A run of a script, from its bytes to the printed lines: its GRV proxies, which serve while the
+//! rounds are played, and its clients, from before the first round until they are finished.
 
-ghost use Rattle.std.specs.Prelude.{◌≡◌, ◌<◌, ◌≤◌, IfOk, true};
+ghost use Rattle.std.specs.Prelude.{◌≡◌, ◌<◌, ◌≤◌, IfOk, true, ℕ, [], Some, length, slice_get};
+ghost use Rattle.std.specs.Prelude.{vec_len, OnOk, ◌≢◌, List, IfErr, Ok};
+ghost use Rattle.std.specs.Io.KnownBytes.{Appends};
+ghost use Rattle.std.specs.List.{FoldsTo};
 ghost use Rattle.fdb_client.specs.Cluster.{IsClusterConfig};
+ghost use Rattle.fdb_client.specs.Settling.{logs_of};
+ghost use Rattle.fdb_client.specs.Account.{new_account};
 ghost use Rattle.fdb_client.specs.declared.cluster.TheConstants.{MAX_GRV_PROXIES};
 ghost use Rattle.fdb_live.specs.Seen.{origin_of};
-ghost use Rattle.fdb_replay.specs.Outcome.{IsRunOf, opening};
-ghost use Rattle.fdb_replay.specs.private.Configured.{IsConfigFor};
 ghost use Rattle.fdb_script.specs.Plan.{IsPlan, Plan};
+ghost use Rattle.fdb_script.specs.Reading.{ReadsAs};
+ghost use Rattle.fdb_script.specs.Answering.{Answers, AnswersRound};
+ghost use Rattle.fdb_script.specs.declared.script.TheConstants.{MAX_CLIENTS};
+ghost use Rattle.fdb_replay.specs.Outcome.{IsRunOf, opening};
+ghost use Rattle.fdb_replay.specs.Replay.{IsCut, Replays, Refuses};
+ghost use Rattle.fdb_replay.specs.private.Configured.{IsConfigFor};
 
-use crate::routing::Routing;
-use crate::serving::served;
-use fdb_client::{ClusterConfig, ClusterParts, OpenedCluster};
-use fdb_history::{Gate, Record, laws};
-use fdb_live::Live;
-use fdb_script::{Outcome, Script};
+use crate::player::{Player, Routing};
+use crate::rounds::play_rounds;
+use fdb_client::{
+    Client, Cluster, ClusterConfig, ClusterParts, FinishError, Finished, OpenedCluster, Served,
+    clients_of, serve_while,
+};
+use fdb_command::write_whole;
+use fdb_history::{Gate, Record, Sequence, laws};
+use fdb_live::{Live, Seen};
+use fdb_script::{Command, Outcome, Script, ScriptError, read_script, text};
 use std::alloc::{AllocError, Global};
-use std::marker::Brand;
+use std::io::Write;
+use std::marker::{Brand, Model};
+use std::mem;
 use std::sync::Wait;
 use std::thread::Threads;
+use thiserror::Error;
+
+/// What a replay is told beside the script.
+#[derive(Clone, Copy, Debug, PartialEq, Eq)]
+pub struct ReplayOpts {
+    /// The number of GRV proxies, 1 to 16.
+    pub proxies: u32,
+    /// Whether the history is written after the audit line.
+    pub with_history: bool,
+    pub ghost some_proxy: { 0 < proxies },
+    pub ghost few_proxies: { proxies ≤ MAX_GRV_PROXIES },
+}
+
+/// Why a replay failed: in its script, for memory in its run, or in writing, in this order.
+#[derive(Clone, Copy, Debug, PartialEq, Eq, Error)]
+pub enum ReplayFault {
+    /// The script was refused, or memory for its text.
+    #[error("script refused: {0}")]
+    Script(ScriptError),
+    /// Memory was refused to the run, or a thread could not be had. A run fails for nothing else.
+    #[error("out of memory")]
+    Memory,
+    /// The writer failed, and took a part of the text before it did, from its start on.
+    #[error("writing failed")]
+    Write,
+}
 
 /// Plays a script, and answers what it leaves: the logs of its clients, the chain of commit
 /// versions, and a history that explains them, in the fixed order. It plays the rounds in order. In a round each client that has commands does them in
@@ -112,5 +154,200 @@ fn opening(recovery: u64) -> Record
         locked: false,
         metadata: None,
         min_known: 0,
+    }
+}
+
+/// What a script's clients leave, once all its rounds are played at a cluster that nobody has called
+/// yet. Meanwhile the GRV proxies of the cluster serve, with tokens that are split off the first
+/// one; however the rounds end, all have ended then.
+///
+/// It fails where a proxy cannot be started, which leaves all rounds
+/// unplayed, or where a client or a proxy runs out of memory.
+fn served<J: Live + Send + Sync, R: Threads + Wait + Sync, G: Gate>(
+    rt: &R,
+    alloc: Global,
+    routing: &Routing<'_, J, G>,
+    first: &mut Seen<J>,
+    tokens: Vec<Seen<J>>,
+    script: &Script,
+) -> Result<Finished<J>, AllocError>
+    requires plan { IsPlan script.now }
+    requires clients { script.now.setup.clients ≡ J.reporters }
+    requires count { vec_len tokens ≡ J.reporters }
+    requires numbered { (k : ℕ) → k < J.reporters
+        → slice_get tokens.items k ≡ Some (record { reporter = Some k; changes = []; answers = [] }) }
+    ensures answers { IfOk result (Answers script.now) }
+{
+    let clients = clients_of(alloc, routing.cluster.master(), tokens)?;
+    let clients = Clients::new(alloc, clients)?;
+    let rounds = script.rounds();
+    let Served { output, ends } = serve_while(
+        rt,
+        alloc,
+        routing.cluster,
+        first,
+        move || -> Result<Finished<J>, AllocError>
+            requires few { length clients ≤ MAX_CLIENTS }
+            requires count { length clients ≡ J.reporters }
+            ensures { IfOk result
+                (FoldsTo AnswersRound (logs_of clients.entry) rounds.entry.now) }
+        {
+            let mut clients = clients;
+            clients.play(rt, alloc, routing, rounds)?;
+            clients.finish(alloc, routing.cluster)
+        },
+    )?;
+    if ends.all_served() {
+        output
+    } else {
+        Err(AllocError)
+    }
+}
+
+/// The clients of a run, each at the place of its number.
+#[derive(Drop)]
+pub(crate) struct Clients<'a, J: Live> {
+    players: Vec<Player<'a, J>>,
+}
+
+impl<'a, J: Live> Model for Clients<'a, J> {
+    ghost use Rattle.std.specs.Prelude.{List};
+    ghost use Rattle.fdb_client.specs.Account.{Account};
+    ghost use Rattle.fdb_client.specs.Settling.{HaveNumbers};
+
+    ghost Value = { List Account };
+
+    ghost view = { λ clients. clients.players.items };
+
+    ghost invariant = { λ clients. HaveNumbers clients.players.items };
+}
+
+impl<'a, J: Live + Send + Sync> Clients<'a, J> {
+    /// The clients of a run, who have called nobody yet. Takes memory for them.
+    pub(crate) fn new(alloc: Global, clients: Vec<Client<'a, J>>) -> Result<Self, AllocError>
+        requires { (k : ℕ) → k < vec_len clients
+            → slice_get clients.items k ≡ Some (new_account k [] []) }
+        ensures { IfOk result (λ made. made ≡ clients.entry.items) }
+    {
+        let mut players = Vec::with_capacity(alloc, clients.len())?;
+        for client in clients {
+            players.push_reserved(Player::new(client));
+        }
+        Ok(Clients { players })
+    }
+
+    /// Has the clients play rounds, one after another. It fails only where memory runs out.
+    #[tactic(auto, using(crate::proofs::Finished::numbers_kept, crate::proofs::Finished::none_in_order))]
+    pub(crate) fn play<R: Threads + Wait + Sync, G: Gate>(
+        &mut self,
+        rt: &R,
+        alloc: Global,
+        routing: &Routing<'_, J, G>,
+        rounds: &[Sequence<Command>],
+    ) -> Result<(), AllocError>
+        requires { length self.old ≤ MAX_CLIENTS }
+        ensures played { OnOk result
+            (FoldsTo AnswersRound (logs_of self.old) rounds.now (logs_of self.new)) }
+        ensures count { OnOk result (length self.new ≡ length self.old) }
+    {
+        let players = mem::replace(&mut self.players, Vec::new(alloc));
+        let Ok(players) = play_rounds(rt, alloc, routing, players, rounds) else {
+            return Err(AllocError);
+        };
+        self.players = players;
+        Ok(())
+    }
+
+    /// The clients' logs and tokens, which they are given up for. It fails only where memory runs
+    /// out.
+    pub(crate) fn finish(
+        self,
+        alloc: Global,
+        cluster: &Cluster<'_, J>,
+    ) -> Result<Finished<J>, AllocError>
+        requires { length self ≡ J.reporters }
+        ensures { IfOk result (λ finished. finished ≡ logs_of self.entry) }
+    {
+        let Clients { players } = self;
+        let mut clients = Vec::with_capacity(alloc, players.len())?;
+        for player in players {
+            clients.push_reserved(player.into_client());
+        }
+        match cluster.finish(alloc, clients) {
+            Ok(finished) => Ok(finished),
+            Err(FinishError::Memory) => Err(AllocError),
+            Err(FinishError::Astray) => unreachable!(),
+        }
+    }
+}
+
+/// Reads a script, plays it, and writes the replies, the audit line and, where it is wanted, the
+/// history.
+///
+/// It fails as `Script` where the bytes stand for no script, or memory is refused to reading them
+/// or to the text, as `Memory` where memory or a thread is refused to the run, and as `Write` where
+/// the writer fails. There are 1 to [`MAX_GRV_PROXIES`](fdb_client::MAX_GRV_PROXIES) GRV proxies.
+/// Nothing is written before the run is done, and nothing after a write that failed.
+pub fn replay<R: Threads + Wait + Sync, G: Gate, W: Write>(
+    rt: &R,
+    alloc: Global,
+    bytes: &[u8],
+    opts: ReplayOpts,
+    gate: &G,
+    writer: &mut W,
+) -> Result<(), ReplayFault>
+    ensures ok { OnOk result ((written : List ℕ) × Replays bytes.now opts.with_history written
+        × Appends (W.contents writer.old) (W.contents writer.new) written) }
+    ensures err { IfErr result (Refuses bytes.now) }
+    ensures unwritten { IfErr result
+        (λ fault. fault ≢ ReplayFault.Write → writer.new ≡ writer.old) }
+    ensures cut { IfErr result (λ fault. fault ≡ ReplayFault.Write
+        → IsCut bytes.now opts.with_history (W.contents writer.old) (W.contents writer.new)) }
+{
+    let lines = replayed_text(rt, alloc, bytes, opts, gate)?;
+    match write_whole(writer, &lines) {
+        Ok(()) => Ok(()),
+        Err(_) => Err(ReplayFault::Write),
+    }
+}
+
+/// The text of a run of the script that these bytes stand for.
+pub(crate) fn replayed_text<R: Threads + Wait + Sync, G: Gate>(
+    rt: &R,
+    alloc: Global,
+    bytes: &[u8],
+    opts: ReplayOpts,
+    gate: &G,
+) -> Result<Vec<u8>, ReplayFault>
+    ensures ok { IfOk result (λ lines. Replays bytes.now opts.with_history lines.items) }
+    ensures err { IfErr result (Refuses bytes.now) }
+    ensures unwritten { IfErr result (λ fault. fault ≢ ReplayFault.Write) }
+{
+    match read_script(alloc, bytes) {
+        Ok(script) => run_text(rt, alloc, &script, opts, gate),
+        Err(error) => Err(ReplayFault::Script(error)),
+    }
+}
+
+/// The text of a run of a script, whatever bytes it was read from.
+fn run_text<R: Threads + Wait + Sync, G: Gate>(
+    rt: &R,
+    alloc: Global,
+    script: &Script,
+    opts: ReplayOpts,
+    gate: &G,
+) -> Result<Vec<u8>, ReplayFault>
+    ensures ok { (bytes : List ℕ) → ReadsAs bytes (Ok script.now)
+        → IfOk result (λ lines. Replays bytes opts.with_history lines.items) }
+    ensures err { (bytes : List ℕ) → ReadsAs bytes (Ok script.now) → IfErr result (Refuses bytes) }
+    ensures unwritten { IfErr result (λ fault. fault ≢ ReplayFault.Write) }
+{
+    let outcome = match run(rt, alloc, script, opts.proxies, gate) {
+        Ok(outcome) => outcome,
+        Err(_) => return Err(ReplayFault::Memory),
+    };
+    match text(alloc, script, &outcome, opts.with_history) {
+        Ok(lines) => Ok(lines),
+        Err(error) => Err(ReplayFault::Script(error)),
     }
 }

@@ -5,8 +5,8 @@ use Rattle.std.specs.Option.{option_map}
 use Rattle.serde_json.specs.Data.{Data}
 use Rattle.serde_json.specs.View.{items_of}
 use Rattle.fdb_script.specs.Reading.{command_of, commands_from, every, list_of, rounds_from, then_commands, then_rounds}
-use Rattle.fdb_script.specs.declared.error.ScriptError.{ScriptError}
-use Rattle.fdb_script.specs.declared.error.ScriptError.TheVariants.{BadField}
+use Rattle.fdb_script.specs.declared.script.ScriptError.{ScriptError}
+use Rattle.fdb_script.specs.declared.script.ScriptError.TheVariants.{BadField}
 use Rattle.fdb_script.specs.declared.script.Command.{Command}
 
 pub list_of-items_of : (values : List Data) → list_of (items_of values) ≡ values

@@ -8,13 +8,13 @@ use Rattle.std.proofs.lemmas.List.Sums.{sum_by-cons}
 use Rattle.std.proofs.lemmas.Option.{cond_some, none-some, same_Some, option_and_then_some}
 use Rattle.serde_json.specs.Data.{Data}
 use Rattle.serde_json.specs.Find.{as_str, get}
-use Rattle.fdb_history.specs.declared.grv.Priority.{Priority}
+use Rattle.fdb_history.specs.declared.log.Priority.{Priority}
 use Rattle.fdb_history.specs.declared.register.TheConstants.{MAX_VERSION}
 use Rattle.fdb_queue.specs.Config.{IsConfig, IsElapsed}
 use Rattle.fdb_queue.specs.declared.config.QueueConfig.{QueueConfig}
 use Rattle.fdb_script.specs.Plan.{IsPlan, is_tag, is_act, is_command}
 use Rattle.fdb_script.specs.Reading.{array_within, ask_of, ask_with, grv_of, reask_of, report_of, tell_of, act_named, act_of, array_of, arrays_of, checked, command_of, commands_from, every, Frame, frame_of, frame_with, grv_with, is_frame, member, member_or, or_absent, reask_with, report_with, rounds_from, tag_of, tags_of, then_commands, then_rounds, throttle_of, throttle_with, throttles_of, whole, whole_below}
-use Rattle.fdb_script.specs.declared.error.ScriptError.{ScriptError}
+use Rattle.fdb_script.specs.declared.script.ScriptError.{ScriptError}
 use Rattle.fdb_script.specs.declared.script.Act.{Act}
 use Rattle.fdb_script.specs.declared.script.Act.TheVariants.{Tell}
 use Rattle.fdb_script.specs.declared.script.Command.{Command}

@@ -8,14 +8,14 @@ use Rattle.hex.specs.Hex.{decode_sized}
 use Rattle.serde_json.specs.Read.{read}
 use Rattle.serde_json.specs.Data.{Data, Items, no_items, item}
 use Rattle.serde_json.specs.Find.{get, as_number, as_u64, as_bool, as_null, as_str, as_array}
-use Rattle.fdb_history.specs.declared.grv.Priority.{Priority}
-use Rattle.fdb_history.specs.declared.grv.Priority.TheVariants.{System, Default, Batch}
+use Rattle.fdb_history.specs.declared.log.Priority.{Priority}
+use Rattle.fdb_history.specs.declared.log.Priority.TheVariants.{System, Default, Batch}
 use Rattle.fdb_history.specs.declared.register.TheConstants.{MAX_VERSION}
 use Rattle.fdb_queue.specs.declared.config.QueueConfig.{QueueConfig}
 use Rattle.fdb_queue.specs.declared.config.TheConstants.{MAX_RATE, MAX_ROOM, MAX_ELAPSED}
 use Rattle.fdb_script.specs.Plan.{Plan, is_tag}
-use Rattle.fdb_script.specs.declared.error.ScriptError.{ScriptError}
-use Rattle.fdb_script.specs.declared.error.ScriptError.TheVariants.{NotJson, BadField, BadLimit, Memory}
+use Rattle.fdb_script.specs.declared.script.ScriptError.{ScriptError}
+use Rattle.fdb_script.specs.declared.script.ScriptError.TheVariants.{NotJson, BadField, BadLimit, Memory}
 use Rattle.fdb_script.specs.declared.script.Act.{Act}
 use Rattle.fdb_script.specs.declared.script.Act.TheVariants.{Grv, Ask, Reask, Report, Tell}
 use Rattle.fdb_script.specs.declared.script.Command.{Command}

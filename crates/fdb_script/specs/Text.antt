@@ -5,9 +5,9 @@ use Rattle.std.specs.List.{flat_map}
 use Rattle.fdb_history.specs.Event.{raise_count}
 use Rattle.fdb_history.specs.Register.{version_for}
 use Rattle.fdb_history.specs.Text.{record_text, refusal_text}
-use Rattle.fdb_history.specs.declared.event.Event.{Event}
-use Rattle.fdb_history.specs.declared.event.Event.TheVariants as event
-use Rattle.fdb_history.specs.declared.grv.TagLimit.{TagLimit}
+use Rattle.fdb_history.specs.declared.register.Event.{Event}
+use Rattle.fdb_history.specs.declared.register.Event.TheVariants as event
+use Rattle.fdb_history.specs.declared.log.TagLimit.{TagLimit}
 use Rattle.fdb_history.specs.declared.log.Call.{Call}
 use Rattle.fdb_history.specs.declared.log.CallAnswer.{CallAnswer}
 use Rattle.fdb_history.specs.declared.log.CallAnswer.TheVariants.{Version, Answered, Acked, Told, Refused}
@@ -15,7 +15,7 @@ use Rattle.fdb_history.specs.declared.log.Input.{Input}
 use Rattle.fdb_history.specs.declared.log.Input.TheVariants as input
 use Rattle.fdb_history.specs.declared.register.Record.{Record}
 use Rattle.fdb_script.specs.Plan.{Plan}
-use Rattle.fdb_script.specs.declared.outcome.Outcome.{Outcome}
+use Rattle.fdb_script.specs.declared.script.Outcome.{Outcome}
 use Rattle.fdb_script.specs.declared.script.Act.{Act}
 use Rattle.fdb_script.specs.declared.script.Act.TheVariants.{Grv, Ask, Reask, Report, Tell}
 use Rattle.fdb_script.specs.declared.script.Command.{Command}

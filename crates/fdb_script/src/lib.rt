@@ -6,19 +6,16 @@
 //! `Text` the printed lines.
 #![tactic(auto)]
 
-mod error;
 pub mod laws;
 mod lines;
-mod outcome;
 mod printing;
 mod reading;
 mod script;
 
-pub use error::ScriptError;
-pub use outcome::Outcome;
+pub use crate::reading::members;
 pub use printing::{push_verdict, text};
-pub use reading::{members, read_script};
+pub use reading::read_script;
 pub use script::{
     Act, Command, MAX_CLIENTS, MAX_COMMANDS, MAX_ROUNDS, MAX_SCRIPT_BYTES, MAX_TAGS, MAX_THROTTLES,
-    Script, Setup,
+    Outcome, Script, ScriptError, Setup,
 };

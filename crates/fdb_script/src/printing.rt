@@ -5,14 +5,12 @@ ghost use Rattle.std.specs.Prelude.{◌≡◌, ◌++◌, ◌∷◌, [], ◌==◌
 ghost use Rattle.std.specs.Prelude.{count_by, drop, map, string_bytes};
 ghost use Rattle.fdb_history.specs.Event.{raise_count};
 ghost use Rattle.fdb_script.specs.Answering.{Answers};
-ghost use Rattle.fdb_script.specs.Text.{audit_text, calls_after, client_lines, is_learn};
+ghost use Rattle.fdb_script.specs.Text.{audit_text, calls_after, client_lines};
 ghost use Rattle.fdb_script.specs.Text.{replies_of, history_lines, line, reply_lines, round_lines};
 ghost use Rattle.fdb_script.specs.Text.{text, verdict_text};
 
-use crate::error::ScriptError;
 use crate::lines::{AuditLine, HistoryLine, ReplyLine};
-use crate::outcome::Outcome;
-use crate::script::{Command, Script};
+use crate::script::{Command, Outcome, Script, ScriptError};
 use fdb_history::{Call, ClientLog, Event, History, Input, Sequence};
 use std::alloc::{AllocError, Global};
 use std::fmt::Write;
@@ -164,19 +162,13 @@ fn next_reply(calls: &[Call]) -> Option<(&Call, &[Call])>
 {
     let mut left = calls;
     while let Some((call, others)) = left.split_first() {
-        if !is_learn(&call.input) {
+        // A call that learns answers no command.
+        if !matches!(&call.input, Input::Learn { .. }) {
             return Some((call, others));
         }
         left = others;
     }
     None
-}
-
-/// Whether a call learnt what another client had seen, which nobody commands.
-fn is_learn(input: &Input) -> bool
-    ensures { result ≡ is_learn input.now }
-{
-    matches!(input, Input::Learn { .. })
 }
 
 /// Appends the audit line, with the counts of the history's events.

@@ -1,20 +1,14 @@
 //! Replays whose threads are held at gates: that they run side by side, that a lock is held where
 //! its gate is passed, and that a read waits for none of them. No clause says these.
 
-pub mod counting;
-mod crossing;
-mod side_by_side;
-
-use crate::gated::counting::Counting;
-use crate::gated::crossing::Crossing;
-use crate::gated::side_by_side::SideBySide;
-use fdb_checks::{holds, same_text, says};
+use fdb_checks::{comes, holds, same_text, says};
 use fdb_history::{Gate, Place};
 use fdb_replay::{ReplayFault, ReplayOpts, replay};
 use fdb_script::ScriptError;
 use std::alloc::Global;
 use std::str::from_utf8;
 use std::sync::Wait;
+use std::sync::atomic::{AtomicBool, AtomicU64, Ordering};
 use std::test::Fail;
 use std::thread::Threads;
 
@@ -227,4 +221,154 @@ fn faults_of_replays(rt: HostRuntime) -> Result<(), Fail> {
     says(rt.alloc(), &refused, "script refused: NotJson")?;
     says(rt.alloc(), &ReplayFault::Memory, "out of memory")?;
     says(rt.alloc(), &ReplayFault::Write, "writing failed")
+}
+
+/// Counts how often a client passes at each place, and how often others do.
+#[derive(Drop)]
+pub(crate) struct Counting {
+    client: u32,
+    asks: AtomicU64,
+    reports: AtomicU64,
+    answers: AtomicU64,
+    others: AtomicU64,
+}
+
+impl Counting {
+    pub(crate) fn new(client: u32) -> Counting {
+        Counting {
+            client,
+            asks: AtomicU64::new(0),
+            reports: AtomicU64::new(0),
+            answers: AtomicU64::new(0),
+            others: AtomicU64::new(0),
+        }
+    }
+
+    /// Whether the client has passed so often with the sequencer's lock, with that of the reports, and
+    /// where an answer to a read has come, and nobody else has passed.
+    pub(crate) fn was_passed(&self, asks: u64, reports: u64, answers: u64) -> bool {
+        self.asks.load(Ordering::SeqCst) == asks
+            && self.reports.load(Ordering::SeqCst) == reports
+            && self.answers.load(Ordering::SeqCst) == answers
+            && self.others.load(Ordering::SeqCst) == 0
+    }
+}
+
+impl Gate for Counting {
+    fn pass(&self, place: Place, who: u32) {
+        let count = match place {
+            _ if who != self.client => &self.others,
+            Place::SequencerHeld => &self.asks,
+            Place::ReportHeld => &self.reports,
+            Place::ReadAnswered => &self.answers,
+        };
+        count.fetch_add(1, Ordering::SeqCst);
+    }
+}
+
+/// Holds client 1 at its first answer until client 0 is in a lock, and holds that one there until
+/// client 1 passes another place: where its next answer has come, or in the other lock.
+#[derive(Drop)]
+pub(crate) struct Crossing {
+    /// The lock in which client 0 is held.
+    at: Place,
+    /// The place that client 1 passes while client 0 is held.
+    beside: Place,
+    /// Client 0 has the lock, so that client 1 may go on.
+    locked: AtomicBool,
+    /// Client 1 has had its first answer, at which it is held.
+    answered: AtomicBool,
+    /// Client 1 has passed the other place, so that client 0 may go on.
+    passed: AtomicBool,
+    /// Somebody was held and gave up, since the other did not come.
+    failed: AtomicBool,
+}
+
+impl Crossing {
+    pub(crate) fn new(at: Place, beside: Place) -> Crossing {
+        Crossing {
+            at,
+            beside,
+            locked: AtomicBool::new(false),
+            answered: AtomicBool::new(false),
+            passed: AtomicBool::new(false),
+            failed: AtomicBool::new(false),
+        }
+    }
+
+    /// Whether both came through, and nobody looked in vain.
+    pub(crate) fn is_passed(&self) -> bool {
+        self.locked.load(Ordering::SeqCst)
+            && self.passed.load(Ordering::SeqCst)
+            && !self.failed.load(Ordering::SeqCst)
+    }
+
+    /// Waits for a flag of its own, and notes a failure where it does not come.
+    fn waits_for(&self, flag: &AtomicBool) {
+        if !comes(|| flag.load(Ordering::SeqCst)) {
+            self.failed.store(true, Ordering::SeqCst);
+        }
+    }
+}
+
+impl Gate for Crossing {
+    fn pass(&self, place: Place, who: u32) {
+        if place == self.at && who == 0 {
+            self.locked.store(true, Ordering::SeqCst);
+            self.waits_for(&self.passed);
+        }
+        if who != 1 {
+            return;
+        }
+        if place == Place::ReadAnswered && !self.answered.swap(true, Ordering::SeqCst) {
+            self.waits_for(&self.locked);
+        } else if place == self.beside && self.answered.load(Ordering::SeqCst) {
+            self.passed.store(true, Ordering::SeqCst);
+        }
+    }
+}
+
+/// Holds each client where an answer to a read has come, until each other has as many.
+#[derive(Drop)]
+pub(crate) struct SideBySide {
+    clients: u64,
+    answers: AtomicU64,
+    /// Somebody waited in vain. Nobody waits from then on.
+    failed: AtomicBool,
+}
+
+impl SideBySide {
+    pub(crate) fn new(clients: u64) -> SideBySide {
+        SideBySide {
+            clients,
+            answers: AtomicU64::new(0),
+            failed: AtomicBool::new(false),
+        }
+    }
+
+    /// Whether each client has got so many answers, and nobody waited in vain.
+    pub(crate) fn is_passed(&self, each: u64) -> bool {
+        let all = self.clients.saturating_mul(each);
+        self.answers.load(Ordering::SeqCst) == all && !self.failed.load(Ordering::SeqCst)
+    }
+
+    /// Waits until there are so many answers.
+    fn waits_for(&self, answers: u64) {
+        let has_come = || {
+            self.answers.load(Ordering::SeqCst) >= answers || self.failed.load(Ordering::SeqCst)
+        };
+        if !comes(has_come) {
+            self.failed.store(true, Ordering::SeqCst);
+        }
+    }
+}
+
+impl Gate for SideBySide {
+    fn pass(&self, place: Place, _who: u32) {
+        if place == Place::ReadAnswered {
+            let before = self.answers.fetch_add(1, Ordering::SeqCst);
+            let all_before = before / self.clients.max(1);
+            self.waits_for(all_before.saturating_add(1).saturating_mul(self.clients));
+        }
+    }
 }

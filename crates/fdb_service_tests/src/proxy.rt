@@ -1,6 +1,5 @@
 //! The tests of desks, batches and proxies.
 
-mod answers;
 pub mod desks;
 pub mod running;
 

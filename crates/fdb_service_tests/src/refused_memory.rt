@@ -3,8 +3,6 @@
 //! refuses is asked once more, and has changed nothing before. What the program calls is refused
 //! memory there, in its own sweeps.
 
-pub mod proxies;
-
 use crate::stand::{Told, play};
 use crate::workload::play_workloads;
 use std::alloc::Global;

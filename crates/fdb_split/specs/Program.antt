@@ -5,6 +5,7 @@ use Rattle.std.specs.declared.convert.Infallible.{Infallible}
 use Rattle.clap.specs.Words.{App, Text, first_of, matches_of, one_of}
 use Rattle.fdb_command.specs.Arguments.{command_of, file_rule, flag_rule, is_set, number_rule}
 use Rattle.fdb_command.specs.Driving.{Promise}
+use Rattle.fdb_command.specs.declared.failure.Failure.TheVariants.{Writing}
 use Rattle.fdb_audit.specs.Program.{text_rule}
 use Rattle.fdb_audit.specs.declared.refused.LogsRefused.{LogsRefused}
 use Rattle.fdb_audit.specs.declared.refused.LogsRefused.TheVariants.{Early, Kept, Log}
@@ -95,7 +96,7 @@ split = record {
   asks = IsAsked;
   tells = λ arguments. is_set (codes "progress") command arguments;
   warns = λ arguments. false;
-  keeps = λ arguments. true;
+  fails = λ arguments fault. fault ≡ Writing;
   taken = HasTaken;
   prints = λ arguments bytes text found refused. (found ≡ None) × (refused ≡ None)
       × (asked : SplitArguments) × IsAsked arguments asked × Prints asked bytes text;

@@ -16,22 +16,27 @@ use std::alloc::{AllocError, Global};
 pub(crate) const MAX_PARTS: i64 = 1024;
 
 /// What the help ends with: the statuses, and where the parts of a log are told.
-const AFTER_HELP: &str = "Exit status:
-  0  the log is cut, or this is the help
-  1  the log is refused, and no part is left
-  2  the words are refused
-  3  want of memory
-  5  reading or writing failed, as where DIR has parts
+const AFTER_HELP: &str = "--split, --into and --key have to be given.
 
-docs/FORMATS.md has the parts of a log, and fdb_audit --help its other arguments.";
+Exit status:
+  0  the log is cut into parts, or help was asked for
+  1  the log is refused, or a line of it, and no part is left
+  2  the arguments are refused
+  3  memory ran out
+  5  reading or writing failed; writing fails where DIR has parts already
 
-const SPLIT_HELP: &str = "How many parts there are to be: 1 to 1024";
+docs/LOG.md says what a part is (where the package is installed, man fdb_audit_log has it), and
+fdb_audit --help has the other arguments of the program.";
 
-const INTO_HELP: &str = "The folder for the parts, 0000.jsonl and so on, which has none yet";
+const SPLIT_HELP: &str = "The number of parts, from 1 to 1024";
 
-const KEY_HELP: &str = "The member that names a line's key: all lines of a key are in one part";
+const INTO_HELP: &str =
+    "The folder for the parts, 0000.jsonl and so on; made if need be, it must not have parts";
 
-const FIRST_HELP: &str = "How many lines are above, where this is a block of a log [default: 0]";
+const KEY_HELP: &str = "The member that names a line's key; all lines of a key come into one part";
+
+const FIRST_HELP: &str =
+    "Where the log is a block of a larger one, how many lines stand above it [default: 0]";
 
 /// How many parts there are to be.
 pub(crate) fn parts_of(matches: &ArgMatches<'_>) -> Option<u64>
@@ -88,7 +93,7 @@ pub(crate) fn command<'a>(alloc: Global) -> Result<Command<'a>, AllocError>
     .arg(file_argument(
         alloc,
         "LOGS",
-        "The file that has the log, JSON Lines; standard input, if left out",
+        "The file with the log, as JSON Lines; without it standard input is read",
     ))?
     .arg(number_argument(alloc, "split", 1, MAX_PARTS, "P", SPLIT_HELP))?
     .arg(text_argument(alloc, "into", "DIR", INTO_HELP))?
@@ -97,6 +102,6 @@ pub(crate) fn command<'a>(alloc: Global) -> Result<Command<'a>, AllocError>
     .arg(flag_argument(
         alloc,
         "progress",
-        "Tell on standard error how far the log has been read",
+        "Say on standard error how far the log has been read",
     ))
 }

@@ -7,7 +7,7 @@ ghost use Rattle.std.specs.Prelude.{◌≤◌};
 pub struct SplitArguments {
     /// How many parts there are to be.
     pub parts: u64,
-    /// The folder in which they are.
+    /// The folder for the files of the parts.
     pub into: String,
     /// The member that names a line's key.
     pub key: String,

@@ -19,7 +19,7 @@ use fdb_log_reader::{ReadError, Splitter, Why};
 use std::alloc::{AllocError, Global};
 use std::cell::OnceCell;
 use std::convert::Infallible;
-use std::fs::Files;
+use std::fs::{File, Files};
 use std::io;
 use std::io::{Read, Write};
 use std::time::Clock;
@@ -110,7 +110,7 @@ impl Program for Split {
         })
     }
 
-    fn begin<R: Files>(
+    fn begin<R: Files<File = File>>(
         &self,
         rt: &R,
         alloc: Global,
@@ -160,8 +160,9 @@ impl Program for Split {
 
 /// Cuts the log of the file that the arguments name or else of the input into parts, and says on
 /// `out` how many lines each has; or writes the help there. Answers the status of the program, as
-/// [`fdb_command::drive`] says. Where that is not 0, no part is left.
-pub fn drive<R: Files + Clock, I: Read, O: Write, E: Write>(
+/// [`fdb_command::drive`] says. Where that is not 0, no part of this log is left; parts that the
+/// folder had before stay.
+pub fn drive<R: Files<File = File> + Clock, I: Read, O: Write, E: Write>(
     rt: &R,
     alloc: Global,
     arguments: io::Result<Vec<String>>,
@@ -181,7 +182,7 @@ pub fn drive<R: Files + Clock, I: Read, O: Write, E: Write>(
 }
 
 /// Does that, but leaves what has come to parts.
-fn driven<R: Files + Clock, I: Read, O: Write, E: Write>(
+fn driven<R: Files<File = File> + Clock, I: Read, O: Write, E: Write>(
     program: &Split,
     rt: &R,
     alloc: Global,

@@ -6,12 +6,10 @@
 //! number. What follows a star is done at each place below it, where `@0` stands for the place. The
 //! calls that are made for C stand in `tests/ample_bindings.py`, and those of logs beside it.
 
-use crate::audits::Audits;
-use crate::chain::Chain;
-use crate::lists::Lists;
+use crate::audits::{Audits, Watches};
+use crate::chain::{Chain, Lists};
 use crate::live::Opener;
 use crate::queue::Queue;
-use crate::watch::Watches;
 use fdb_checks::plays_cases;
 use std::test::Fail;
 

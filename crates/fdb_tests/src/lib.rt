@@ -14,16 +14,10 @@ mod audits;
 #[cfg(test)]
 mod chain;
 #[cfg(test)]
-mod in_turn;
-#[cfg(test)]
-mod lists;
-#[cfg(test)]
 mod live;
 #[cfg(test)]
 mod queue;
 #[cfg(test)]
 mod refused_memory;
-#[cfg(test)]
-mod watch;
 #[cfg(test)]
 mod words;

@@ -3,8 +3,7 @@
 //! each, so they ask for little memory of their own.
 
 use crate::audits::{Audits, FAULTS, HISTORIES};
-use crate::chain::Chain;
-use crate::lists::{LISTS, Lists};
+use crate::chain::{Chain, LISTS, Lists};
 use crate::live::{Opener, played};
 use crate::queue::Queue;
 use fdb_checks::bears;

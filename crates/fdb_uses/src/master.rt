@@ -1,18 +1,60 @@
-//! Commit versions that two threads draw from one master, each once it was told of the other's.
+//! Commit versions drawn from a chain, with no sequencer before it, and from a master by two
+//! threads, each once it was told of the other's; and the live committed version, with tokens of
+//! what was seen of it.
 
-ghost use Rattle.std.specs.Prelude.{◌<◌, ◌≤◌, ◌≡◌, IfOk, None, true};
+ghost use Rattle.std.specs.Prelude.{◌≡◌, ◌<◌, IfOk, true, ◌≤◌, None};
 ghost use Rattle.fdb_live.specs.Holding.{least_above};
 ghost use Rattle.fdb_live.specs.Seen.{origin_of};
 
 use crate::START;
 use anyhow::{Result, anyhow};
-use fdb_history::{Ask, OpenGate};
-use fdb_live::{Epoch, Live, LiveRecord, Master, Opened, Seen};
+use fdb_chain::{ChainCore, ChainError};
+use fdb_history::{Ask, Issued, OpenGate, Record};
+use fdb_live::{Epoch, Live, LiveRecord, Master, Opened, Seen, UnderName};
 use std::alloc::Global;
 use std::marker::Brand;
 use std::sync::Wait;
-use std::thread;
-use std::thread::Threads;
+use std::thread::{self, Threads};
+
+/// Has one commit proxy draw two commit versions, and ask for the first one again: it gets the
+/// answer that was kept for its number.
+pub(crate) fn commit_versions(rt: &impl Print, alloc: Global) -> Result<()> {
+    let mut chain = ChainCore::new(alloc, 0, 100, 1)?;
+    let (one, two) = two_in_a_row(&mut chain, request(1, 1_000), request(2, 3_000))?;
+    let again = chain.ask(request(1, 9_000))?;
+    println!(rt;
+        "versions {} and {}; again {}, fresh {}",
+        one.version, two.version, again.version, again.fresh
+    )?;
+    Ok(())
+}
+
+/// A request under a number, at a time in microseconds.
+fn request(num: u64, at: u64) -> Ask {
+    Ask {
+        proxy: 0,
+        num,
+        processed: 0,
+        at,
+    }
+}
+
+/// Of two versions that are drawn one after another the second is greater, and names the first as
+/// the one before it.
+fn two_in_a_row(
+    chain: &mut ChainCore,
+    first: Ask,
+    second: Ask,
+) -> Result<(Issued, Issued), ChainError>
+    ensures rise { IfOk result (λ both. both.0.fresh ≡ true → both.1.fresh ≡ true
+        → both.0.version < both.1.version) }
+    ensures names { IfOk result (λ both. both.0.fresh ≡ true → both.1.fresh ≡ true
+        → both.1.prev ≡ both.0.version) }
+{
+    let one = chain.ask(first)?;
+    let two = chain.ask(second)?;
+    Ok((one, two))
+}
 
 /// Opens a master for two commit proxies, and has them draw under a name that stands for it.
 pub(crate) fn two_threads<R: Print + Threads + Wait + Sync>(rt: &R, alloc: Global) -> Result<()> {
@@ -121,4 +163,40 @@ fn draw<J: Live, R: Wait>(rt: &R, master: &Master<J>, token: &mut Seen<J>, num: 
         return Err(anyhow!("the version was drawn before"));
     }
     Ok(issued.version)
+}
+
+/// Opens a live record for two reporters, and has them report under a name that stands for it, so
+/// that no token of another record fits it.
+pub(crate) fn two_reporters<R: Print + Wait>(rt: &R, alloc: Global) -> Result<()> {
+    let opened = LiveRecord::<Brand>::open(rt, alloc, START, 2, None)?;
+    opened.named(rt, TwoReporters)
+}
+
+/// Two reporters, to be run under a name that stands for their record.
+#[derive(Drop)]
+struct TwoReporters;
+
+impl<R: Print + Wait> UnderName<R> for TwoReporters {
+    type Output = Result<()>;
+
+    /// Has both report, the greater version first. Then a token that had seen nothing reads.
+    fn run<J: Live + Send + Sync>(self, rt: &R, opened: Opened) -> Result<()> {
+        let (live, mut reader, mut reporters) = opened.parts::<J>()?;
+        if reporters.len() != 2 {
+            return Err(anyhow!("two reporters are wanted"));
+        }
+        let raised = live.report(rt, &OpenGate, 0, &mut reporters[0], at(300))?;
+        let late = live.report(rt, &OpenGate, 1, &mut reporters[1], at(200))?;
+        let read = live.read(rt, &mut reader);
+        println!(rt;
+            "raised {} and {}; read version {} at position {}",
+            raised.raised, late.raised, read.rec.version, read.position
+        )?;
+        Ok(())
+    }
+}
+
+/// The record of a version that was committed.
+fn at(version: u64) -> Record {
+    Record { version, ..START }
 }

@@ -1,18 +1,65 @@
-//! Clients that read through GRV proxies, which serve in threads of their own.
+//! Requests in the queue of a GRV proxy, and clients that read through proxies, which serve in
+//! threads of their own.
 
+ghost use Rattle.std.specs.Prelude.{◌≡◌, IfOk, true};
 ghost use Rattle.fdb_client.specs.Cluster.{IsClusterConfig};
+ghost use Rattle.fdb_history.specs.Linear.{IsLinear};
+ghost use Rattle.fdb_live.specs.Seen.{origin_of};
 
 use crate::START;
 use anyhow::{Result, anyhow};
 use fdb_client::{
-    Client, Cluster, ClusterConfig, SettledRun, Workload, WorkloadOutcome, run_workload,
+    Client, Cluster, ClusterConfig, ClusterParts, Finished, OpenedCluster, Served, SettledRun,
+    Workload, WorkloadOutcome, clients_of, run_workload, serve_while,
 };
-use fdb_history::{GrvOpts, OpenGate, Priority, Sequence};
+use fdb_history::{GrvOpts, History, OpenGate, Priority, Sequence};
 use fdb_live::Live;
-use fdb_queue::QueueConfig;
+use fdb_queue::{GrvQueue, QueueConfig, Req};
 use std::alloc::Global;
+use std::marker::Brand;
 use std::sync::Wait;
-use std::thread::Threads;
+use std::thread::{self, Threads};
+
+/// The time between two windows, in microseconds: a second.
+const ELAPSED: u64 = 1_000_000;
+
+/// What a window grants, and how many requests may wait.
+const CONFIG: QueueConfig = QueueConfig {
+    normal: 10,
+    batch: 5,
+    room: 100,
+};
+
+/// The queue, of which each request has a name.
+type Queue = GrvQueue<&'static str>;
+
+/// Has two requests wait, of which one window starts the first. The second has more transactions
+/// than a window grants; the queue tells how many windows it still waits.
+pub(crate) fn one_window(rt: &impl Print, alloc: Global) -> Result<()> {
+    let mut queue = GrvQueue::new(alloc, CONFIG)?;
+    offer(&mut queue, "first", 8)?;
+    offer(&mut queue, "second", 30)?;
+    for request in queue.window(ELAPSED)? {
+        println!(rt; "started the {} request", request.payload)?;
+    }
+    if let Some(windows) = queue.waits(ELAPSED) {
+        println!(rt; "the second request waits for {windows} windows more")?;
+    }
+    Ok(())
+}
+
+/// Has a request for so many transactions wait.
+fn offer(queue: &mut Queue, payload: &'static str, count: u64) -> Result<()> {
+    let request = Req {
+        priority: Priority::Default,
+        count,
+        payload,
+    };
+    match queue.offer(request) {
+        Ok(_pushed_out) => Ok(()),
+        Err((cause, _request)) => Err(anyhow!("{cause}")),
+    }
+}
 
 /// A cluster of two clients and two GRV proxies.
 pub(crate) fn config() -> ClusterConfig<'static>
@@ -102,4 +149,62 @@ pub(crate) fn opts(alloc: Global) -> GrvOpts {
         at: 0,
         use_min: false,
     }
+}
+
+/// Has two clients read at once, and tells how many events explain what they were answered.
+pub(crate) fn two_readers<R: Print + Threads + Wait + Sync>(rt: &R, alloc: Global) -> Result<()> {
+    let opened = config().open(rt, alloc)?;
+    let (_run, history) = read_side_by_side::<Brand, R>(rt, alloc, opened)?;
+    println!(rt; "explained by {} events", history.events.len())?;
+    Ok(())
+}
+
+/// Two clients read at once, while GRV proxies serve in threads of their own. One history of the
+/// register explains all that they were answered.
+fn read_side_by_side<J: Live + Send + Sync, R: Print + Threads + Wait + Sync>(
+    rt: &R,
+    alloc: Global,
+    opened: OpenedCluster<'_>,
+) -> Result<(SettledRun, History)>
+    requires chained { J.chained ≡ true }
+    requires founding { opened.founding
+        ≡ origin_of J.table J.start J.reporters J.chained J.epoch_end J.recovery }
+    ensures { IfOk result (λ left. IsLinear J.start left.0.logs.items left.1.events) }
+{
+    let ClusterParts {
+        cluster,
+        mut first,
+        tokens,
+    } = opened.parts::<J>(alloc)?;
+    let clients = clients_of(alloc, cluster.master(), tokens)?;
+    let Served { output, ends } = serve_while(rt, alloc, &cluster, &mut first, || {
+        read_both(rt, alloc, &cluster, clients)
+    })?;
+    if !ends.all_served() {
+        return Err(anyhow!("a GRV proxy ran out of memory"));
+    }
+    let run = cluster.settle(rt, first, output?);
+    let history = run.history(alloc)?;
+    Ok((run, history))
+}
+
+/// Both read, each in a thread and at a desk of its own. Answers what they leave.
+fn read_both<J: Live + Send + Sync, R: Print + Threads + Wait + Sync>(
+    rt: &R,
+    alloc: Global,
+    cluster: &Cluster<'_, J>,
+    mut clients: Vec<Client<'_, J>>,
+) -> Result<Finished<J>> {
+    if clients.len() != 2 {
+        return Err(anyhow!("two clients are wanted"));
+    }
+    let (zero, one) = clients.as_mut_slice().split_at_mut(1);
+    let (zero, one) = (&mut zero[0], &mut one[0]);
+    let (first, second) = thread::join(
+        rt,
+        || zero.read_version(rt, &OpenGate, cluster.desk(0), opts(alloc)),
+        || one.read_version(rt, &OpenGate, cluster.desk(1), opts(alloc)),
+    );
+    println!(rt; "read {} and {} at once", first?.version, second?.version)?;
+    Ok(cluster.finish(alloc, clients)?)
 }

@@ -40,7 +40,7 @@ from .log import (
     audit_text,
 )
 from .register import Record
-from .watch import Watch
+from .watch import Watch, WatchCounts
 
 __version__ = "0.4.0"
 
@@ -71,6 +71,7 @@ __all__ = [
     "Status",
     "TurnedAway",
     "Watch",
+    "WatchCounts",
     "Window",
     "answers",
     "audit",

@@ -172,12 +172,31 @@ class RawWatchOptions(Structure):
     ]
 
 
+class RawWatchCounted(Structure):
+    _fields_ = [
+        ("lines", c_uint64),
+        ("reads", c_uint64),
+        ("commits", c_uint64),
+        ("asks", c_uint64),
+        ("reports", c_uint64),
+        ("refused", c_uint64),
+        ("early", c_uint64),
+        ("judged", c_uint64),
+        ("ahead", c_uint64),
+        ("open", c_uint64),
+        ("kept", c_uint64),
+        ("newest_end", c_uint64),
+        ("settled_to", c_uint64),
+    ]
+
+
 _CHAIN = _QUEUE = _AUDIT = _WATCH = POINTER(RawHandle)
 _EPOCH = [c_uint64, c_uint64, c_uint32]
 _BYTES = [c_char_p, c_size_t]
 _TAG = [c_uint8, *_BYTES]
 _SIZE = POINTER(c_uint64)
 _REFUSED = POINTER(RawRefused)
+_WATCHED = [POINTER(RawWatchOptions), *_BYTES, *_BYTES]
 
 
 def _array(element: Any) -> List[Any]:
@@ -232,12 +251,15 @@ DECLARED: Dict[str, Tuple[Any, List[Any]]] = {
     "fdb_audit_text": (c_uint8, [_AUDIT, *_array(c_uint8), _SIZE]),
     "fdb_audit_faults": (c_uint8, [_AUDIT, *_array(RawFault), _SIZE]),
     "fdb_audit_free": (None, [_AUDIT]),
-    "fdb_watch_new": (c_uint8, [POINTER(RawWatchOptions), *_BYTES, *_BYTES, _WATCH]),
+    "fdb_watch_new": (c_uint8, [*_WATCHED, _WATCH]),
+    "fdb_watch_restore": (c_uint8, [*_WATCHED, *_BYTES, _WATCH, _REFUSED]),
     "fdb_watch_push": (c_uint8, [_WATCH, *_BYTES]),
     "fdb_watch_tell": (c_uint8, [_WATCH, c_bool]),
     "fdb_watch_end": (c_uint8, [_WATCH, _REFUSED]),
     "fdb_watch_text": (c_uint8, [_WATCH, *_array(c_uint8), _SIZE]),
     "fdb_watch_warnings": (c_uint8, [_WATCH, *_array(c_uint8), _SIZE]),
+    "fdb_watch_keep": (c_uint8, [_WATCH, *_array(c_uint8), _SIZE]),
+    "fdb_watch_counts": (c_uint8, [_WATCH, POINTER(RawWatchCounted)]),
     "fdb_watch_free": (None, [_WATCH]),
 }
 

@@ -33,6 +33,7 @@ class Status(Named):
     EMPTY = 40
     OVER = 41
     UNJUDGED = 42
+    NOT_KEPT = 43
 
 
 class Refused(Exception):

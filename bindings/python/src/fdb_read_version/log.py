@@ -34,7 +34,7 @@ class FaultKind(Named):
     ORDER is a stale read: it is below a version that its caller knew. WRONG is a read of a version
     that is not there; NOT_ABOVE a version that was drawn and is not above all that its caller knew;
     TWICE one that was drawn twice, and not by commits alone; STRAY a report of a version that others
-    drew, or that nobody can have. docs/FORMATS.md says more of each.
+    drew, or that nobody can have. docs/LOG.md says more of each.
     """
 
     ORDER = 1
@@ -151,7 +151,8 @@ class LogRefused(Refused):
     """A log that is refused: its first wrong `line`, counted from 1, and maybe which `member`.
 
     Where it is a text without a line, `line` is 0. Of a `Watch` it is the last wrong line, or with
-    UNJUDGED the last that came early. It is printed as `BAD_MEMBER 2 read`, `NOT_JSON 3` or `EMPTY`.
+    UNJUDGED the last that came early; of `Watch.restore` the first wrong line of the text that was
+    kept. It is printed as `BAD_MEMBER 2 read`, `NOT_JSON 3` or `EMPTY`.
     """
 
     line: int
@@ -181,7 +182,7 @@ def audit(
 ) -> List[Fault]:
     """All faults of a log, by line: none exactly where some history explains it.
 
-    The log is JSON Lines, as docs/FORMATS.md has them, in one value of bytes or a text (no path and
+    The log is JSON Lines, as docs/LOG.md has them, in one value of bytes or a text (no path and
     no file), or an iterable of `Call`.
     `complete` is the version that all began with, where the log has all calls; `margin` says how far
     the clocks of two clients may be apart, in the unit of the times. `key` names the member that

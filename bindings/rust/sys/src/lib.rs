@@ -34,6 +34,7 @@ pub const FDB_BAD_MEMBER: u8 = 39;
 pub const FDB_EMPTY: u8 = 40;
 pub const FDB_OVER: u8 = 41;
 pub const FDB_UNJUDGED: u8 = 42;
+pub const FDB_NOT_KEPT: u8 = 43;
 
 pub const FDB_SYSTEM: u8 = 0;
 pub const FDB_DEFAULT: u8 = 1;
@@ -243,6 +244,24 @@ pub struct fdb_watch {
 }
 pub const FDB_WATCH_NONE: fdb_watch = fdb_watch { at: ptr::null_mut() };
 
+#[repr(C)]
+#[derive(Clone, Copy, Debug, Default)]
+pub struct fdb_watch_counted {
+    pub lines: u64,
+    pub reads: u64,
+    pub commits: u64,
+    pub asks: u64,
+    pub reports: u64,
+    pub refused: u64,
+    pub early: u64,
+    pub judged: u64,
+    pub ahead: u64,
+    pub open: u64,
+    pub kept: u64,
+    pub newest_end: u64,
+    pub settled_to: u64,
+}
+
 extern "C" {
     pub fn fdb_read_version_version() -> u32;
     pub fn fdb_chain_new(epoch_end: u64, recovery: u64, proxies: u32, chain: *mut fdb_chain) -> u8;
@@ -383,6 +402,17 @@ extern "C" {
         shown_length: usize,
         watch: *mut fdb_watch,
     ) -> u8;
+    pub fn fdb_watch_restore(
+        options: *const fdb_watch_options,
+        key: *const u8,
+        key_length: usize,
+        shown: *const u8,
+        shown_length: usize,
+        kept: *const u8,
+        kept_length: usize,
+        watch: *mut fdb_watch,
+        refused: *mut fdb_refused,
+    ) -> u8;
     pub fn fdb_watch_push(watch: *mut fdb_watch, bytes: *const u8, bytes_length: usize) -> u8;
     pub fn fdb_watch_tell(watch: *mut fdb_watch, is_idle: bool) -> u8;
     pub fn fdb_watch_end(watch: *mut fdb_watch, refused: *mut fdb_refused) -> u8;
@@ -398,5 +428,12 @@ extern "C" {
         text_length: usize,
         size: *mut u64,
     ) -> u8;
+    pub fn fdb_watch_keep(
+        watch: *mut fdb_watch,
+        text: *mut u8,
+        text_length: usize,
+        size: *mut u64,
+    ) -> u8;
+    pub fn fdb_watch_counts(watch: *mut fdb_watch, counts: *mut fdb_watch_counted) -> u8;
     pub fn fdb_watch_free(watch: *mut fdb_watch);
 }

@@ -5,12 +5,13 @@ use Rattle.fdb_lines.specs.declared.fault.Found.{Found}
 use Rattle.fdb_lines.specs.declared.line.Line.{Line}
 use Rattle.fdb_log_reader.specs.declared.error.Why.{Why}
 use Rattle.fdb_log_reader.specs.ReadLine.{SaidLine}
-use Rattle.fdb_log_reader.specs.LineReader.{lines_on, names_on}
+use Rattle.fdb_log_reader.specs.LineReader.{line_names, lines_on, names_on}
 use Rattle.fdb_audit.specs.declared.arguments.AuditArguments.{AuditArguments}
+use Rattle.fdb_audit.specs.declared.carried.Carried.{Carried}
 use Rattle.fdb_audit.specs.declared.counts.Came.{Came}
 use Rattle.fdb_audit.specs.declared.counts.Counts.{Counts}
 use Rattle.fdb_audit.specs.declared.follower.Follower.{Follower}
-pub use Rattle.fdb_audit.specs.Taken.{AreCounted, AreNumbered, AreTaken, HasCounted, HasTotals, HasTotalsIn, HasWarned, counted_in, counted_of}
+pub use Rattle.fdb_audit.specs.Taken.{AreCounted, AreNumbered, AreTaken, HasCounted, HasTotals, HasTotalsIn, HasWarned, IsCarried, counted_in, counted_of}
 use Rattle.std.specs.Int.{is_power_of_two}
 use Rattle.fdb_lines.specs.Before.{began}
 use Rattle.fdb_audit.specs.declared.taking.Taking.{Taking}
@@ -20,9 +21,40 @@ use Rattle.fdb_audit.specs.declared.warning.Warning.{Warning}
 use Rattle.fdb_audit.specs.declared.warning.Warning.TheVariants.{Ahead, Early}
 use Rattle.fdb_audit.specs.private.Clocks.{Hears, ahead_of}
 use Rattle.fdb_audit.specs.Warned.{AreEarly, warning_line}
-use Rattle.fdb_audit.specs.Following.{AreWindows, FollowArguments, KeptNumbers, Start, Window, faults_told, first_told, told_in_all}
+use Rattle.fdb_audit.specs.GoingOn.{GoesOn}
+use Rattle.fdb_audit.specs.Following.{AreWindows, FollowArguments, KeptNumbers, Start, Window, counted_on, faults_told, first_told, told_in_all}
 use Rattle.fdb_audit.specs.ToldFaults.{ToldFault}
-use Rattle.fdb_audit.specs.Watched.{IsTold, lines_asked, names_asked}
+use Rattle.fdb_audit.specs.Watched.{HasFollowed, IsTold, lines_asked, names_asked}
+
+-- what was carried, with what is counted behind it
+pub record CountsBehind (before : Carried) (taking : Taking) (all : Carried) : Type 0 where
+  pub counts : counted_in all.counts all.refused ≡ counted_on (counted_in before.counts before.refused) (counted_of taking)
+  pub refused : all.last_refused ≡ option_or taking.refused before.last_refused
+  pub last_early : all.counts.last_early ≡ option_or taking.counts.last_early before.counts.last_early
+
+-- no line is open, and nothing is left to be told
+pub record IsQuiet (follower : Follower) : Type 0 where
+  pub line : lines_on follower.reader [] ≡ []
+  pub names : names_on follower.reader [] ≡ line_names follower.reader
+  pub text : string_bytes follower.teller.text ≡ []
+
+-- another takes its place, with what it has counted and told
+pub record TakesPlace (old next new : Follower) : Type 0 where
+  pub reader : new.reader ≡ next.reader
+  pub watch : new.taking.watch ≡ next.taking.watch
+  pub numbering : new.taking.numbering ≡ next.taking.numbering
+  pub taken : new.taking.taken ≡ next.taking.taken
+  pub refused : new.taking.refused ≡ next.taking.refused
+  pub counts : new.taking.counts ≡ next.taking.counts
+  pub settled : new.taking.settled ≡ next.taking.settled
+  pub teller : new.teller ≡ record next.teller { told = old.teller.told; first = old.teller.first }
+  pub behind : new.behind ≡ next.behind
+  pub before : CountsBehind old.before old.taking new.before
+
+-- It has gone on from these bytes, of which that was told.
+abbrev pub HasGoneOn : AuditArguments → Start → Follower → (bytes told : List ℕ) → Type 0
+HasGoneOn asked start follower bytes told =
+    (kept : List ℕ) × (next : Start) × GoesOn asked start bytes told kept next × HasFollowed asked next follower kept []
 
 -- what stays while a teller tells
 pub record IsSameTeller (old new : Teller) : Type 0 where
@@ -114,6 +146,7 @@ pub record IsUnread (asked : AuditArguments) (start : Start) (follower : Followe
   pub goes : (text : List ℕ) → lines_asked asked text ≡ lines_on follower.reader text
   pub names : (text : List ℕ) → names_asked asked text ≡ names_on follower.reader text
   pub at : follower.behind ≡ start.behind
+  pub carried : IsCarried start.before follower.before
   pub taken : AreTaken start follower.taking [] start.told
   pub warned : HasWarned start follower.taking [] []
   pub margin : follower.taking.watch.margin ≡ asked.opts.margin

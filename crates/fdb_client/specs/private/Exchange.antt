@@ -1,17 +1,17 @@
 -- Whether an answer is to a request, and what it comes to. (this product's own)
 use Rattle.std.specs.Prelude.{Bool, ◌&&◌, ◌==◌, not, if◌then◌else◌, Result, Ok, Err}
-use Rattle.fdb_history.specs.declared.grv.GrvOpts.{GrvOpts}
+use Rattle.fdb_history.specs.declared.log.GrvOpts.{GrvOpts}
 use Rattle.fdb_history.specs.declared.log.CallAnswer.{CallAnswer}
 use Rattle.fdb_history.specs.declared.log.CallAnswer.TheVariants.{Version}
 use Rattle.fdb_history.specs.declared.service.Service.{Ghosts as ServiceGhosts}
-use Rattle.fdb_live.specs.declared.live.Live.{Ghosts as LiveGhosts}
+use Rattle.fdb_live.specs.declared.seen.Live.{Ghosts as LiveGhosts}
 use Rattle.fdb_proxy.specs.declared.answer.Answer.{Answer}
 use Rattle.fdb_proxy.specs.declared.answer.Answer.TheVariants as answer
 use Rattle.fdb_proxy.specs.declared.answer.Reply.{Reply}
 use Rattle.fdb_client.specs.Returned.{error_of_proxy}
 use Rattle.fdb_client.specs.declared.error.ClientError.{ClientError}
 use Rattle.fdb_client.specs.declared.error.ClientError.TheVariants.{Stranger}
-use Rattle.fdb_client.specs.declared.exchange.RequestId.{RequestId}
+use Rattle.fdb_client.specs.declared.reply.RequestId.{RequestId}
 
 -- whether two ids are of one request: client, serial and position are the same
 abbrev pub is_same : RequestId → RequestId → Bool

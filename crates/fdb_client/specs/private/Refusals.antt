@@ -2,11 +2,11 @@
 use Rattle.std.specs.Prelude.{◌≡◌, true, Option, None, Some, MatchOption}
 use Rattle.fdb_chain.specs.declared.error.ChainError.TheVariants as chain
 use Rattle.fdb_history.specs.Strays.{may_refuse}
-use Rattle.fdb_history.specs.declared.grv.GrvOpts.{GrvOpts}
+use Rattle.fdb_history.specs.declared.log.GrvOpts.{GrvOpts}
 use Rattle.fdb_history.specs.declared.log.Input.TheVariants as input
 use Rattle.fdb_history.specs.declared.log.Refusal.{Refusal}
 use Rattle.fdb_history.specs.declared.log.Refusal.TheVariants as refusal
-use Rattle.fdb_live.specs.declared.error.LiveError.TheVariants as live
+use Rattle.fdb_live.specs.declared.live_record.LiveError.TheVariants as live
 use Rattle.fdb_queue.specs.declared.error.QueueError.TheVariants as queue
 use Rattle.fdb_client.specs.declared.error.ClientError.{ClientError}
 use Rattle.fdb_client.specs.declared.error.ClientError.TheVariants.{Stranger, ProxyClosed, Chain}

@@ -4,7 +4,7 @@ use Rattle.std.specs.Prelude.{if◌then◌else◌, vec_len, vec_capacity}
 use Rattle.std.specs.List.{find}
 use Rattle.std.specs.Option.{option_map, option_or}
 use Rattle.fdb_history.specs.declared.chain.Issued.{Issued}
-use Rattle.fdb_client.specs.declared.versions.Versions.{Versions}
+use Rattle.fdb_client.specs.declared.journal.Versions.{Versions}
 
 -- the version of the first answer with a number
 abbrev pub version_among : List Issued → ℕ → Option ℕ

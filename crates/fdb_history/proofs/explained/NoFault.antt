@@ -13,8 +13,8 @@ use Rattle.fdb_history.specs.Faults.{changes_at, register_at, IsOutOfOrder, IsWr
 use Rattle.fdb_history.specs.Linear.{IsLinear, NeverGoesBack, client_of}
 use Rattle.fdb_history.specs.Log.{placed_from, calls_of, position_after_calls, answer_changes}
 use Rattle.fdb_history.specs.private.Explaining.{changes_of}
-use Rattle.fdb_history.specs.declared.event.Event.{Event}
-use Rattle.fdb_history.specs.declared.event.Placed.{Placed}
+use Rattle.fdb_history.specs.declared.register.Event.{Event}
+use Rattle.fdb_history.specs.declared.register.Placed.{Placed}
 use Rattle.fdb_history.specs.declared.log.Call.{Call}
 use Rattle.fdb_history.specs.declared.log.CallAnswer.{CallAnswer}
 use Rattle.fdb_history.specs.declared.log.CallAnswer.TheVariants.{Version, Acked}

@@ -9,8 +9,8 @@ use Rattle.fdb_history.specs.Event.{is_change}
 use Rattle.fdb_history.specs.Faults.{at_position, change_in, changes_at, IsOutOfOrder, IsReached, StandsAt, Nowhere}
 use Rattle.fdb_history.specs.Log.{calls_of, answer_changes}
 use Rattle.fdb_history.specs.private.Auditing.{farthest_in, farthest}
-use Rattle.fdb_history.specs.declared.auditing.changes.PlacedChange.{PlacedChange}
-use Rattle.fdb_history.specs.declared.event.Placed.{Placed}
+use Rattle.fdb_history.specs.declared.auditing.registers.PlacedChange.{PlacedChange}
+use Rattle.fdb_history.specs.declared.register.Placed.{Placed}
 use Rattle.fdb_history.specs.declared.log.Call.{Call}
 use Rattle.fdb_history.specs.declared.log.CallAnswer.{CallAnswer}
 use Rattle.fdb_history.specs.declared.log.CallAnswer.TheVariants.{Acked}

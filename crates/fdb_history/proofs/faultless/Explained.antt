@@ -11,9 +11,9 @@ use Rattle.fdb_history.specs.Linear.{IsLinear, NeverGoesBack, client_of}
 use Rattle.fdb_history.specs.Log.{placed_from, calls_of}
 use Rattle.fdb_history.specs.private.Auditing.{IsWithin, farthest}
 use Rattle.fdb_history.specs.private.Explaining.{changes_of}
-use Rattle.fdb_history.specs.declared.event.Event.{Event}
-use Rattle.fdb_history.specs.declared.event.Event.TheVariants.{Read}
-use Rattle.fdb_history.specs.declared.event.Placed.{Placed}
+use Rattle.fdb_history.specs.declared.register.Event.{Event}
+use Rattle.fdb_history.specs.declared.register.Event.TheVariants.{Read}
+use Rattle.fdb_history.specs.declared.register.Placed.{Placed}
 use Rattle.fdb_history.specs.declared.log.ClientLog.{ClientLog}
 use Rattle.fdb_history.specs.declared.register.Record.{Record}
 use Rattle.fdb_history.proofs.Lists.{of_client}

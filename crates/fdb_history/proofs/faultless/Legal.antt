@@ -8,10 +8,10 @@ use Rattle.fdb_history.specs.Event.{IsTrueOf, IsLegal, stamped}
 use Rattle.fdb_history.specs.Faults.{after_changes, register_at, IsMisanswered, IsWrongAnswer}
 use Rattle.fdb_history.specs.Register.{raises, changes, after_report}
 use Rattle.fdb_history.specs.private.Explaining.{changes_of}
-use Rattle.fdb_history.specs.declared.auditing.changes.PlacedChange.{PlacedChange}
-use Rattle.fdb_history.specs.declared.event.Event.{Event}
-use Rattle.fdb_history.specs.declared.event.Event.TheVariants.{Report, Read}
-use Rattle.fdb_history.specs.declared.event.Placed.{Placed}
+use Rattle.fdb_history.specs.declared.auditing.registers.PlacedChange.{PlacedChange}
+use Rattle.fdb_history.specs.declared.register.Event.{Event}
+use Rattle.fdb_history.specs.declared.register.Event.TheVariants.{Report, Read}
+use Rattle.fdb_history.specs.declared.register.Placed.{Placed}
 use Rattle.fdb_history.specs.declared.log.CallAnswer.TheVariants.{Version, Acked}
 use Rattle.fdb_history.specs.declared.log.ClientLog.{ClientLog}
 use Rattle.fdb_history.specs.declared.register.Record.{Record}

@@ -8,8 +8,8 @@ use Rattle.std.proofs.lemmas.List.Elements.{filter_agree}
 use Rattle.fdb_history.specs.Event.{is_change}
 use Rattle.fdb_history.specs.Explained.{events_at, events_up_to}
 use Rattle.fdb_history.specs.private.Auditing.{Rises}
-use Rattle.fdb_history.specs.declared.event.Event.{Event}
-use Rattle.fdb_history.specs.declared.event.Placed.{Placed}
+use Rattle.fdb_history.specs.declared.register.Event.{Event}
+use Rattle.fdb_history.specs.declared.register.Placed.{Placed}
 use Rattle.fdb_history.proofs.faultless.Grouped.{of, groups, two_more}
 
 -- the rank of a position and kind

@@ -11,10 +11,10 @@ use Rattle.fdb_history.specs.Event.{is_change}
 use Rattle.fdb_history.specs.Explained.{placed_in, explained}
 use Rattle.fdb_history.specs.private.Auditing.{AreByPosition, AreChangesOf, IsWithin, Rises}
 use Rattle.fdb_history.specs.private.Explaining.{AreEventsByPosition, change_of_event, changes_of}
-use Rattle.fdb_history.specs.declared.auditing.changes.PlacedChange.{PlacedChange}
-use Rattle.fdb_history.specs.declared.event.Event.{Event}
-use Rattle.fdb_history.specs.declared.event.Event.TheVariants.{Report}
-use Rattle.fdb_history.specs.declared.event.Placed.{Placed}
+use Rattle.fdb_history.specs.declared.auditing.registers.PlacedChange.{PlacedChange}
+use Rattle.fdb_history.specs.declared.register.Event.{Event}
+use Rattle.fdb_history.specs.declared.register.Event.TheVariants.{Report}
+use Rattle.fdb_history.specs.declared.register.Placed.{Placed}
 use Rattle.fdb_history.specs.declared.log.ClientLog.{ClientLog}
 use Rattle.fdb_history.proofs.faultless.Grouped.{of, groups_all, in_order, same_group}
 use Rattle.fdb_history.proofs.faultless.Logs.{changes-at, changes-to}

@@ -5,10 +5,10 @@ use Rattle.fdb_history.specs.Faults.{IsFaultless, OutOfOrder, WronglyAnswered, I
 use Rattle.fdb_history.specs.Linear.{IsLinear}
 use Rattle.fdb_history.specs.Strays.{IsStray}
 use Rattle.fdb_history.specs.declared.chain.Issued.{Issued}
-use Rattle.fdb_history.specs.declared.event.Event.{Event}
-use Rattle.fdb_history.specs.declared.event.History.{History}
-use Rattle.fdb_history.specs.declared.fault.AuditFault.{AuditFault}
-use Rattle.fdb_history.specs.declared.fault.AuditFault.TheVariants.{Order, Clash, Gap, Wrong, Stray, NotAbove, Memory}
+use Rattle.fdb_history.specs.declared.register.Event.{Event}
+use Rattle.fdb_history.specs.declared.register.History.{History}
+use Rattle.fdb_history.specs.declared.auditing.AuditFault.{AuditFault}
+use Rattle.fdb_history.specs.declared.auditing.AuditFault.TheVariants.{Order, Clash, Gap, Wrong, Stray, NotAbove, Memory}
 use Rattle.fdb_history.specs.declared.log.ClientLog.{ClientLog}
 use Rattle.fdb_history.specs.declared.register.Record.{Record}
 use Rattle.fdb_history.proofs.explained.NoFault.{faultless}

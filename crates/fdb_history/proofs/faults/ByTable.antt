@@ -5,7 +5,7 @@ use Rattle.fdb_history.specs.Audit.{IsNotAbove, Low}
 use Rattle.fdb_history.specs.private.Auditing.{AreRegisters, IsFirstCall, by_table}
 use Rattle.fdb_history.specs.Faults.{OutOfOrder, WronglyAnswered, StandsAt, IsReached, IsMisanswered, IsWrongBy, Nowhere, register_at}
 use Rattle.fdb_history.specs.Log.{calls_of}
-use Rattle.fdb_history.specs.declared.auditing.found.CallName.{CallName}
+use Rattle.fdb_history.specs.declared.auditing.call_fault.CallName.{CallName}
 use Rattle.fdb_history.specs.declared.auditing.registers.Registers.{Registers}
 use Rattle.fdb_history.specs.declared.log.Call.{Call}
 use Rattle.fdb_history.specs.declared.log.CallAnswer.{CallAnswer}

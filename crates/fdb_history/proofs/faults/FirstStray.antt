@@ -5,7 +5,7 @@ use Rattle.fdb_history.specs.private.Auditing.{AreMarks, HasUnmarked, IsFirstCal
 use Rattle.fdb_history.specs.Faults.{AtNoPosition, ComesBefore, IsFirst, IsLeast}
 use Rattle.fdb_history.specs.Log.{calls_of}
 use Rattle.fdb_history.specs.Strays.{HasUndrawn, IsStray, NotJustified, is_drawn}
-use Rattle.fdb_history.specs.declared.auditing.found.CallName.{CallName}
+use Rattle.fdb_history.specs.declared.auditing.call_fault.CallName.{CallName}
 use Rattle.fdb_history.specs.declared.chain.Issued.{Issued}
 use Rattle.fdb_history.specs.declared.log.ClientLog.{ClientLog}
 

@@ -5,7 +5,7 @@ use Rattle.std.proofs.lemmas.List.{nil_from_length}
 use Rattle.fdb_history.specs.Faults.{at_position, changes_at, register_at, after_changes, IsClash, IsGap, IsLeast, IsReached, OutOfOrder, Nowhere, AtNoPosition}
 use Rattle.fdb_history.specs.Register.{after_report}
 use Rattle.fdb_history.specs.private.Auditing.{AreByPosition, AreChangesOf, IsLeastIfAny, Rises, clash_in, farthest, missing_in, table_of}
-use Rattle.fdb_history.specs.declared.auditing.changes.PlacedChange.{PlacedChange}
+use Rattle.fdb_history.specs.declared.auditing.registers.PlacedChange.{PlacedChange}
 use Rattle.fdb_history.specs.declared.log.ClientLog.{ClientLog}
 use Rattle.fdb_history.specs.declared.register.Record.{Record}
 use Rattle.fdb_history.proofs.faultless.Counted.{far-above, far-reached, none-at-zero}

@@ -11,8 +11,8 @@ use Rattle.fdb_history.specs.Register.{after_report}
 use Rattle.fdb_history.specs.Event.{after_event, register_after, IsTrueOf, IsLegal, is_change, position_after, positions_from, change_count}
 use Rattle.fdb_history.specs.Laws.{seen_version, seen_at, reports_of}
 use Rattle.fdb_history.specs.declared.register.Record.{Record}
-use Rattle.fdb_history.specs.declared.event.Event.{Event}
-use Rattle.fdb_history.specs.declared.event.Event.TheVariants.{Report, Read}
+use Rattle.fdb_history.specs.declared.register.Event.{Event}
+use Rattle.fdb_history.specs.declared.register.Event.TheVariants.{Report, Read}
 use Rattle.fdb_history.proofs.histories.AfterReport.{version-at_least, raised-version, known-within}
 
 pub after_event-at_least : (current : Record) (event : Event) → current.version ≤ (after_event current event).version

@@ -9,9 +9,9 @@ use Rattle.fdb_history.specs.Faults.{change_in, changes_in, changes_at, after_ch
 use Rattle.fdb_history.specs.Linear.{IsLinear, NeverGoesBack}
 use Rattle.fdb_history.specs.Log.{calls_of, answer_changes}
 use Rattle.fdb_history.specs.Register.{changes, after_report}
-use Rattle.fdb_history.specs.declared.auditing.changes.PlacedChange.{PlacedChange}
-use Rattle.fdb_history.specs.declared.event.Event.{Event}
-use Rattle.fdb_history.specs.declared.grv.TagLimit.{TagLimit}
+use Rattle.fdb_history.specs.declared.auditing.registers.PlacedChange.{PlacedChange}
+use Rattle.fdb_history.specs.declared.register.Event.{Event}
+use Rattle.fdb_history.specs.declared.log.TagLimit.{TagLimit}
 use Rattle.fdb_history.specs.declared.log.Call.{Call}
 use Rattle.fdb_history.specs.declared.log.CallAnswer.TheVariants.{Version, Acked}
 use Rattle.fdb_history.specs.declared.log.ClientLog.{ClientLog}

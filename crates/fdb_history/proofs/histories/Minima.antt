@@ -6,9 +6,9 @@ use Rattle.std.proofs.lemmas.List.Elements.{All-from_recursion}
 use Rattle.fdb_history.specs.Laws.{HasMinimumWithin, HaveMinimaWithin, reports_of}
 use Rattle.fdb_history.specs.Linear.{IsLinear, client_of}
 use Rattle.fdb_history.specs.Log.{calls_of, event_of_answer, placed_from}
-use Rattle.fdb_history.specs.declared.event.Event.{Event}
-use Rattle.fdb_history.specs.declared.event.Event.TheVariants.{Report, Read}
-use Rattle.fdb_history.specs.declared.event.Placed.{Placed}
+use Rattle.fdb_history.specs.declared.register.Event.{Event}
+use Rattle.fdb_history.specs.declared.register.Event.TheVariants.{Report, Read}
+use Rattle.fdb_history.specs.declared.register.Placed.{Placed}
 use Rattle.fdb_history.specs.declared.log.Call.{Call}
 use Rattle.fdb_history.specs.declared.log.CallAnswer.{CallAnswer}
 use Rattle.fdb_history.specs.declared.log.CallAnswer.TheVariants.{Version, Acked}

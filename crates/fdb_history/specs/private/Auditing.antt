@@ -5,12 +5,12 @@ use Rattle.fdb_history.specs.Event.{is_change}
 use Rattle.fdb_history.specs.Explained.{placed_in}
 use Rattle.fdb_history.specs.Faults.{IsClash, IsGap, IsFirst, IsLeast, IsReached, Nowhere, AtNoPosition, at_position, changes_at, register_at}
 use Rattle.fdb_history.specs.Register.{after_report}
-use Rattle.fdb_history.specs.declared.auditing.found.CallName.{CallName}
-use Rattle.fdb_history.specs.declared.auditing.changes.PlacedChange.{PlacedChange}
+use Rattle.fdb_history.specs.declared.auditing.call_fault.CallName.{CallName}
+use Rattle.fdb_history.specs.declared.auditing.registers.PlacedChange.{PlacedChange}
 use Rattle.fdb_history.specs.declared.auditing.registers.Registers.{Registers}
 use Rattle.fdb_history.specs.declared.chain.Issued.{Issued}
-use Rattle.fdb_history.specs.declared.fault.AuditFault.{AuditFault}
-use Rattle.fdb_history.specs.declared.fault.AuditFault.TheVariants.{Clash, Gap, Memory}
+use Rattle.fdb_history.specs.declared.auditing.AuditFault.{AuditFault}
+use Rattle.fdb_history.specs.declared.auditing.AuditFault.TheVariants.{Clash, Gap, Memory}
 use Rattle.fdb_history.specs.declared.log.Call.{Call}
 use Rattle.fdb_history.specs.declared.log.ClientLog.{ClientLog}
 use Rattle.fdb_history.specs.declared.register.Record.{Record}

@@ -2,10 +2,10 @@
 use Rattle.std.specs.Prelude.{ℕ, true, false, List, [], ◌∷◌}
 use Rattle.std.specs.List.{flat_map}
 use Rattle.fdb_history.specs.private.Auditing.{Rises}
-use Rattle.fdb_history.specs.declared.event.Placed.{Placed}
-use Rattle.fdb_history.specs.declared.auditing.changes.PlacedChange.{PlacedChange}
-use Rattle.fdb_history.specs.declared.event.Event.{Event}
-use Rattle.fdb_history.specs.declared.event.Event.TheVariants.{Report, Read}
+use Rattle.fdb_history.specs.declared.register.Placed.{Placed}
+use Rattle.fdb_history.specs.declared.auditing.registers.PlacedChange.{PlacedChange}
+use Rattle.fdb_history.specs.declared.register.Event.{Event}
+use Rattle.fdb_history.specs.declared.register.Event.TheVariants.{Report, Read}
 
 -- the events stand in the order of their positions
 abbrev pub AreEventsByPosition : List Placed → Type 0

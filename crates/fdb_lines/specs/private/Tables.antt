@@ -1,5 +1,5 @@
 -- The tables of a log.
-use Rattle.std.specs.Prelude.{◌≡◌, ◌⊎◌, ℕ, ◌++◌, ◌∷◌, ◌==◌, ◌&&◌, ◌||◌, not, nat_le, Bool, true, false, cond, List, Option, None, Some, IfSome, length, map, option_map}
+use Rattle.std.specs.Prelude.{◌≡◌, ◌⊎◌, ℕ, ◌++◌, ◌∷◌, Bool, true, false, List, Option, None, Some, IfSome, length, map, option_map}
 use Rattle.std.specs.List.{All, list_any}
 use Rattle.fdb_lines.specs.declared.end.End.{End}
 use Rattle.fdb_lines.specs.declared.fault.Fault.{Fault}
@@ -22,9 +22,9 @@ use Rattle.fdb_lines.specs.declared.locators.Locators.{Locators}
 use Rattle.fdb_lines.specs.declared.reason.Witness.{Witness}
 use Rattle.fdb_lines.specs.Audit.{case_of, start_of}
 use Rattle.fdb_lines.specs.Before.{comes_before}
-use Rattle.fdb_lines.specs.Faults.{is_drawn, is_own, is_raised, is_reported, stands}
+use Rattle.fdb_lines.specs.Faults.{stands}
 use Rattle.fdb_lines.specs.Late.{HasLate}
-use Rattle.fdb_lines.specs.Lines.{Case, Lines, is_ask, kind_of, version_at}
+use Rattle.fdb_lines.specs.Lines.{Case, Lines, is_ask, kind_of}
 use Rattle.fdb_lines.specs.Listing.{faults_below}
 use Rattle.fdb_lines.specs.Log.{lines_of}
 use Rattle.fdb_lines.specs.Reasons.{found_of, HasReason, IsReason}
@@ -91,14 +91,6 @@ drawn_by (Some line) = DrawnBy line
 abbrev pub IsAnswer : Lines → AuditOpts → ℕ → Fault → Option Reason → Type 0
 IsAnswer log opts k fault None = stands (case_of log opts) fault k ≡ false
 IsAnswer log opts k fault (Some reason) = (stands (case_of log opts) fault k ≡ true) × IsReason log opts k fault reason
-
--- whether a version is not there: nobody reported it without knowing as much before
-abbrev pub is_wrong : Case → ℕ → Bool
-is_wrong c v = not (v == c.start) && (not (is_raised c v) && (c.complete || is_reported c v))
-
--- whether others drew the version of a line, or nobody can have drawn it
-abbrev pub is_stray : Case → ℕ → Bool
-is_stray c k = cond (is_drawn c (version_at c k)) (not (is_own c k)) (c.complete || nat_le (version_at c k) c.start)
 
 -- the first of the faults at the lines from one place on and before another; none where there is none
 abbrev pub IsFirstBetween : Case → ℕ → ℕ → Option Found → Type 0

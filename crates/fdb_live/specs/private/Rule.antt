@@ -10,11 +10,11 @@ use Rattle.fdb_history.specs.declared.register.Record.{Record}
 use Rattle.fdb_live.specs.Seen.{last_record, IsLog, changed_by, longer}
 use Rattle.fdb_live.specs.Holding.{AreDrawn, answers_to}
 use Rattle.fdb_live.specs.private.Words.{fetched_of}
-use Rattle.fdb_live.specs.declared.fetched.Fetched.{Fetched}
+use Rattle.fdb_live.specs.declared.held.Fetched.{Fetched}
 use Rattle.fdb_live.specs.declared.held.Held.{Held}
-use Rattle.fdb_live.specs.declared.change.Change.{Change}
+use Rattle.fdb_live.specs.declared.view.Change.{Change}
 use Rattle.fdb_live.specs.declared.view.ChainView.{ChainView}
-use Rattle.fdb_live.specs.declared.epoch.Epoch.{Epoch}
+use Rattle.fdb_live.specs.declared.view.Epoch.{Epoch}
 use Rattle.fdb_live.specs.declared.view.View.{View}
 
 -- The words are those after the log.

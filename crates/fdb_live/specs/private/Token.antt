@@ -13,8 +13,8 @@ use Rattle.fdb_history.specs.Register.{raises, changes}
 use Rattle.fdb_live.specs.Seen.{IsLog, epoch_of, last_record}
 use Rattle.fdb_live.specs.Holding.{AreDrawn, answers_to, chain_of}
 use Rattle.fdb_live.specs.private.Rule.{Tells, TellsChain, chain_view, having_seen, view}
-use Rattle.fdb_live.specs.declared.change.Change.{Change}
-use Rattle.fdb_live.specs.declared.epoch.Epoch.{Epoch}
+use Rattle.fdb_live.specs.declared.view.Change.{Change}
+use Rattle.fdb_live.specs.declared.view.Epoch.{Epoch}
 use Rattle.fdb_live.specs.declared.view.View.{View}
 
 -- A table that is no cell's, for a name that no cell was picked for.

@@ -2,7 +2,7 @@
 use Rattle.std.specs.Prelude.{ℕ, ◌+◌, ◌==◌, Bool, not, Option, None, Some, List, [], ◌∷◌, ◌++◌, take, drop, if◌then◌else◌, bit_and}
 use Rattle.std.specs.Int.{w16, w64, to_be_bytes, from_be_bytes}
 use Rattle.fdb_history.specs.declared.register.Record.{Record}
-use Rattle.fdb_live.specs.declared.fetched.Fetched.{Fetched}
+use Rattle.fdb_live.specs.declared.held.Fetched.{Fetched}
 use Rattle.fdb_live.specs.declared.held.Held.{Held}
 
 -- Bit 0 says that the database is locked, bit 1 that there is a metadata version.

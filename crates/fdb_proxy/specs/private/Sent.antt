@@ -2,8 +2,8 @@
 use Rattle.std.specs.Prelude.{◌≡◌, ℕ, Bool, true, false, List, Option, None, Some}
 use Rattle.std.specs.List.{AllZip, FoldsTo}
 use Rattle.fdb_history.specs.declared.service.Service.{Ghosts as ServiceGhosts}
-use Rattle.fdb_live.specs.declared.live.Live.{Ghosts as LiveGhosts}
-use Rattle.fdb_live.specs.declared.change.Change.{Change}
+use Rattle.fdb_live.specs.declared.seen.Live.{Ghosts as LiveGhosts}
+use Rattle.fdb_live.specs.declared.view.Change.{Change}
 use Rattle.fdb_proxy.specs.Batch.{Replies}
 use Rattle.fdb_proxy.specs.declared.answer.Addressed.{Addressed}
 use Rattle.fdb_proxy.specs.declared.answer.Answer.{Answer}

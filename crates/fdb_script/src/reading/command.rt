@@ -1,20 +1,18 @@
 //! The commands of a script: objects with `do`, `client` and the members of that act.
 
-ghost use Rattle.std.specs.Prelude.{◌≡◌, IfOk, map};
+ghost use Rattle.std.specs.Prelude.{◌≡◌, IfOk, map, codes, false};
 ghost use Rattle.serde_json.specs.View.{view};
 ghost use Rattle.serde_json.specs.Find.{as_bool};
-ghost use Rattle.fdb_history.specs.declared.grv.Priority.TheVariants.{Default};
+ghost use Rattle.fdb_history.specs.declared.log.Priority.TheVariants.{Default};
 ghost use Rattle.fdb_script.specs.Reading.{act_of, ask_of, command_of, commands_from, grv_of};
 ghost use Rattle.fdb_script.specs.Reading.{grv_with, IsUnlessMemory, member_or, priority_of};
 ghost use Rattle.fdb_script.specs.Reading.{reask_of, report_of, rounds_from, tell_of, whole};
-ghost use Rattle.std.specs.Prelude.{codes, false};
 
-use crate::error::ScriptError;
 use crate::reading::members::{
-    client_member, flag_or_false, metadata_or_none, text_member, whole_member, whole_or,
+    client_member, flag_or_false, metadata_or_none, priority_of, tags_or_none, text_member,
+    whole_member, whole_or,
 };
-use crate::reading::tags::{priority_of, tags_or_none};
-use crate::script::{Act, Command};
+use crate::script::{Act, Command, ScriptError};
 use fdb_history::{GrvOpts, Priority, Sequence, Tag};
 use serde_json::Value;
 use std::alloc::{AllocError, Global};

@@ -11,8 +11,8 @@
 ghost use Rattle.std.specs.Prelude.{◌≡◌, true};
 ghost use Rattle.fdb_proxy.specs.Cause.{may_be_refused_for};
 
-use crate::client::calls::{client_at, say_cause};
-use crate::gated::counting::Counting;
+use crate::client::{client_at, say_cause};
+use crate::gated::Counting;
 use crate::stand::{Service, Stand};
 use fdb_checks::TableLine;
 use fdb_client::{Client, ClientError, ReadVersion};
@@ -22,8 +22,7 @@ use fdb_proxy::{Answer, Cause, Desk, Refused, Reply, Request};
 use fdb_queue::QueueError;
 use std::alloc::AllocError;
 use std::sync::Wait;
-use std::thread;
-use std::thread::Threads;
+use std::thread::{self, Threads};
 
 /// What a client's request has to be, and how it is answered.
 #[derive(Drop)]

@@ -1,15 +1,18 @@
 //! Requests that are left on a desk, and served there.
+//!
+//! Answers as text: the record with its position and the limits, or why there is none, and that it is
+//! another's, where it is. Neighbours that say the same stand together, behind how many.
 
-use crate::proxy::answers::rows_of;
 use crate::stand::{Service, Stand};
 use crossbeam_channel::{Receiver, bounded, unbounded};
 use fdb_checks::TableLine;
-use fdb_history::{GrvOpts, Priority, Sequence, Tag};
+use fdb_history::{GrvOpts, Priority, Sequence, Tag, TagLimit};
 use fdb_live::{Live, Seen};
-use fdb_proxy::{Addressed, Answer, Desk, ProxyError, Request, serve_batch};
+use fdb_proxy::{Addressed, Answer, Cause, Desk, ProxyError, Refused, Reply, Request, serve_batch};
 use fdb_queue::{GrvQueue, QueueConfig, Req};
 use std::alloc::{AllocError, Global};
 use std::mem;
+use std::str::from_utf8;
 use std::sync::Wait;
 
 /// Who waits for the answer to a request.
@@ -233,5 +236,79 @@ pub(crate) fn say_answers<J: Live, R: Wait>(stand: &mut Stand<'_, J, R>, line: &
     match rows_of(line.alloc, &waiters) {
         Ok(text) => line.say(text),
         Err(_) => line.lacks(),
+    }
+}
+
+/// What all these have heard, in their order.
+fn rows_of<J: Live>(alloc: Global, waiters: &[Waiter<J>]) -> Result<String, AllocError> {
+    let (mut rows, mut last, mut times) = (String::new(alloc), String::new(alloc), 0u64);
+    for waiter in waiters {
+        let next = heard_by(alloc, waiter)?;
+        if next != last {
+            push_row(&mut rows, times, &last)?;
+            last = next;
+            times = 0;
+        }
+        times = times.saturating_add(1);
+    }
+    push_row(&mut rows, times, &last)?;
+    Ok(rows)
+}
+
+/// Adds what so many say, if any do.
+fn push_row(rows: &mut String, times: u64, said: &str) -> Result<(), AllocError> {
+    if times == 0 {
+        return Ok(());
+    }
+    let part = if rows.is_empty() { "" } else { " / " };
+    write!(rows, "{part}{times} {said}")
+}
+
+/// What one who waits has heard.
+fn heard_by<J: Live>(alloc: Global, waiter: &Waiter<J>) -> Result<String, AllocError> {
+    match &waiter.heard {
+        None => String::from_str(alloc, "no answer"),
+        Some(Answer::Reply(reply)) => replied(alloc, reply, waiter.own),
+        Some(Answer::Refused(refused)) => refused_as(alloc, refused, waiter.own),
+    }
+}
+
+fn replied<J: Live>(
+    alloc: Global,
+    reply: &Reply<J>,
+    own: (u32, u64, u64),
+) -> Result<String, AllocError> {
+    let mut text = format!(in alloc; "{} at {}", reply.rec, reply.position)?;
+    let limits = reply.limits.as_slice();
+    if let Some(first) = limits.first() {
+        push_limits(&mut text, first, limits)?;
+    }
+    if (reply.client, reply.serial, reply.asked) != own {
+        text.push_str(" to another")?;
+    }
+    Ok(text)
+}
+
+/// Adds how many limits there are, and the first of them, or that they are not all the same.
+fn push_limits(text: &mut String, first: &TagLimit, limits: &[TagLimit]) -> Result<(), AllocError> {
+    if limits.iter().any(|limit| limit != first) {
+        return text.push_str(" with several");
+    }
+    let tag = from_utf8(first.tag.as_slice()).unwrap_or("no text");
+    let TagLimit { rate, expires, .. } = first;
+    write!(text, " with {} {tag} {rate} {expires}", limits.len())
+}
+
+fn refused_as<J: Live>(
+    alloc: Global,
+    refused: &Refused<J>,
+    own: (u32, u64, u64),
+) -> Result<String, AllocError> {
+    if (refused.client, refused.serial, refused.asked) != own {
+        return String::from_str(alloc, "a refusal to another");
+    }
+    match refused.cause {
+        Cause::Queue(cause) => format!(in alloc; "{cause}"),
+        Cause::Closed => String::from_str(alloc, "closed"),
     }
 }

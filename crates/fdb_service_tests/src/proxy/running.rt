@@ -1,14 +1,14 @@
 //! A proxy that runs in a thread of its own, beside what a line says.
 
-use crate::proxy::desks::{Waiter, queue_of, say_answers, submit};
+use crate::proxy::desks::{Waiter, opts_of, queue_of, request_of, say_answers, submit};
 use crate::stand::{Service, Stand};
 use fdb_checks::{TableLine, comes};
+use fdb_history::{GrvOpts, Priority};
 use fdb_live::Live;
-use fdb_proxy::{GrvProxy, Rates, Request};
-use fdb_queue::GrvQueue;
+use fdb_proxy::{Answer, Cause, GrvProxy, Rates, Request};
+use fdb_queue::{GrvQueue, QueueError, Req};
 use std::sync::Wait;
-use std::thread;
-use std::thread::Threads;
+use std::thread::{self, Threads};
 
 /// Says the answers of a proxy with such a queue to all who wait.
 pub(crate) fn run<J: Live + Send + Sync, R: Threads + Wait + Sync>(
@@ -27,7 +27,7 @@ pub(crate) fn run<J: Live + Send + Sync, R: Threads + Wait + Sync>(
 
 /// Runs a proxy with a queue until all have heard. Answers whether it ended as its desk was closed, or
 /// nothing where it cannot be started.
-pub(crate) fn runs_beside<J: Live + Send + Sync, R: Threads + Wait + Sync>(
+fn runs_beside<J: Live + Send + Sync, R: Threads + Wait + Sync>(
     stand: &mut Stand<'_, J, R>,
     queue: GrvQueue<Request<J>>,
     line: &mut TableLine<'_>,
@@ -118,4 +118,117 @@ pub(crate) fn leave_rates<J: Live, R: Wait>(
         Some(rates) => service.desk.set_rates(rt, rates),
         None => line.fails("rates out of range"),
     }
+}
+
+/// How many requests a queue has had that is used.
+const REQUESTS: u64 = 6;
+
+/// Runs a proxy with these limits and this room. Where it ends well each request has one answer: the
+/// reply, that new rates turned it away, or that its offer was refused memory, which it is not where
+/// the queue had as many requests before. Where it ends out of memory, its desk is closed and empty.
+/// Notes the number of the request that alone was refused memory.
+pub(crate) fn run_refused<J: Live + Send + Sync, R: Threads + Wait + Sync>(
+    stand: &mut Stand<'_, J, R>,
+    line: &mut TableLine<'_>,
+) {
+    let used = line.text.contains(" used");
+    let (normal, batch, room) = (line.number(), line.number(), line.number());
+    let Some(queue) = queue_for(stand, (normal, batch, room), used) else {
+        return line.lacks();
+    };
+    match runs_beside(stand, queue, line) {
+        Some(true) => look_at_all(stand, used, line),
+        Some(false) => look_at_desk(stand, line),
+        None => line.lacks(),
+    }
+}
+
+/// Looks at the desk of a proxy that ended out of memory.
+fn look_at_desk<J: Live, R: Wait>(stand: &Stand<'_, J, R>, line: &mut TableLine<'_>) {
+    let taken = stand.service.desk.take(stand.rt, false);
+    line.holds(taken.closed, "a desk that is closed");
+    line.holds(taken.requests.is_empty(), "a desk that is empty");
+    line.lacks();
+}
+
+/// Looks at what all have heard of a proxy that ended well.
+fn look_at_all<J: Live, R: Wait>(
+    stand: &mut Stand<'_, J, R>,
+    used: bool,
+    line: &mut TableLine<'_>,
+) {
+    let (mut refused, mut last) = (0u64, 0);
+    for (place, waiter) in stand.waiters.iter().enumerate() {
+        let place = place as u64;
+        line.holds(waiter.receiver.recv(stand.rt).is_err(), "one answer");
+        if was_refused(&waiter.heard, place, line) {
+            refused = refused.saturating_add(1);
+            last = place.saturating_add(1);
+        }
+    }
+    line.holds(!used || refused == 0, "there was capacity");
+    if refused == 1 {
+        stand.alone = last;
+    }
+    line.say("heard");
+}
+
+/// Whether a request was answered that its offer was refused memory. Else it has its reply, or new
+/// rates have turned it away.
+fn was_refused<J: Live>(heard: &Option<Answer<J>>, place: u64, line: &mut TableLine<'_>) -> bool {
+    match heard {
+        Some(Answer::Reply(reply)) => line.holds(reply.serial == place, "another's reply"),
+        Some(Answer::Refused(refused)) => {
+            line.holds(refused.serial == place, "another's refusal");
+            if refused.cause == Cause::Queue(QueueError::Memory) {
+                return true;
+            }
+            // (new rates, which the text has, may turn a request away for its count)
+            let is_rated = line.text.contains(" rates ");
+            line.holds(
+                is_rated && refused.cause == Cause::Queue(QueueError::BadCount),
+                "another refusal",
+            );
+        }
+        None => line.fails("each is answered"),
+    }
+    false
+}
+
+/// The queue of a proxy. A used one has had as many requests as will come, and has none any more.
+fn queue_for<J: Live, R: Wait>(
+    stand: &mut Stand<'_, J, R>,
+    (normal, batch, room): (u64, u64, u64),
+    used: bool,
+) -> Option<GrvQueue<Request<J>>> {
+    let alloc = stand.service.alloc;
+    let mut queue = queue_of(alloc, normal, batch, room)?;
+    if used {
+        let opts = opts_of(&mut TableLine::new(alloc, "default 1 0 0"));
+        for serial in 0..REQUESTS {
+            use_once(stand, &mut queue, serial, &opts)?;
+        }
+        for _ in 0..REQUESTS {
+            queue.pop();
+        }
+    }
+    Some(queue)
+}
+
+/// Lets a request in.
+fn use_once<J: Live, R: Wait>(
+    stand: &mut Stand<'_, J, R>,
+    queue: &mut GrvQueue<Request<J>>,
+    serial: u64,
+    opts: &GrvOpts,
+) -> Option<()> {
+    let opts = opts.clone().ok()?;
+    let seen = &mut stand.seen;
+    let (payload, _) = request_of(stand.service, seen, (0, serial), opts, "").ok()?;
+    let offered = queue.offer(Req {
+        priority: Priority::Default,
+        count: 1,
+        payload,
+    });
+    offered.is_ok().then_some(())
 }

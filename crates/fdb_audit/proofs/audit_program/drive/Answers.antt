@@ -6,7 +6,7 @@ use Rattle.fdb_command.specs.Driving.{MayAnswer, RefusesWhole, Stops, TellsNothi
 use Rattle.fdb_command.specs.declared.failure.Failure.{Failure}
 use Rattle.fdb_command.specs.declared.program.Output.{Output}
 use Rattle.fdb_log_reader.specs.declared.error.ReadError.{ReadError}
-use Rattle.fdb_audit.specs.Program.{HasTaken, IsAsked, IsWhole, PrintsBy, RefusesBy, audit, refusal_of, refused_of, started}
+use Rattle.fdb_audit.specs.Program.{HasTaken, IsAsked, IsWhole, PrintsBy, RefusesBy, audit, refusal_of, started}
 use Rattle.fdb_audit.specs.Progress.{IsPrinted}
 use Rattle.fdb_audit.specs.declared.refused.KeptFault.{KeptFault}
 use Rattle.fdb_audit.specs.declared.arguments.AuditArguments.{AuditArguments}
@@ -57,13 +57,13 @@ part_refused : (follow : Option ℕ) (asked : AuditArguments) (bytes text : List
     → PrintsBy follow asked bytes text found refused → IfSome refused (RefusesBy follow asked bytes)
 part_refused follow asked bytes text found None is = tt
 part_refused None asked bytes text found (Some error) is = absurd (not_both error is.1)
-part_refused (Some behind) asked bytes text found (Some (Log error)) (kept, for, last, followed, is) =
-    (kept, for, log_error (refused_of asked (started asked behind kept) (kept ++ bytes)) last error is)
-part_refused (Some behind) asked bytes text found (Some (Early number)) (kept, for, last, followed, is) =
-    let (none, early) = early_error (refused_of asked (started asked behind kept) (kept ++ bytes)) last number is in
-    (kept, for, none, text, found, subst (IsPrinted asked (started asked behind kept) (not (is_some asked.keep)) (kept ++ bytes) text found) early followed)
-part_refused (Some behind) asked bytes text found (Some (Kept error)) (kept, for, last, followed, is) =
-    absurd (not_kept (refused_of asked (started asked behind kept) (kept ++ bytes)) last error is)
+part_refused (Some behind) asked bytes text found (Some (Log error)) (kept, for, left, last, printed, is) =
+    (kept, for, text, found, last, subst (λ left. IsPrinted asked (started asked behind kept) (not (is_some asked.keep)) (kept ++ bytes) text found left last) (log_error left last error is) printed)
+part_refused (Some behind) asked bytes text found (Some (Early number)) (kept, for, left, last, printed, is) =
+    let (none, early) = early_error left last number is in
+    let Its = λ (left : Option ReadError) (last : Option ℕ). IsPrinted asked (started asked behind kept) (not (is_some asked.keep)) (kept ++ bytes) text found left last in
+    (kept, for, text, found, subst (λ left. Its left (Some number)) none (subst (Its left) early printed))
+part_refused (Some behind) asked bytes text found (Some (Kept error)) (kept, for, left, last, printed, is) = absurd (not_kept left last error is)
 
 refused_so : (arguments : List Text) (asked : AuditArguments) (bytes : List ℕ) (refused : Option LogsRefused) → IsAsked arguments asked
     → IfSome refused (RefusesBy asked.follow asked bytes) → IfSome refused (audit.refuses arguments bytes)

@@ -10,4 +10,4 @@ abbrev pub invariant-loop-finding : goal.invariant-loop-finding
 invariant-loop-finding l =
     (members : List (List ℕ)) (before : List ToldFault) → HasCounted members l.fn.told before
     → HasCounted members l.told
-    (before ++ map (λ (finding : Finding). told_at (shown_in l.printer).lines (shown_in l.printer).beside finding.found) (take l.finding-index l.found))
+    (before ++ map (λ (finding : Finding). told_at (shown_in l.printer).lines (shown_in l.printer).names (shown_in l.printer).beside finding.found) (take l.finding-index l.found))

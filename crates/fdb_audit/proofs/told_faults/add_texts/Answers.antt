@@ -1,5 +1,6 @@
 use Rattle.std.proofs.Common.{ap, arith, length, refl, string_bytes, sym}
 use Rattle.std.proofs.lemmas.List.{length-map}
+use Rattle.fdb_audit.specs.ToldFaults.{text_of}
 use Rattle.fdb_audit.specs.declared.text_groups.TextGroups.{TextGroups}
 use Rattle.fdb_audit.proofs.AddingTexts.{adding_all, adding_first, adding_more}
 use Rattle.fdb_audit.proofs.told_faults.add_texts.Goals as goal
@@ -18,7 +19,7 @@ loop-member-preserved c = λ members told has.
     let two = length-map texts (λ (groups : TextGroups). string_bytes groups.member) in
     let test = c.loop-member-test.true in
     adding_more members told _ i texts c.index-texts-member.result c.add.new.self sofar (omega (arith, many, same, one, two, test)) c.add.ensures.member
-    (c.in_ok-add.ensures.counted i told _ (sym c.text_at.ensures) refl)
+    (c.in_ok-add.ensures.counted (text_of i) told _ (sym c.text_at.ensures) refl)
 
 pub returns : goal.returns
 returns c = λ members told has.

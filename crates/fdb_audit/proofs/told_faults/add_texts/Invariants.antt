@@ -9,4 +9,4 @@ use Rattle.fdb_audit.proofs.told_faults.add_texts.Given as goal
 abbrev pub invariant-loop-member : goal.invariant-loop-member
 invariant-loop-member l =
     (members : List (List ℕ)) (told : List ToldFault) → HasTextsIn members told l.initial.texts
-    → IsAdding members told (told_at (shown_in l.printer).lines (shown_in l.printer).beside l.found) l.member l.texts
+    → IsAdding members told (told_at (shown_in l.printer).lines (shown_in l.printer).names (shown_in l.printer).beside l.found) l.member l.texts

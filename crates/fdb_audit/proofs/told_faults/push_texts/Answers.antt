@@ -1,6 +1,6 @@
 use Rattle.std.proofs.Common.{◌≡◌, ◌+◌, ◌<◌, ◌++◌, ◌∙◌, ◌∷◌, ℕ, [], List, ap, append-nil, append_assoc, arith, drop, length, map, refl, slice_index_or, string_bytes, subst, sym}
 use Rattle.std.proofs.lemmas.List.{at_drop_more, drop_all, get_or-map, length-map}
-use Rattle.fdb_audit.specs.ToldFaults.{AreMostByText, by_text}
+use Rattle.fdb_audit.specs.ToldFaults.{AreMostByText, by_text, text_of}
 use Rattle.fdb_audit.specs.declared.text_groups.TextGroups.{TextGroups}
 use Rattle.fdb_audit.specs.private.{beside_in}
 use Rattle.fdb_audit.specs.Tallied.{HasTexts}
@@ -27,10 +27,10 @@ loop-groups-preserved c = λ members told has rest are.
     let i = c.loop-groups.groups-index in
     let item = c.groups-item.result in
     let is : slice_index_or texts i item ≡ item = sym c.groups-item.is in
-    let its : HasTexts i told item = subst (HasTexts i told) is (has.each i item c.loop-groups-test.true) in
+    let its : HasTexts (text_of i) told item = subst (HasTexts (text_of i) told) is (has.each i item c.loop-groups-test.true) in
     let left : drop i members ≡ string_bytes item.member ∷ drop (i + 1) members =
     from texts members i item has.members_are c.loop-groups-test.true ∙ ap (λ (one : TextGroups). string_bytes one.member ∷ drop (i + 1) members) is in
-    let first = c.in_ok-push_tally.ensures (by_text i told).owned its.tally in
+    let first = c.in_ok-push_tally.ensures (by_text (text_of i) told).owned its.tally in
     let most = most_of_texts c.args.json told i item (string_bytes item.member) (beside_in c.texts.result) first.0 its refl c.texts.ensures first.1 in
     let all = c.loop-groups.invariant members told has (first.0 ++ rest)
     (subst (λ (names : List (List ℕ)). AreMostByText c.args.json told i names (first.0 ++ rest)) (sym left) (first.0, most, rest, are, refl)) in

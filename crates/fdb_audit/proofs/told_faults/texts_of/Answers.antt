@@ -2,6 +2,7 @@ use Rattle.std.proofs.Common.{◌≡◌, ◌∙◌, ◌+◌, ◌++◌, ◌∷◌
 use Rattle.std.proofs.lemmas.Bool.{cases_lt}
 use Rattle.std.proofs.lemmas.List.{get_or_append_left, get_or_push, length_push, map_more, map_push}
 use Rattle.fdb_audit.specs.declared.beside.Column.{Column}
+use Rattle.fdb_audit.specs.ToldFaults.{text_of}
 use Rattle.fdb_audit.specs.declared.text_groups.TextGroups.{TextGroups}
 use Rattle.fdb_audit.specs.private.{members_of}
 use Rattle.fdb_audit.specs.Tallied.{HasTexts, HasTextsIn}
@@ -24,9 +25,9 @@ loop-column-preserved c =
           ∙ sym (map_more (λ (column : Column). string_bytes column.member) columns i column c.loop-column-test.true
           ∙ ap (λ (column : Column). before ++ string_bytes column.member ∷ []) is)));
       each = λ place other within. elim (cases_lt place (length texts)) [
-        | inl old ↦ subst (HasTexts place []) (sym (get_or_append_left texts (one ∷ []) other place old)) (sofar.each place other old)
+        | inl old ↦ subst (HasTexts (text_of place) []) (sym (get_or_append_left texts (one ∷ []) other place old)) (sofar.each place other old)
         | inr new ↦
             let at : length texts ≡ place = (let more = length_push texts one in omega (arith, within, new, more)) in
-            subst (HasTexts place []) (sym (get_or_push texts one other place at)) (c.in_ok-new.ensures.counted place)
+            subst (HasTexts (text_of place) []) (sym (get_or_push texts one other place at)) (c.in_ok-new.ensures.counted (text_of place))
       ];
     })

@@ -2,9 +2,8 @@ use Rattle.std.proofs.Common.{◌≡◌, ◌+◌, ◌==◌, ◌||◌, ℕ}
 use Rattle.std.specs.Ordering.{nat_cmp}
 use Rattle.std.specs.BTreeSet.{contains, btree_set_len}
 use Rattle.fdb_lines.specs.Audit.{case_of}
-use Rattle.fdb_lines.specs.Faults.{is_reported, some_below}
+use Rattle.fdb_lines.specs.Faults.{is_reported, some_below, reports_it}
 use Rattle.fdb_lines.specs.Log.{lines_of}
-use Rattle.fdb_lines.specs.Reasons.{reports_it}
 use Rattle.fdb_lines.specs.Summary.{is_first_of_others, reads_it, tally}
 use Rattle.fdb_lines.proofs.summing.unreported.Given as goal
 

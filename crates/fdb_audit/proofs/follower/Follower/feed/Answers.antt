@@ -7,9 +7,9 @@ use Rattle.fdb_audit.proofs.follower.Follower.feed.Goals as goal
 pub returns-clause-followed : goal.returns-clause-followed
 returns-clause-followed c = λ asked start before told has.
     fed start asked c.args.self.now _ before c.args.bytes.now told (map said_in c.in_ok-lines.lines.items) has
-    c.in_ok-lines.ensures.read c.in_ok-lines.ensures.behind c.in_ok-lines.ensures.names (c.in_ok-take_all.ensures.taken start) c.take_all.ensures.margin refl refl
+    c.in_ok-lines.ensures.read c.in_ok-lines.ensures.behind c.in_ok-lines.ensures.names (c.in_ok-take_all.ensures.taken start) c.take_all.ensures.margin refl refl refl
 
 pub returns-clause-said : goal.returns-clause-said
 returns-clause-said c = λ asked start before warned has.
     said_on start asked c.args.self.now _ before c.args.bytes.now warned (map said_in c.in_ok-lines.lines.items) has
-    c.in_ok-lines.ensures.read (c.in_ok-take_all.ensures.taken start) (c.in_ok-take_all.ensures.warned start) refl
+    c.in_ok-lines.ensures.read (c.in_ok-take_all.ensures.taken start) (c.in_ok-take_all.ensures.warned start) refl refl

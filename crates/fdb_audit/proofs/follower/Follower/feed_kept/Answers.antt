@@ -11,8 +11,8 @@ use Rattle.fdb_audit.proofs.SettledOn.{believes_else}
 use Rattle.fdb_audit.proofs.TellingOn.{fed_first}
 use Rattle.fdb_audit.proofs.follower.Follower.feed_kept.Goals as goal
 
-pub returns : goal.returns
-returns c = λ asked behind kept told_is settled_is ends is.
+pub returns-clause-read : goal.returns-clause-read
+returns-clause-read c = λ asked behind kept told_is settled_is ends is.
     let bytes = c.args.bytes.now in
     let lines = map said_in c.in_ok-lines.lines.items in
     let reader = c.feed.new.self in
@@ -25,17 +25,40 @@ returns c = λ asked behind kept told_is settled_is ends is.
     let Took = λ (read : List (Result SaidLine Why)) (margin : ℕ).
     let start = start_from behind margin kept read in AreTaken start c.take_kept.new.self lines start.told × HasWarned start c.take_kept.new.self lines [] in
     let (took_so, said_so) : Took (lines_asked asked bytes) asked.opts.margin =
-    subst (λ (read : List (Result SaidLine Why)). Took read asked.opts.margin) whole (subst (Took lines) is.margin took) in (
-      fed_first (start_with behind kept.numbers) start asked c.args.self.now _ bytes lines is refl refl
-          c.in_ok-lines.ensures.read c.in_ok-lines.ensures.behind
-          (believes_else start c.take_kept.new.self _ lines start.told refl took_so refl refl refl refl refl refl)
-          c.take_kept.ensures.margin refl refl,
+    subst (λ (read : List (Result SaidLine Why)). Took read asked.opts.margin) whole (subst (Took lines) is.margin took) in
+    let (has, none_told) =
+    fed_first (start_with behind kept.numbers) start asked c.args.self.now _ bytes lines is refl refl refl
+    c.in_ok-lines.ensures.read c.in_ok-lines.ensures.behind
+    (believes_else start c.take_kept.new.self _ lines start.told refl took_so refl refl refl refl refl refl)
+    c.take_kept.ensures.margin refl refl refl in (
+      has,
       record {
         read = lines;
         goes = goes;
         behind = is.at;
+        carried = is.carried;
         told = start.told;
         taken = believes_else start c.take_kept.new.self _ lines start.told refl took_so refl refl refl refl refl refl;
         said = said_so;
       },
     )
+
+pub returns-clause-none_told : goal.returns-clause-none_told
+returns-clause-none_told c = λ asked behind kept told_is settled_is ends is.
+    let bytes = c.args.bytes.now in
+    let lines = map said_in c.in_ok-lines.lines.items in
+    let reader = c.feed.new.self in
+    let goes = λ (text : List ℕ). is.goes (bytes ++ text) ∙ c.in_ok-lines.ensures.read text in
+    let none : lines_on reader [] ≡ [] = nothing_pending (map string_bytes asked.shown.items) (no_names (option_map string_bytes asked.key)) reader bytes lines goes (c.a_space_more_is_of_one_line.ensures reader) ends in
+    let whole : lines ≡ lines_asked asked bytes =
+    sym (ap (lines_asked asked) (sym (append-nil bytes)) ∙ (goes [] ∙ (ap (λ (rest : List (Result SaidLine Why)). lines ++ rest) none ∙ append-nil lines))) in
+    let start = start_from behind asked.opts.margin kept (lines_asked asked bytes) in
+    let took = c.in_ok-take_kept.ensures.taken behind kept told_is settled_is is.taken in
+    let Took = λ (read : List (Result SaidLine Why)) (margin : ℕ).
+    let start = start_from behind margin kept read in AreTaken start c.take_kept.new.self lines start.told × HasWarned start c.take_kept.new.self lines [] in
+    let (took_so, said_so) : Took (lines_asked asked bytes) asked.opts.margin =
+    subst (λ (read : List (Result SaidLine Why)). Took read asked.opts.margin) whole (subst (Took lines) is.margin took) in
+    fed_first (start_with behind kept.numbers) start asked c.args.self.now _ bytes lines is refl refl refl
+    c.in_ok-lines.ensures.read c.in_ok-lines.ensures.behind
+    (believes_else start c.take_kept.new.self _ lines start.told refl took_so refl refl refl refl refl refl)
+    c.take_kept.ensures.margin refl refl refl

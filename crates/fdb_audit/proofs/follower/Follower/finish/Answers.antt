@@ -1,6 +1,8 @@
 use Rattle.std.proofs.Common.{◌∙◌, ap, string_bytes, sym, true}
+use Rattle.std.specs.Option.{option_or}
 use Rattle.fdb_log_reader.specs.LineReader.{line_names}
 use Rattle.fdb_audit.specs.Watched.{lines_asked}
+use Rattle.fdb_audit.specs.declared.carried.Carried.{Carried}
 use Rattle.fdb_audit.specs.declared.counts.Counts.{Counts}
 use Rattle.fdb_audit.proofs.SaidOn.{said_all}
 use Rattle.fdb_audit.proofs.follower.Follower.finish.Goals as goal
@@ -15,9 +17,12 @@ pub returns-clause-refused : goal.returns-clause-refused
 returns-clause-refused c = λ asked start bytes told has.
     c.in_ok-followed.ensures.refused
     ∙ c.left_out-refused.ensures start (lines_asked asked bytes) _ (c.in_ok-take_last.ensures.told asked start bytes told has).taken
+    (c.in_ok-take_last.ensures.told asked start bytes told has).carried
 
 pub returns-clause-said : goal.returns-clause-said
 returns-clause-said c = λ asked start bytes warned has.
-    said_all start asked c.take_last.new.self.taking bytes warned _ _ (c.in_ok-take_last.ensures.said asked start bytes warned has)
+    said_all start asked c.take_last.new.self.taking c.args.self.before bytes warned _ _ (c.in_ok-take_last.ensures.said asked start bytes warned has) has.carried
     (ap string_bytes (c.in_ok-followed.ensures.warnings ∙ c.settle_for_good.ensures.warnings.0))
-    (c.in_ok-followed.ensures.early ∙ ap (λ (counts : Counts). counts.last_early) c.settle_for_good.ensures.warnings.1)
+    (c.in_ok-followed.ensures.early
+    ∙ (ap (λ (counts : Counts). option_or counts.last_early c.settle_for_good.new.self.before.counts.last_early) c.settle_for_good.ensures.warnings.1
+    ∙ ap (λ (before : Carried). option_or c.take_last.new.self.taking.counts.last_early before.counts.last_early) (c.settle_for_good.ensures.before ∙ c.take_last.ensures.before)))

@@ -11,11 +11,11 @@ returns-clause-followed c =
     let none : kept_by c.new-none.result ≡ none_kept =
     c.new-none.ensures.kept ∙ ap (λ (items : List ℕ). let it : KeptNumbers = record { numbers = items; more = 0 } in it) c.new.ensures.items in
     unread c.args.asked.now (fresh c.args.behind) c.in_ok-follower.follower
-    (subst (λ (numbers : KeptNumbers). IsUnread c.args.asked.now (start_with c.args.behind numbers) c.in_ok-follower.follower) none c.in_ok-follower.ensures)
+    (subst (λ (numbers : KeptNumbers). IsUnread c.args.asked.now (start_with c.args.behind numbers) c.in_ok-follower.follower) none c.in_ok-follower.ensures.unread)
 
 pub returns-clause-said : goal.returns-clause-said
 returns-clause-said c =
     let none : kept_by c.new-none.result ≡ none_kept =
     c.new-none.ensures.kept ∙ ap (λ (items : List ℕ). let it : KeptNumbers = record { numbers = items; more = 0 } in it) c.new.ensures.items in
     unsaid c.args.asked.now (fresh c.args.behind) c.in_ok-follower.follower
-    (subst (λ (numbers : KeptNumbers). IsUnread c.args.asked.now (start_with c.args.behind numbers) c.in_ok-follower.follower) none c.in_ok-follower.ensures)
+    (subst (λ (numbers : KeptNumbers). IsUnread c.args.asked.now (start_with c.args.behind numbers) c.in_ok-follower.follower) none c.in_ok-follower.ensures.unread)

@@ -5,8 +5,8 @@ use Rattle.fdb_log_reader.specs.Printed.{printed}
 use Rattle.fdb_audit.specs.Taken.{HasTotals}
 use Rattle.fdb_audit.proofs.follower.Follower.numbered.Goals as goal
 
-pub returns : goal.returns
-returns c =
+pub returns-clause-unread : goal.returns-clause-unread
+returns-clause-unread c =
     let asked = c.args.asked.now in
     let teller = c.in_ok-teller.ensures in
     let key : option_map (λ key. key.now) c.as_deref.result ≡ option_map string_bytes asked.key = c.as_deref.ensures.value in
@@ -19,6 +19,7 @@ returns c =
           ∙ (ap (λ (names : List (List ℕ)). names_behind names (no_names (option_map (λ key. key.now) c.as_deref.result)) (lines_in text)) shown
           ∙ ap (λ (key : Option (List ℕ)). names_behind (map string_bytes asked.shown.items) (no_names key) (lines_in text)) key));
       at = refl;
+      carried = c.new-before.ensures;
       taken = c.in_ok-taking.ensures.taken;
       warned = c.in_ok-taking.ensures.warned;
       margin = c.in_ok-taking.ensures.margin;

@@ -19,8 +19,8 @@ returns c = λ start read told are.
     let names = line_names c.args.self.now.reader in
     let key = member_in names in
     let (all, each) = c.in_ok-kept.ensures.kept (lines_taken read) (keys_taken read) are.seen in
-    let same = c.deref-2.ensures.value in
-    let were : All (IsKept (lines_taken read) (keys_taken read)) c.deref-2.result.now = subst (λ (list : List KeptLine). All (IsKept (lines_taken read) (keys_taken read)) list) (sym same) each in
+    let same = c.deref-4.ensures.value in
+    let were : All (IsKept (lines_taken read) (keys_taken read)) c.deref-4.result.now = subst (λ (list : List KeptLine). All (IsKept (lines_taken read) (keys_taken read)) list) (sym same) each in
     let said : kept_said (lines_kept key (string_bytes c.in_ok-text.text)) ≡ kept_at start.numbers read (map number_of kept) taking.settled taking.watch.from =
     ap (λ (text : List ℕ). kept_said (lines_kept key text)) (sym c.as_bytes.ensures.value)
     ∙ (c.in_ok-refused.ensures.said c.in-None.is start read told are were
@@ -32,7 +32,7 @@ returns c = λ start read told are.
       all = all;
       rise = places_apart (number_in start.numbers read) (map number_of kept) c.in_ok-kept.ensures.rise (subst Rise (ap (λ (kept : KeptSaid). kept.numbers.numbers) said) rises);
       said = said;
-      whole = subst (λ (text : List ℕ). length (lines_in text) ≡ length c.deref-2.result.now) c.as_bytes.ensures.value (c.in_ok-refused.ensures.many c.in-None.is)
+      whole = subst (λ (text : List ℕ). length (lines_in text) ≡ length c.deref-4.result.now) c.as_bytes.ensures.value (c.in_ok-refused.ensures.many c.in-None.is)
           ∙ (ap length same ∙ sym (length-map kept number_of));
       ends = subst EndsALine c.as_bytes.ensures.value (c.in_ok-refused.ensures.ends c.in-None.is);
       lines = λ shown.

@@ -28,7 +28,7 @@ returns-clause-told c = λ asked start read told is.
     (c.in_ok-tell_all.ensures start.numbers read to watch.parts.items asked.opts.margin (record { above = is.taken.numbered.above; front = is.taken.numbered.front; few = is.taken.numbered.few })
     (λ k d lt. (watch.alike k d lt).its_margin ∙ is.margin)
     (subst (AreTold to lines keys watch.parts.items) (sym c.deref.ensures.value) (c.in_ok-told.ensures.told lines keys is.taken.seen))))
-    refl
+    refl refl
 
 pub returns-clause-taken : goal.returns-clause-taken
 returns-clause-taken c =

@@ -24,7 +24,7 @@ returns-clause-told c = λ asked start read told is.
     (c.in_ok-tell_all.ensures start.numbers read None watch.parts.items asked.opts.margin (record { above = is.taken.numbered.above; front = is.taken.numbered.front; few = is.taken.numbered.few })
     (λ k d lt. (watch.alike k d lt).its_margin ∙ is.margin)
     (subst (AreTold None lines keys watch.parts.items) (sym c.deref.ensures.value) all)))
-    refl refl refl
+    refl refl refl refl
     (λ none_before none.
     let has : HasTold c.replace-watch.result lines keys faults = subst (λ (w : KeyWatch). HasTold w lines keys faults) (sym same) (is.taken.once none_before none) in
     let whole = c.in_ok-told.ensures.once lines keys faults seen has in

@@ -1,9 +1,11 @@
 use Rattle.std.proofs.Common.{◌∙◌, ◌++◌, List, ap, false, string_bytes, subst, sym}
 use Rattle.std.proofs.lemmas.Result.{IfOk-weaker}
+use Rattle.std.specs.Option.{option_or}
 use Rattle.fdb_log_reader.specs.ReadLine.{LineNames, member_in}
 use Rattle.fdb_audit.specs.Following.{Counted, Window, told_in_all}
 use Rattle.fdb_audit.specs.Kept.{Keeps}
 use Rattle.fdb_audit.specs.Taken.{AreTaken}
+use Rattle.fdb_audit.specs.declared.carried.Carried.{Carried}
 use Rattle.fdb_audit.specs.Watched.{lines_asked, names_asked}
 use Rattle.fdb_audit.proofs.KeptTexts.{member_asked}
 use Rattle.fdb_audit.proofs.SaidOn.{said_all}
@@ -20,6 +22,7 @@ pub returns-clause-refused : goal.returns-clause-refused
 returns-clause-refused c = λ asked start bytes told has.
     c.in_ok-followed.ensures.refused
     ∙ c.left_out-refused.ensures start (lines_asked asked bytes) _ (c.in_ok-take_last.ensures.told asked start bytes told has).taken
+    (c.in_ok-take_last.ensures.told asked start bytes told has).carried
 
 pub returns-clause-kept : goal.returns-clause-kept
 returns-clause-kept c =
@@ -44,5 +47,7 @@ returns-clause-kept c =
 
 pub returns-clause-said : goal.returns-clause-said
 returns-clause-said c = λ asked start bytes warned has.
-    said_all start asked c.take_last.new.self.taking bytes warned _ _ (c.in_ok-take_last.ensures.said asked start bytes warned has)
-    (ap string_bytes c.in_ok-followed.ensures.warnings) c.in_ok-followed.ensures.early
+    said_all start asked c.take_last.new.self.taking c.args.self.before bytes warned _ _ (c.in_ok-take_last.ensures.said asked start bytes warned has) has.carried
+    (ap string_bytes c.in_ok-followed.ensures.warnings)
+    (c.in_ok-followed.ensures.early
+    ∙ ap (λ (before : Carried). option_or c.take_last.new.self.taking.counts.last_early before.counts.last_early) c.take_last.ensures.before)

@@ -15,7 +15,7 @@ pub returns-in_ok-take-clause-told : goal.returns-in_ok-take-clause-told
 returns-in_ok-take-clause-told c = λ asked start bytes told has.
     ended start asked c.args.self.now _ bytes told (said_in c.in-Some.last ∷ []) has
     (of_one _ c.in_ok-last.last c.in-Some.last c.in-Some.is c.in_ok-last.ensures.read)
-    c.in_ok-last.ensures.names (c.in_ok-take.ensures.taken start) c.take.ensures.margin refl refl
+    c.in_ok-last.ensures.names (c.in_ok-take.ensures.taken start) c.take.ensures.margin refl refl refl
 
 of_none : (left : List (Result SaidLine Why)) (last : Option (Result ReadLine Why)) → ((read : Result ReadLine Why) → last ≡ Some read → ⊥)
     → MatchOption last (left ≡ []) (λ read. left ≡ said_in read ∷ []) → left ≡ []
@@ -26,7 +26,7 @@ pub returns-in_default-clause-told : goal.returns-in_default-clause-told
 returns-in_default-clause-told c = λ asked start bytes told has.
     ended start asked c.args.self.now _ bytes told [] has
     (of_none _ c.in_ok-last.last c.in_default.not-Some c.in_ok-last.ensures.read)
-    c.in_ok-last.ensures.names (λ read told is. subst (λ all. AreTaken start c.args.self.now.taking all told) (sym (append-nil read)) is) refl refl refl
+    c.in_ok-last.ensures.names (λ read told is. subst (λ all. AreTaken start c.args.self.now.taking all told) (sym (append-nil read)) is) refl refl refl refl
 
 pub returns-in_ok-take-clause-said : goal.returns-in_ok-take-clause-said
 returns-in_ok-take-clause-said c = λ asked start bytes warned has.

@@ -16,4 +16,4 @@ returns-clause-told c = λ asked start bytes told has.
 pub returns-clause-said : goal.returns-clause-said
 returns-clause-said c = λ asked start bytes warned has.
     said_next start asked c.args.self.now c.say.new.self c.settle_if.new.self.taking bytes warned _ has c.in_ok-settle_if.ensures.taken c.say.ensures.taking
-    (ap string_bytes c.say.ensures.warnings) (c.say.ensures.reader ∙ c.settle_if.ensures.reader) (c.say.ensures.behind ∙ c.settle_if.ensures.behind)
+    (ap string_bytes c.say.ensures.warnings) (c.say.ensures.reader ∙ c.settle_if.ensures.reader) (c.say.ensures.behind ∙ c.settle_if.ensures.behind) (c.say.ensures.before ∙ c.settle_if.ensures.before)

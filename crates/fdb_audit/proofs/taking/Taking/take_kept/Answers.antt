@@ -86,3 +86,10 @@ returns-clause-taken c = λ behind kept told_is settled_is are.
       },
       none_said start all c.new-self.result (string_bytes c.new.result) none c.new-self.ensures.early c.new-self.ensures.none.2 c.new.ensures.bytes,
     )
+
+pub returns-clause-from : goal.returns-clause-from
+returns-clause-from c =
+    let last = c.take_all-2.ensures.from in
+    let moment = c.in_ok-settle_untold.ensures.from in
+    let first = c.take_all.ensures.from in
+    omega (arith, last, moment, first)

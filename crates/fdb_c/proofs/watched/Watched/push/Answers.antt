@@ -1,18 +1,19 @@
 use Rattle.std.proofs.Common.{refl}
-use Rattle.fdb_audit.specs.Following.{fresh}
 use Rattle.fdb_audit.specs.Watched.{HasFollowed}
-use Rattle.fdb_c.proofs.Some.{at_both, of_some}
+use Rattle.fdb_c.specs.Watch.{started}
+use Rattle.fdb_c.proofs.Some.{at_three, of_some}
 use Rattle.fdb_c.proofs.watched.Watched.push.Goals as goal
 
 -- the follower has followed what the story says now
 pub returns-in-Ok-clause-told : goal.returns-in-Ok-clause-told
 returns-in-Ok-clause-told c = λ _.
-    let it = c.self.inside in
-    let followed = of_some (λ follower. HasFollowed it.asked (fresh it.behind) follower it.story.bytes it.story.told) c.in-Some.ensures.value c.self.invariant in
+    let it = c.self.inside in let start = started it.asked it.behind it.story.from in
+    let followed = of_some (λ follower. HasFollowed it.asked start follower it.story.bytes it.story.told) c.in-Some.ensures.value c.self.invariant.0 in
     let now = c.with_bytes-self-inside.ensures in
     record {
       arguments = it.asked;
       are = refl;
       follower = c.feed.new.self;
-      followed = at_both (HasFollowed it.asked (fresh it.behind) c.feed.new.self) now.0 now.1 (c.in-Ok.ensures.followed it.asked (fresh it.behind) it.story.bytes it.story.told followed);
+      followed = at_three (λ from bytes told. HasFollowed it.asked (started it.asked it.behind from) c.feed.new.self bytes told) now.2 now.0 now.1
+          (c.in-Ok.ensures.followed it.asked start it.story.bytes it.story.told followed);
     }

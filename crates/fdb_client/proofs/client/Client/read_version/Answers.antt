@@ -2,7 +2,7 @@ use Rattle.std.proofs.Common.{rules, ◌≡◌, ◌≢◌, ◌++◌, ◌∷◌, 
 use Rattle.fdb_client.specs.Account.{Account, Logs}
 use Rattle.fdb_client.specs.declared.error.ClientError.{ClientError}
 use Rattle.fdb_client.specs.declared.error.ClientError.TheVariants.{Memory}
-use Rattle.fdb_client.specs.declared.read.ReadVersion.{ReadVersion}
+use Rattle.fdb_client.specs.declared.reply.ReadVersion.{ReadVersion}
 use Rattle.fdb_history.specs.declared.log.Refusal.{Refusal}
 use Rattle.fdb_history.specs.declared.log.Input.TheVariants.{Grv}
 use Rattle.fdb_client.specs.Calls.{Reads}

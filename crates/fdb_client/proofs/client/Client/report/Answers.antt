@@ -3,7 +3,7 @@ use Rattle.std.specs.Prelude.{Contains}
 use Rattle.fdb_live.specs.Holding.{versions}
 use Rattle.fdb_client.specs.Calls.{IsReportRefusal, Reports}
 use Rattle.fdb_client.specs.declared.error.ClientError.TheVariants as error
-use Rattle.fdb_live.specs.declared.error.LiveError.TheVariants as live
+use Rattle.fdb_live.specs.declared.live_record.LiveError.TheVariants as live
 use Rattle.fdb_history.specs.Strays.{issued_under}
 use Rattle.fdb_history.specs.declared.log.CallAnswer.TheVariants.{Acked, Refused}
 use Rattle.fdb_history.specs.declared.log.Refusal.TheVariants.{MinAbove, NotIssued}

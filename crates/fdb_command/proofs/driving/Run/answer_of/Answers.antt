@@ -4,8 +4,8 @@ use Rattle.fdb_command.specs.Driving.{MayFind, MayRefuse}
 use Rattle.fdb_command.specs.Input.{MayBeRead}
 use Rattle.fdb_command.specs.private.Taking.{IsFailure, MayStop}
 use Rattle.fdb_command.specs.Driving.{MayAnswer, TellsOf}
-use Rattle.fdb_command.specs.declared.failure.Failure.TheVariants.{Arguments, Refused, Found}
-use Rattle.fdb_command.proofs.Answered.{found_early, found_of, named_file, own_early, own_of, printed_of, refused_early, refused_of, told_after, told_early, unsaid_of, untold, unwarned}
+use Rattle.fdb_command.specs.declared.failure.Failure.TheVariants.{Arguments, Refused, Found, OwnFile}
+use Rattle.fdb_command.proofs.Answered.{file_early, file_of, found_early, found_of, named_file, own_early, own_of, printed_of, refused_early, refused_of, told_after, told_early, unsaid_of, untold, unwarned}
 use Rattle.fdb_command.proofs.Pieces.{on_error, passed_on}
 use Rattle.fdb_command.proofs.driving.Run.answer_of.Goals as goal
 
@@ -26,6 +26,15 @@ returns-in_err-intake-clause-faulty g c = λ arguments asked.
     let stops = subst (λ (file : Option Text). IsFailure fault ⊎ MayStop promise c.args.options file remaining fault) (c.file_of.ensures promise.app arguments asked.are) c.in_err-intake.ensures.stops in
     passed_on c.from_residual.result fault (λ fault. (found : _) → fault ≡ Found found → MayFind promise arguments remaining found) c.from_residual.ensures.1
     (found_early promise arguments c.args.options asked.asks remaining asked.are.taken fault stops)
+
+pub returns-in_err-intake-clause-own_file : goal.returns-in_err-intake-clause-own_file
+returns-in_err-intake-clause-own_file g c = λ arguments asked.
+    let promise = g.P.Program.promise in
+    let remaining = g.I.Read.remaining c.args.input.now in
+    let fault = c.in_err-intake.field-0.0 in
+    let stops = subst (λ (file : Option Text). IsFailure fault ⊎ MayStop promise c.args.options file remaining fault) (c.file_of.ensures promise.app arguments asked.are) c.in_err-intake.ensures.stops in
+    passed_on c.from_residual.result fault (λ fault. (file : _) → fault ≡ OwnFile file → promise.fails arguments fault) c.from_residual.ensures.1
+    (file_early promise arguments c.args.options asked.asks remaining asked.are.taken fault stops)
 
 pub returns-in_err-intake-clause-own : goal.returns-in_err-intake-clause-own
 returns-in_err-intake-clause-own g c =
@@ -68,6 +77,15 @@ returns-clause-faulty g c = λ arguments asked.
     let all = c.in_ok-intake.ensures.all in
     let read = subst (λ (file : Option Text). MayBeRead file remaining all.bytes) (c.file_of.ensures promise.app arguments asked.are) all.read in
     found_of promise arguments c.args.options asked.asks remaining asked.are.taken all.bytes all.told all.few read c.body.result
+    (c.requires.promised arguments c.args.options c.in_ok-intake.intake all.bytes all.told c.body.result asked.asks all.taken c.body.ensures)
+
+pub returns-clause-own_file : goal.returns-clause-own_file
+returns-clause-own_file g c = λ arguments asked.
+    let promise = g.P.Program.promise in
+    let remaining = g.I.Read.remaining c.args.input.now in
+    let all = c.in_ok-intake.ensures.all in
+    let read = subst (λ (file : Option Text). MayBeRead file remaining all.bytes) (c.file_of.ensures promise.app arguments asked.are) all.read in
+    file_of promise arguments c.args.options asked.asks remaining asked.are.taken all.bytes all.told all.few read c.body.result
     (c.requires.promised arguments c.args.options c.in_ok-intake.intake all.bytes all.told c.body.result asked.asks all.taken c.body.ensures)
 
 pub returns-clause-own : goal.returns-clause-own

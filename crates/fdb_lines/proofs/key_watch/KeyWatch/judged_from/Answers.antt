@@ -1,4 +1,4 @@
-use Rattle.std.proofs.Common.{◌≡◌, ◌<◌, ◌∙◌, None, Option, ap, arith, inl, inr, refl, sym, ℕ}
+use Rattle.std.proofs.Common.{◌∙◌, None, ap, arith, inl, inr, refl, sym}
 use Rattle.std.proofs.lemmas.Grind.{common_steps}
 use Rattle.std.proofs.lemmas.List.{get_or-map}
 use Rattle.fdb_lines.specs.declared.key_part.KeyPart.{KeyPart}

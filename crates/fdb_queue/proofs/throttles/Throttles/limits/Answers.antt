@@ -4,7 +4,7 @@ use Rattle.std.specs.List.{flat_map}
 use Rattle.std.proofs.lemmas.Grind.{flat_map-append}
 use Rattle.std.proofs.lemmas.List.{take_more}
 use Rattle.std.proofs.lemmas.List.Folds.{length-flat_map-take}
-use Rattle.fdb_history.specs.declared.grv.Priority.{Priority}
+use Rattle.fdb_history.specs.declared.log.Priority.{Priority}
 use Rattle.fdb_queue.specs.declared.throttles.Throttle.{Throttle}
 use Rattle.fdb_queue.specs.Throttles.{last_set, limits_of, unexpired}
 use Rattle.fdb_queue.proofs.throttles.Throttles.limits.Goals as goal

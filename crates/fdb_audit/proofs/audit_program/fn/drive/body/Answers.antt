@@ -1,21 +1,22 @@
-use Rattle.std.proofs.Common.{◌≡◌, ◌∙◌, ◌⊎◌, ◌++◌, ℕ, List, [], MatchResult, None, Ok, Err, Option, Result, ap, inl, inr, is_some, not, subst, sym, true}
+use Rattle.std.proofs.Common.{◌≡◌, ◌∙◌, ◌++◌, ℕ, List, [], MatchResult, None, Ok, Err, Option, Result, ap, is_some, not, subst, sym}
 use Rattle.std.proofs.lemmas.Bool.{false≢true}
-use Rattle.std.specs.Prelude.{IfErr, IfOk}
+use Rattle.std.specs.Prelude.{IfErr, IfOk, option_map, string_bytes}
 use Rattle.clap.specs.Words.{Text}
 use Rattle.fdb_command.specs.Driving.{Stops}
 use Rattle.fdb_command.specs.declared.failure.Failure.{Failure}
-use Rattle.fdb_command.specs.declared.failure.Failure.TheVariants.{Memory, Writing}
 use Rattle.fdb_command.specs.declared.program.Output.{Output}
+use Rattle.fdb_log_reader.specs.declared.error.ReadError.{ReadError}
 use Rattle.fdb_audit.specs.Following.{Start}
-use Rattle.fdb_audit.specs.Program.{HasTaken, IsAsked, Prints, PrintsBy, audit, refusal_of, refused_of, started}
+use Rattle.fdb_audit.specs.Program.{HasTaken, IsAsked, Prints, PrintsBy, audit, refusal_of, started}
 use Rattle.fdb_audit.specs.Progress.{HasPrinted, IsPrinted}
+use Rattle.fdb_audit.specs.private.Kept.{MayFail}
 use Rattle.fdb_audit.specs.declared.arguments.AuditArguments.{AuditArguments}
 use Rattle.fdb_audit.specs.declared.fault.LogFault.{LogFault}
 use Rattle.fdb_audit.specs.declared.followed_log.FollowedLog.{FollowedLog}
 use Rattle.fdb_audit.specs.declared.audit_program.AuditIntake.{AuditIntake}
 use Rattle.fdb_audit.specs.declared.audit_program.AuditIntake.TheVariants.{Followed}
 use Rattle.fdb_audit.specs.declared.refused.LogsRefused.{LogsRefused}
-use Rattle.fdb_audit.proofs.Refusing.{keeps_asked}
+use Rattle.fdb_audit.proofs.Refusing.{stops_failing}
 use Rattle.fdb_audit.proofs.audit_program.fn.drive.body.Goals as goal
 
 -- a log of which nothing was told is printed whole
@@ -34,17 +35,16 @@ whole_printed arguments asked bytes told (Err fault) whole none stops = stops
 followed_printed : (arguments : List Text) (asked : AuditArguments) (log : FollowedLog) (bytes told : List ℕ) (made : Result (Output LogsRefused LogFault) (Failure LogsRefused LogFault))
     → IsAsked arguments asked → HasTaken asked (Followed log) bytes told
     → IfOk made (λ it. (start : Start) (bytes told : List ℕ) → HasPrinted asked start log bytes told
-    → (last_early : Option ℕ) × IsPrinted asked start (not (is_some asked.keep)) bytes (told ++ it.text.items) it.found last_early
-    × (it.refused ≡ refusal_of (refused_of asked start bytes) last_early))
-    → IfErr made (λ fault. (fault ≡ Memory) ⊎ ((fault ≡ Writing) × (is_some asked.keep ≡ true)))
+    → (error : Option ReadError) × (last_early : Option ℕ) × IsPrinted asked start (not (is_some asked.keep)) bytes (told ++ it.text.items) it.found error last_early
+    × (it.refused ≡ refusal_of error last_early))
+    → IfErr made (MayFail (option_map string_bytes asked.keep))
     → MatchResult made (λ answer. PrintsBy asked.follow asked bytes (told ++ answer.text.items) answer.found answer.refused × (asked.follow ≡ None → answer.warnings.items ≡ [])) (Stops audit arguments bytes)
 followed_printed arguments asked log bytes told (Ok answer) is (behind, follows, kept, for, has) says stops =
-    let all = says (started asked behind kept) (kept ++ bytes) told has in (
-      subst (λ follow. PrintsBy follow asked bytes (told ++ answer.text.items) answer.found answer.refused) (sym follows) (kept, for, all.0, all.1, all.2),
+    let (left, last, printed, why) = says (started asked behind kept) (kept ++ bytes) told has in (
+      subst (λ follow. PrintsBy follow asked bytes (told ++ answer.text.items) answer.found answer.refused) (sym follows) (kept, for, left, last, printed, why),
       λ none. absurd (false≢true (sym (ap is_some none) ∙ ap is_some follows)),
     )
-followed_printed arguments asked log bytes told (Err fault) is has says (inl memory) = subst (Stops audit arguments bytes) (sym memory) tt
-followed_printed arguments asked log bytes told (Err fault) is has says (inr (writing, keeps)) = subst (Stops audit arguments bytes) (sym writing) (keeps_asked arguments asked is keeps)
+followed_printed arguments asked log bytes told (Err fault) is has says stops = stops_failing arguments asked bytes fault is stops
 
 pub returns : goal.returns
 returns g c = λ arguments bytes told is has.

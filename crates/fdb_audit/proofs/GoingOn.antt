@@ -1,0 +1,253 @@
+-- A watch goes on from what it keeps, with what it has counted and told.
+use Rattle.std.proofs.Common.{◌≡◌, ◌∙◌, ◌+◌, ◌++◌, ◌∷◌, [], ℕ, List, None, Option, Some, Result, ap, append-nil, is_some, length, map, option_map, option_to_list, refl, string_bytes, subst, sym}
+use Rattle.std.specs.Option.{option_or}
+use Rattle.fdb_lines.specs.declared.fault.Found.{Found}
+use Rattle.fdb_lines.specs.declared.key_watch.KeyWatch.{KeyWatch}
+use Rattle.fdb_lines.specs.declared.opts.AuditOpts.{AuditOpts}
+use Rattle.fdb_log_reader.specs.declared.error.ReadError.{ReadError}
+use Rattle.fdb_log_reader.specs.declared.error.Why.{Why}
+use Rattle.fdb_log_reader.specs.LineReader.{line_names, lines_on, names_on}
+use Rattle.fdb_log_reader.specs.Printed.{printed}
+use Rattle.fdb_log_reader.specs.ReadLine.{LineNames, SaidLine, lines_read, member_in, names_behind, no_names}
+use Rattle.fdb_log_reader.specs.Reading.{EndsALine, lines_in}
+use Rattle.fdb_audit.specs.Following.{AreWindows, Before, Counted, Start, Window, counted_on, faults_told, told_in_all}
+use Rattle.fdb_audit.specs.GoingOn.{GoesOn, counted_before}
+use Rattle.fdb_audit.specs.Kept.{Keeps, kept_said, lines_kept, start_from, start_of}
+use Rattle.fdb_audit.specs.Taken.{AreTaken, HasTotals, HasTotalsIn, IsCarried, counted_of}
+use Rattle.fdb_audit.specs.Watched.{AskForTheSame, HasFollowed, lines_asked, members_asked, names_asked}
+use Rattle.fdb_audit.specs.declared.arguments.AuditArguments.{AuditArguments}
+use Rattle.fdb_audit.specs.declared.carried.Carried.{Carried}
+use Rattle.fdb_audit.specs.declared.follower.Follower.{Follower}
+use Rattle.fdb_audit.specs.declared.judged.Wanted.{Wanted}
+use Rattle.fdb_audit.specs.declared.taking.Taking.{Taking}
+use Rattle.fdb_audit.specs.declared.teller.Teller.{Teller}
+use Rattle.fdb_audit.specs.declared.told_faults.ToldFaults.{ToldFaults}
+use Rattle.fdb_audit.specs.private.Followed.{CountsBehind, HasGoneOn, IsQuiet, TakesPlace}
+use Rattle.fdb_audit.proofs.Following.{last_on}
+use Rattle.fdb_audit.proofs.KeptTexts.{StaysInOne, all_read, ends_so, member_followed}
+use Rattle.fdb_audit.proofs.SettledOn.{believes_else}
+
+-- ---- who asks for the same
+
+fused : {X : Type 0} (f : X → List ℕ) (g : List ℕ → List ℕ) (it : Option X) → option_map (λ x. g (f x)) it ≡ option_map g (option_map f it)
+fused f g None = refl
+fused f g (Some x) = refl
+
+fused_all : {X : Type 0} (f : X → List ℕ) (g : List ℕ → List ℕ) (xs : List X) → map (λ x. g (f x)) xs ≡ map g (map f xs)
+fused_all f g [] = refl
+fused_all f g (x ∷ xs) = ap (λ (rest : List (List ℕ)). g (f x) ∷ rest) (fused_all f g xs)
+
+some_of : {X : Type 0} (f : X → List ℕ) (it : Option X) → is_some it ≡ is_some (option_map f it)
+some_of f None = refl
+some_of f (Some x) = refl
+
+module _ (asked other : AuditArguments) (same : AskForTheSame asked other) where
+  pub lines_same : (text : List ℕ) → lines_asked other text ≡ lines_asked asked text
+  lines_same text =
+      ap (λ (shown : List (List ℕ)). lines_read shown (no_names (option_map string_bytes other.key)) (lines_in text)) same.shown
+      ∙ ap (λ (key : Option (List ℕ)). lines_read (map string_bytes asked.shown.items) (no_names key) (lines_in text)) same.key
+
+  names_same : (text : List ℕ) → names_asked other text ≡ names_asked asked text
+  names_same text =
+      ap (λ (shown : List (List ℕ)). names_behind shown (no_names (option_map string_bytes other.key)) (lines_in text)) same.shown
+      ∙ ap (λ (key : Option (List ℕ)). names_behind (map string_bytes asked.shown.items) (no_names key) (lines_in text)) same.key
+
+  members_same : members_asked other ≡ members_asked asked
+  members_same =
+      ap (λ (key : Option (List ℕ)). option_to_list key ++ map (λ name. printed (string_bytes name)) other.shown.items)
+      (fused string_bytes printed other.key ∙ (ap (option_map printed) same.key ∙ sym (fused string_bytes printed asked.key)))
+      ∙ ap (λ (shown : List (List ℕ)). option_to_list (option_map (λ name. printed (string_bytes name)) asked.key) ++ shown)
+      (fused_all string_bytes printed other.shown.items ∙ (ap (map printed) same.shown ∙ sym (fused_all string_bytes printed asked.shown.items)))
+
+  keyed_same : is_some other.key ≡ is_some asked.key
+  keyed_same = some_of string_bytes other.key ∙ (ap is_some same.key ∙ sym (some_of string_bytes asked.key))
+
+  margin_same : other.opts.margin ≡ asked.opts.margin
+  margin_same = ap (λ (opts : AuditOpts). opts.margin) same.opts
+
+  -- goes on from the same
+  pub start_same : (behind : ℕ) (text : List ℕ) → start_of other behind text ≡ start_of asked behind text
+  start_same behind text =
+      ap (λ (key : Option (List ℕ)). start_from behind other.opts.margin (kept_said (lines_kept key text)) (lines_asked other text)) same.key
+      ∙ (ap (λ (margin : ℕ). start_from behind margin (kept_said (lines_kept (option_map string_bytes asked.key) text)) (lines_asked other text)) margin_same
+      ∙ ap (start_from behind asked.opts.margin (kept_said (lines_kept (option_map string_bytes asked.key) text))) (lines_same text))
+
+  -- and has followed the same
+  pub followed_same : (start : Start) (follower : Follower) (bytes told : List ℕ) (has : HasFollowed other start follower bytes told)
+      → (so : HasFollowed asked start follower bytes told) × (so.telling.windows ≡ has.telling.windows)
+  followed_same start follower bytes told has =
+      let is = has.telling in
+      let names = (line_names follower.reader).clients in
+      let text = told ++ string_bytes follower.teller.text in (
+        record {
+          read = has.read;
+          goes = λ text. sym (lines_same (bytes ++ text)) ∙ has.goes text;
+          behind = λ text. sym (names_same (bytes ++ text)) ∙ has.behind text;
+          telling = record {
+            behind = is.behind;
+            carried = is.carried;
+            windows = is.windows;
+            taken = is.taken;
+            margin = is.margin ∙ margin_same;
+            tells = subst (λ (wanted : Wanted). AreWindows start.numbers asked.opts.margin wanted has.read names is.windows text) same.wanted
+                (subst (λ (margin : ℕ). AreWindows start.numbers margin other.wanted has.read names is.windows text) margin_same is.tells);
+            are = record {
+              wanted = is.are.wanted ∙ same.wanted;
+              margin = is.are.margin ∙ margin_same;
+              by_key = is.are.by_key ∙ keyed_same;
+              first = is.are.first;
+              totals = subst (λ (members : List (List ℕ)). HasTotals members follower.teller (start.before.told ++ faults_told has.read is.windows)) members_same is.are.totals;
+            };
+          };
+        },
+        refl,
+      )
+
+-- ---- with what was counted before
+
+-- what was carried is no part of what is taken
+taken_behind : (start : Start) (before : Before) (taking : Taking) (read : List (Result SaidLine Why)) (told : List Found) → AreTaken start taking read told
+    → AreTaken (record start { before = before }) taking read told
+taken_behind start before taking read told are = record {
+  seen = are.seen;
+  numbered = record { above = are.numbered.above; front = are.numbered.front; few = are.numbered.few };
+  count = are.count;
+  refused = are.refused;
+  counted = are.counted;
+  few = are.few;
+  before = are.before;
+  from = are.from;
+  late = are.late;
+  settled = record { come = are.settled.come; since = are.settled.since };
+  reach = are.reach;
+  came = are.came;
+  few_ahead = are.few_ahead;
+  once = are.once;
+}
+
+-- what a watch has counted is carried to the next
+carried_on : (start : Start) (old : Follower) (read : List (Result SaidLine Why)) (windows : List Window) (told : List Found) (all : Carried) → AreTaken start old.taking read told
+    → IsCarried start.before old.before → CountsBehind old.before old.taking all → IsCarried (counted_before start read windows old.taking) all
+carried_on start old read windows told all are carried counts = record {
+  counts = counts.counts ∙ ap (λ (before : Counted). counted_on before (counted_of old.taking)) carried.counts;
+  refused = counts.refused
+      ∙ (ap (λ (refused : Option ReadError). option_or refused old.before.last_refused) are.refused
+      ∙ (ap (option_or _) carried.refused ∙ sym (last_on (start.numbers.more + 1) start.before.refused read)));
+  last_early = counts.last_early ∙ ap (option_or old.taking.counts.last_early) carried.last_early;
+}
+
+module _ (asked : AuditArguments) (start : Start) (old next new : Follower) (bytes told kept : List ℕ) (has : HasFollowed asked start old bytes told) (quiet : IsQuiet old) where
+  -- all that was read are the lines of the bytes
+  whole : lines_asked asked bytes ≡ has.read
+  whole = all_read (map string_bytes asked.shown.items) (no_names (option_map string_bytes asked.key)) old.reader bytes has.read (has.goes []) quiet.line
+
+  named : names_asked asked bytes ≡ line_names old.reader
+  named = ap (names_asked asked) (sym (append-nil bytes)) ∙ (has.behind [] ∙ quiet.names)
+
+  abbrev on : Start
+  on = record (start_of asked start.behind kept) { before = counted_before start has.read has.telling.windows old.taking }
+
+  goes_on : Keeps (option_map string_bytes asked.key) (line_names old.reader) start.numbers old.taking has.read kept → EndsALine bytes
+      → (start_of asked start.behind kept).from ≡ old.taking.watch.from → GoesOn asked start bytes told kept on
+  goes_on keeps ends from =
+      let is = has.telling in
+      let Its = λ (read : List (Result SaidLine Why)) (names : LineNames). AreTaken start old.taking read (start.told ++ told_in_all read is.windows)
+      × (AreWindows start.numbers asked.opts.margin asked.wanted read names.clients is.windows told
+      × (Keeps (option_map string_bytes asked.key) names start.numbers old.taking read kept
+      × (on ≡ record (start_of asked start.behind kept) { before = counted_before start read is.windows old.taking }))) in
+      let silent : told ++ string_bytes old.teller.text ≡ told = ap (λ text. told ++ text) quiet.text ∙ append-nil told in
+      let all : Its (lines_asked asked bytes) (names_asked asked bytes) =
+      subst (λ names. Its (lines_asked asked bytes) names) (sym named)
+      (subst (λ read. Its read (line_names old.reader)) (sym whole)
+      (is.taken, (subst (AreWindows start.numbers asked.opts.margin asked.wanted has.read (line_names old.reader).clients is.windows) silent is.tells, (keeps, refl)))) in
+      record {
+        taking = old.taking;
+        windows = is.windows;
+        margin = is.margin;
+        taken = all.0;
+        tells = all.1.0;
+        keeps = all.1.1.0;
+        ends = ends;
+        from = from;
+        next_is = all.1.1.1;
+      }
+
+  -- the next has read what the text keeps, and told nothing
+  followed_on : (restored : HasFollowed asked (start_of asked start.behind kept) next kept []) → restored.telling.windows ≡ [] → TakesPlace old next new → HasFollowed asked on new kept []
+  followed_on restored none place =
+      let is = restored.telling in
+      let begun = start_of asked start.behind kept in
+      let read = restored.read in
+      let taken : AreTaken begun next.taking read begun.told =
+      subst (AreTaken begun next.taking read) (ap (λ (windows : List Window). begun.told ++ told_in_all read windows) none ∙ append-nil begun.told) is.taken in
+      let tells : AreWindows begun.numbers asked.opts.margin asked.wanted read (line_names next.reader).clients [] (string_bytes next.teller.text) =
+      subst (λ windows. AreWindows begun.numbers asked.opts.margin asked.wanted read (line_names next.reader).clients windows (string_bytes next.teller.text)) none is.tells in
+      record {
+        read = read;
+        goes = λ text. restored.goes text ∙ ap (λ reader. read ++ lines_on reader text) (sym place.reader);
+        behind = λ text. restored.behind text ∙ ap (λ reader. names_on reader text) (sym place.reader);
+        telling = record {
+          behind = place.behind ∙ is.behind;
+          carried = carried_on start old has.read has.telling.windows _ new.before has.telling.taken has.telling.carried place.before;
+          windows = [];
+          taken = subst (AreTaken on new.taking read) (sym (append-nil begun.told))
+              (taken_behind begun on.before new.taking read begun.told
+              (believes_else begun next.taking new.taking read begun.told refl taken
+              place.watch place.numbering place.taken
+              place.refused place.counts place.settled));
+          margin = ap (λ (watch : KeyWatch). watch.margin) place.watch ∙ is.margin;
+          tells = ap string_bytes (ap (λ (teller : Teller). teller.text) place.teller) ∙ tells;
+          are = record {
+            wanted = ap (λ (teller : Teller). teller.wanted) place.teller ∙ is.are.wanted;
+            margin = ap (λ (teller : Teller). teller.margin) place.teller ∙ is.are.margin;
+            by_key = ap is_some (ap (λ (teller : Teller). teller.key) place.teller) ∙ is.are.by_key;
+            first = ap (λ (teller : Teller). teller.first) place.teller ∙ (has.telling.are.first ∙ sym (first_alone on.before.first));
+            totals = subst (HasTotals (members_asked asked) new.teller) (sym (append-nil on.before.told)) totals;
+          };
+        };
+      }
+    where
+      first_alone : {X : Type 0} (one : Option X) → option_or one None ≡ one
+      first_alone None = refl
+      first_alone (Some one) = refl
+
+      totals : HasTotals (members_asked asked) new.teller (start.before.told ++ faults_told has.read has.telling.windows)
+      totals =
+          let told_all = start.before.told ++ faults_told has.read has.telling.windows in
+          let wanted : new.teller.wanted ≡ old.teller.wanted =
+          ap (λ (teller : Teller). teller.wanted) place.teller ∙ (restored.telling.are.wanted ∙ sym has.telling.are.wanted) in
+          subst (λ (counted : Option ToldFaults). HasTotalsIn new.teller.wanted.totals (members_asked asked) counted told_all) (sym (ap (λ (teller : Teller). teller.told) place.teller))
+          (subst (λ (wanted : Wanted). HasTotalsIn wanted.totals (members_asked asked) old.teller.told told_all) (sym wanted) has.telling.are.totals)
+
+  pub gone_on : Keeps (option_map string_bytes asked.key) (line_names old.reader) start.numbers old.taking has.read kept → EndsALine bytes
+      → (start_of asked start.behind kept).from ≡ old.taking.watch.from
+      → (restored : HasFollowed asked (start_of asked start.behind kept) next kept []) → restored.telling.windows ≡ [] → TakesPlace old next new → HasGoneOn asked start new bytes told
+  gone_on keeps ends from restored none place = (kept, on, goes_on keeps ends from, followed_on restored none place)
+
+-- by one that was restored as this one is asked for
+pub gone_on_by : (asked given : AuditArguments) → AskForTheSame asked given → (start : Start) (old next new : Follower) (bytes told kept : List ℕ) (has : HasFollowed asked start old bytes told) → IsQuiet old
+    → Keeps (option_map string_bytes asked.key) (line_names old.reader) start.numbers old.taking has.read kept → EndsALine bytes
+    → (restored : HasFollowed given (start_of given old.behind kept) next kept []) × (restored.telling.windows ≡ []) → next.taking.watch.from ≡ (start_of given old.behind kept).from
+    → next.taking.watch.from ≡ old.taking.watch.from → TakesPlace old next new → HasGoneOn asked start new bytes told
+gone_on_by asked given same start old next new bytes told kept has quiet keeps ends restored moment still place =
+    let begun : start_of given old.behind kept ≡ start_of asked start.behind kept =
+    start_same asked given same old.behind kept ∙ ap (λ behind. start_of asked behind kept) has.telling.behind in
+    let (so, none) : (has : HasFollowed given (start_of asked start.behind kept) next kept []) × (has.telling.windows ≡ []) =
+    subst (λ start. (has : HasFollowed given start next kept []) × (has.telling.windows ≡ [])) begun restored in
+    let (as_asked, windows) = followed_same asked given same (start_of asked start.behind kept) next kept [] so in
+    gone_on asked start old next new bytes told kept has quiet keeps ends (sym (ap (λ (start : Start). start.from) begun) ∙ (sym moment ∙ still)) as_asked (windows ∙ none) place
+
+-- the text that keeps lines keeps those that were read, by the member that has the keys
+pub kept_so : (asked : AuditArguments) (start : Start) (old : Follower) (bytes told kept : List ℕ) (has : HasFollowed asked start old bytes told) → StaysInOne
+    → ((start : Start) (read : List (Result SaidLine Why)) (told : List Found) → AreTaken start old.taking read told
+    → Keeps (member_in (line_names old.reader)) (line_names old.reader) start.numbers old.taking read kept)
+    → Keeps (option_map string_bytes asked.key) (line_names old.reader) start.numbers old.taking has.read kept
+kept_so asked start old bytes told kept has stays says =
+    subst (λ key. Keeps key (line_names old.reader) start.numbers old.taking has.read kept) (member_followed asked start old bytes told has stays)
+    (says start has.read (start.told ++ told_in_all has.read has.telling.windows) has.telling.taken)
+
+-- and a text of which nothing is pending ends where a line does
+pub ends_there : (asked : AuditArguments) (start : Start) (old : Follower) (bytes told : List ℕ) → HasFollowed asked start old bytes told → length (lines_on old.reader (32 ∷ [])) ≡ 1
+    → IsQuiet old → EndsALine bytes
+ends_there asked start old bytes told has one quiet =
+    ends_so (map string_bytes asked.shown.items) (no_names (option_map string_bytes asked.key)) old.reader bytes has.read has.goes one quiet.line

@@ -1,0 +1,33 @@
+use Rattle.std.proofs.Common.{◌≡◌, ◌∙◌, [], ℕ, IfOk, List, Result, ap, arith, string_bytes, subst}
+use Rattle.fdb_lines.specs.declared.fault.Found.{Found}
+use Rattle.fdb_log_reader.specs.LineReader.{line_names}
+use Rattle.fdb_log_reader.specs.ReadLine.{SaidLine, member_in}
+use Rattle.fdb_log_reader.specs.declared.error.Why.{Why}
+use Rattle.fdb_audit.specs.Following.{Start}
+use Rattle.fdb_audit.specs.Kept.{Keeps, start_of}
+use Rattle.fdb_audit.specs.Taken.{AreTaken}
+use Rattle.fdb_audit.specs.Watched.{HasFollowed}
+use Rattle.fdb_audit.proofs.GoingOn.{ends_there, gone_on_by, kept_so}
+use Rattle.fdb_audit.proofs.follower.Follower.go_on.Goals as goal
+
+pub returns-clause-gone_on : goal.returns-clause-gone_on
+returns-clause-gone_on c = λ _ asked start bytes told same has.
+    let old = c.args.self.now in
+    let given = c.args.asked.now in
+    let next = c.in-Ok-next.next in
+    let kept = string_bytes c.in-Ok.text in
+    let quiet = c.requires.quiet in
+    let names = line_names old.reader in
+    let says = subst
+    (λ it. IfOk it (λ text. (start : Start) (read : List (Result SaidLine Why)) (told : List Found) → AreTaken start old.taking read told
+    → Keeps (member_in names) names start.numbers old.taking read (string_bytes text))) c.in-Ok.is c.in_ok-text.ensures in
+    let Restored = λ (text : List ℕ). (has : HasFollowed given (start_of given old.behind text) next text []) × (has.telling.windows ≡ []) in
+    let restored : Restored kept = subst Restored c.as_bytes.ensures.value
+    (subst (λ it. IfOk it (λ follower. let text = c.as_bytes.result.now in (has : HasFollowed given (start_of given old.behind text) follower text []) × (has.telling.windows ≡ []))) c.in-Ok-next.is c.in_ok-next.ensures.none_told) in
+    let moment : next.taking.watch.from ≡ (start_of given old.behind kept).from =
+    subst (λ it. IfOk it (λ follower. follower.taking.watch.from ≡ (start_of given old.behind c.as_bytes.result.now).from)) c.in-Ok-next.is c.in_ok-next.ensures.settled
+    ∙ ap (λ text. (start_of given old.behind text).from) c.as_bytes.ensures.value in
+    let still : next.taking.watch.from ≡ old.taking.watch.from = (let one = c.settled_to.ensures in let two = c.settled_to-2.ensures in let same = c.if-settled_to.false in omega (arith, one, two, same)) in
+    gone_on_by asked given same start old next c.give_way.new.self bytes told kept has quiet
+    (kept_so asked start old bytes told kept has c.keys_stay_in_one_member.ensures says)
+    (ends_there asked start old bytes told has (c.a_space_more_is_of_one_line.ensures old.reader) quiet) restored moment still c.give_way.ensures

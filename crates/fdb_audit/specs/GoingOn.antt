@@ -1,0 +1,35 @@
+-- A watch that goes on from what it keeps, where the names that it holds have become many. (this product's own)
+use Rattle.std.specs.Prelude.{◌≡◌, ℕ, ◌+◌, ◌++◌, List, Result, option_map, string_bytes}
+use Rattle.std.specs.Option.{option_or}
+use Rattle.fdb_log_reader.specs.declared.error.Why.{Why}
+use Rattle.fdb_log_reader.specs.ReadLine.{SaidLine}
+use Rattle.fdb_log_reader.specs.Reading.{EndsALine}
+use Rattle.fdb_audit.specs.Following.{AreWindows, Before, Start, Window, counted_on, faults_told, first_told, last_refused, told_in_all}
+use Rattle.fdb_audit.specs.Kept.{Keeps, start_of}
+use Rattle.fdb_audit.specs.Taken.{AreTaken, counted_of}
+use Rattle.fdb_audit.specs.Watched.{lines_asked, names_asked}
+use Rattle.fdb_audit.specs.declared.arguments.AuditArguments.{AuditArguments}
+use Rattle.fdb_audit.specs.declared.taking.Taking.{Taking}
+
+-- What is counted of all that had been read when a watch goes on: of these lines, and of what came before them.
+abbrev pub counted_before : Start → List (Result SaidLine Why) → List Window → Taking → Before
+counted_before start read windows taking = record {
+  counts = counted_on start.before.counts (counted_of taking);
+  refused = last_refused (start.numbers.more + 1) start.before.refused read;
+  last_early = option_or taking.counts.last_early start.before.last_early;
+  first = option_or start.before.first (first_told start.numbers read windows);
+  told = start.before.told ++ faults_told read windows;
+}
+
+-- A watch goes on where a line of these bytes ends: it has told this text of them, and from now on it is as one that was restored from
+-- the text that keeps its lines, with what it has counted. This text says up to when all was told.
+pub record GoesOn (asked : AuditArguments) (start : Start) (bytes told kept : List ℕ) (next : Start) : Type 0 where
+  pub taking : Taking
+  pub windows : List Window
+  pub margin : taking.watch.margin ≡ asked.opts.margin
+  pub taken : AreTaken start taking (lines_asked asked bytes) (start.told ++ told_in_all (lines_asked asked bytes) windows)
+  pub tells : AreWindows start.numbers asked.opts.margin asked.wanted (lines_asked asked bytes) (names_asked asked bytes).clients windows told
+  pub keeps : Keeps (option_map string_bytes asked.key) (names_asked asked bytes) start.numbers taking (lines_asked asked bytes) kept
+  pub ends : EndsALine bytes
+  pub from : next.from ≡ taking.watch.from
+  pub next_is : next ≡ record (start_of asked start.behind kept) { before = counted_before start (lines_asked asked bytes) windows taking }
