@@ -580,12 +580,53 @@ def warned(count):
     return watched(in_pieces(log.encode(), 65_536), said, lines)
 
 
+def kept_on(made, count, key=b"", shown=b""):
+    """What a watch tells that goes on from what another kept, of as many lines as are counted."""
+    it, refused, counts = raw(), raw().RawRefused(), raw().RawWatchCounted()
+    _, (log, late), (_, said) = made(count)
+    log, late = log.encode(), late.encode()
+    asked = it.RawWatchOptions(behind=watches.FAR)
+    names = (byref(asked), key, len(key), shown, len(shown))
+    first, status = opened(it.library.fdb_watch_new, *names)
+    wrong = status_of(status) or status_of(it.library.fdb_watch_push(byref(first), log, len(log)))
+    wrong = wrong or status_of(it.library.fdb_watch_counts(byref(first), byref(counts)))
+    lines, left_out = log.count(b"commit"), log.count(b"{}")
+    of = (counts.lines, counts.commits, counts.refused, counts.open, counts.kept)
+    wrong = wrong or unlike([of], [(lines, lines, left_out, lines, lines)])
+    keep = lambda found, room, size: it.library.fdb_watch_keep(byref(first), found, room, size)
+    status, kept = written(it.c_uint8, keep)
+    wrong, kept = wrong or status_of(status), bytes(kept)
+    restore = lambda *given: it.library.fdb_watch_restore(*given, byref(refused))
+    again, status = opened(restore, *names, kept, len(kept))
+    wrong = wrong or status_of(status)
+    wrong = wrong or status_of(it.library.fdb_watch_push(byref(again), late, len(late)))
+    wrong = wrong or status_of(it.library.fdb_watch_tell(byref(again), True))
+    tell = lambda found, room, size: it.library.fdb_watch_text(byref(again), found, room, size)
+    told = bytes(written(it.c_uint8, tell)[1]) if not wrong else b""
+    it.library.fdb_watch_free(byref(first))
+    it.library.fdb_watch_free(byref(again))
+    return wrong or unlike(told.decode().splitlines(), said)
+
+
+def kept(count):
+    return kept_on(watches.kept, count)
+
+
+def kept_by_key(count):
+    return kept_on(watches.kept_by_key, count, b"k", b"x")
+
+
+def kept_behind_refused(count):
+    return kept_on(watches.kept_behind_refused, count)
+
+
 CHAIN = "fdb_chain_new, fdb_chain_ask, RecentChain::new, RecentChain::ask"
 OFFERS = "fdb_queue_new, fdb_queue_offer, GrvQueue::offer"
 HELD = "fdb_queue_window, GrvQueue::window"
 AUDIT = "fdb_audit_new, fdb_audit_push, fdb_audit_end, fdb_audit_text, fdb_audit_faults"
 AUDIT = f"{AUDIT}, judge_named"
 WATCH = "fdb_watch_new, fdb_watch_push, fdb_watch_tell, fdb_watch_end, fdb_watch_text"
+KEPT = "fdb_watch_keep, fdb_watch_restore, fdb_watch_counts"
 TABLE = (
     Row("fdb_chain_answers", answers_kept, CHEAP),
     Row("fdb_chain_answers", answers_let_go, CHEAP),
@@ -627,6 +668,9 @@ TABLE = (
     Row(WATCH, told_and_shown, FEWER),
     Row(WATCH, told_in_pieces, LINES),
     Row(f"{WATCH}, fdb_watch_warnings", warned, DEAR),
+    Row(KEPT, kept, DEAR),
+    Row(KEPT, kept_by_key, FEWER),
+    Row(KEPT, kept_behind_refused, LINES),
 )
 TABLES = (TABLE,)
 

@@ -1,5 +1,7 @@
 """Audits and watches of the package for Python, by bytes, pieces and calls, against the model."""
+import json
 import random
+import tempfile
 
 import audit_logs
 import bindings
@@ -10,8 +12,12 @@ from audit_right import why_wrong
 from audit_search import text_of
 from follow_model import SAID_LAST, asked_of, judged_as, name_in
 from follow_model import why_wrong as why_wrong_of_watch
-from harness import Ran, fault_of
+from harness import Ran, fault_of, run
+from kept_logs import closed
 from reader import Refused
+
+# How many logs are watched on from what was kept.
+KEPT = 200
 
 
 def named(member):
@@ -218,3 +224,76 @@ def watched(given, words, dice):
         kind, line = name_in(audit_logs.FAULT.match(out))
         last = f"fdb_audit: audit fault: {kind} {line}\n"
     return Ran(status, out, (err + last).encode())
+
+
+# ---- watches that are kept, and go on
+
+
+def kept_watches(_program):
+    """Random watches that are kept at line ends, each by the package or the program, and go on.
+
+    Whichever keeps and whichever goes on, they keep the same bytes, count the same, and tell what
+    one watch of the package tells, each fault once.
+    """
+    for number in range(KEPT):
+        dice = random.Random(f"kept {number}")
+        texts, _, words = closed(dice)
+        cuts = sorted(dice.randint(0, len(texts)) for _ in range(dice.randint(1, 3)))
+        pieces = [b"".join(texts[at:to]) for at, to in zip([0, *cuts], [*cuts, len(texts)])]
+        wanted = Watched(words).told([b"".join(texts)], None)
+        for by_turns in (False, True):
+            found = Watched(words).told(pieces, dice if by_turns else None)
+            fault = None if sorted(found) == sorted(wanted) else f"{found} in place of {wanted}"
+            yield f"log {number}, {by_turns}", fault and f"{fault}, of {pieces} with {words}"
+
+
+class Watched:
+    """Watches that go on from one another, as these arguments of the program ask for them."""
+
+    def __init__(self, words):
+        options, self.behind = asked_of(words)
+        self.asked = {"margin": options.margin, "key": options.key, "show": options.show}
+        self.words, self.kept = words, ""
+
+    def told(self, pieces, dice):
+        """All faults that they tell; with dice some of the watches are the program's."""
+        with tempfile.TemporaryDirectory() as folder:
+            self.file = f"{folder}/kept"
+            found = []
+            for piece in pieces:
+                by_program = dice is not None and dice.random() < 0.5
+                found += self.by_program(piece) if by_program else self.by_package(piece)
+        return found
+
+    def by_package(self, piece):
+        library = bindings.package()
+        with library.Watch.restore(self.kept, self.behind, json=True, **self.asked) as watch:
+            watch.push(piece)
+            told, self.counts = faults_in(watch.tell()), watch.counts()
+            self.kept = watch.keep()
+        return told
+
+    def by_program(self, piece):
+        """So does the program; what the package would have kept and counted is the same."""
+        self.write(self.kept)
+        own, kept = self.by_package(piece), self.kept
+        ran = run([audit_logs.PROGRAM, *self.words, "--keep", self.file], piece)
+        with open(self.file, encoding="utf-8") as file:
+            self.kept = file.read()
+        said = [json.loads(it) for it in ran.out.splitlines() if it.startswith(b'{"watched"')][-1]
+        counted = {"judged": 0, "ahead": 0, **said["watched"]}
+        if kept != self.kept or counted != self.counts._asdict():
+            return [f"{kept} in place of {self.kept}, or {self.counts} of {counted}"]
+        told = faults_in(ran.out.decode())
+        # (it may look once more, in between)
+        return told if sorted(told) == sorted(own) else [f"{own} in place of {told}"]
+
+    def write(self, kept):
+        with open(self.file, "w", encoding="utf-8") as file:
+            file.write(kept)
+
+
+def faults_in(text):
+    """The faults that are told, as texts."""
+    found = [json.loads(it) for it in text.splitlines()]
+    return [printed([it["fault"], it["at"]]) for it in found if type(it.get("fault")) is str]

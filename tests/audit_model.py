@@ -396,7 +396,7 @@ class Log:
         groups = (self.most(at, found) for at in range(len(owners_of(self.lines[0], self.options))))
         return [self.total(), said, *(line for lines in groups for line in lines)]
 
-    def ranking(self, _at, _found):
+    def ranking(self, _found):
         """The lines whose order ranks groups with as many faults."""
         return self.lines
 
@@ -404,7 +404,7 @@ class Log:
         """A line for each of the ten clients, keys or shown texts with most faults, by how many."""
         owner = lambda line: owners_of(line, self.options)[at]
         first = [(it[0], None) for it in [owner(self.lines[0])]]
-        ranked = dict.fromkeys([*first, *map(owner, self.ranking(at, found))])
+        ranked = dict.fromkeys([*first, *map(owner, self.ranking(found))])
         numbers = {it: at for at, it in enumerate(ranked)}
         of, is_more = self.of_groups([(owner(case.lines[k]), fault) for case, fault, k in found])
         ranked = sorted(of, key=lambda it: (-len(of[it]), numbers[it]))

@@ -22,7 +22,7 @@ OTHERS = (
 # How many names an attack has.
 NAMES = 100_000
 # The most times the time of random names, and the least seconds that are looked at.
-MOST_TIMES, FEW_SECONDS = 3, 0.2
+MOST_TIMES, FEW_SECONDS = 3, 0.7
 # The first state and the factor of the table of std that hashes.
 SEED, FACTOR, MASK = 0x243F6A8885A308D3, 0x9E3779B97F4A7C15, 2**64 - 1
 LETTERS = "abcdefghijklmnopqrstuvwxyz0123456789"

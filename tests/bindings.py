@@ -60,7 +60,7 @@ METADATA = f"""\
 The read-version path of FoundationDB 7.1, proved, and an audit of logs, from Python
 Joskleme maintainers <maintainers@users.noreply.joskleme.example>
 >=3.9
-200 31
+200 32
 """.encode()
 AUDIT_OF_RUST = b"""\
 Fault { line: 1, kind: Order, reason: Known { version: 200, means: Ended(0) }, \

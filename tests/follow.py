@@ -406,15 +406,24 @@ def watch(path):
     )
 
 
+def of_own_clients(count):
+    """Commits, each of a client of its own."""
+    for at in range(count):
+        began = 9 * at
+        yield f'{{"client":"{at}","commit":{at + 1},"began":{began},"ended":{began + 5}}}\n'
+
+
 def large(_program):
     """A large log takes no more memory than a small one, and it is told how far it is read."""
-    with tempfile.TemporaryDirectory() as folder:
-        log = f"{folder}/log"
-        with open(log, "w", encoding="ascii") as file:
-            file.writelines(repeated(LARGE))
-        it = spent([PROGRAM, "--follow", "2000", log], 60, 2**30)
-        is_so = it.status == OK and it.memory <= MOST_MEMORY
-        yield f"{LARGE} lines", None if is_so else f"{it}, where {MOST_MEMORY} KiB are the most"
+    for name, lines in (("lines", repeated(LARGE)), ("clients", of_own_clients(LARGE))):
+        with tempfile.TemporaryDirectory() as folder:
+            log = f"{folder}/log"
+            with open(log, "w", encoding="ascii") as file:
+                file.writelines(lines)
+            it = spent([PROGRAM, "--follow", "2000", log], 60, 2**30)
+            is_so = it.status == OK and it.memory <= MOST_MEMORY
+            fault = f"{it}, where {MOST_MEMORY} KiB are the most"
+            yield f"{LARGE} {name}", None if is_so else fault
     told = "".join(told_of(TOLD, 64, end) for end in ("", "; judging"))
     said = b"audit ok lines 64 reads 64 commits 0 asks 0 reports 0 refused 0 early 0\n"
     ran = without_progress(run([PROGRAM, "--follow", "1", "--progress"], MUCH))

@@ -142,9 +142,9 @@ class Followed(Log):
             "follow": self.behind, "margin": asked.margin, "by_key": asked.key is not None,
             "members": members}})
 
-    def ranking(self, at, found):
-        """Of keys and shown texts nothing is kept but those of faults, as they are told."""
-        return [case.lines[k] for case, _, k in found] if at else self.lines
+    def ranking(self, found):
+        """Of clients, keys and texts nothing is kept but those of faults, as they are told."""
+        return [case.lines[k] for case, _, k in found]
 
     def of_groups(self, faults):
         """Those of as many clients, keys or texts as there is room for: the first that come."""

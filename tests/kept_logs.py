@@ -1,4 +1,5 @@
 """What fdb_audit keeps with --keep of logs that grow, and how it goes on from that."""
+import contextlib
 import json
 import os
 import random
@@ -6,14 +7,14 @@ import tempfile
 import time
 
 from audit_lines import CALLS
-from audit_logs import FAULTY, OK, PROGRAM
+from audit_logs import FAULTY, OK, PROGRAM, REFUSED
 from audit_model import printed
 from audit_search import text_of
 from command_line import LINE, audit
-from follow import (PAUSE, STALE, Growing, began_with, behind_ends, disordered, grown, objects_of,
-                    random_words)
+from follow import (PAUSE, STALE, Growing, began_with, behind_ends, disordered, grown,
+                    objects_of, random_words)
 from follow_model import WATCHED
-from harness import NO_STREAM, Ran, apart, fault_of, run
+from harness import NO_STREAM, SECONDS, Ran, apart, fault_of, run
 from reader import HIGHEST
 from shapes import text_of_lines, timed
 
@@ -128,13 +129,114 @@ def kept(_program):
             by = "" if name == "no JSON" else made_by(*words)
             ran = run([PROGRAM, *words, "--keep", file], late)
             yield name, fault_of(ran, not_kept(why, file, by))
-        for name, path, failed in (("a folder", folder, "reading"),
-                                   ("no folder", f"{folder}/none/kept", "writing")):
-            ran = run([PROGRAM, *words, "--keep", path], stale)
-            wanted = Ran(NO_STREAM, b"", f"fdb_audit: {failed} failed\n".encode())
-            yield name, fault_of(ran, wanted)
+        yield from failing(folder, words, stale, lines)
     wanted = audit(None).words_refused()
     yield "of a log that is not followed", fault_of(run([PROGRAM, "--keep", "kept"], LINE), wanted)
+
+
+def failing(folder, words, given, lines):
+    """What fails of the file is told, and in a second line which file it is: one that cannot be
+    read, or written, or where nothing can be made or locked beside it."""
+    os.mkdir(f"{folder}/held.lock")
+    os.mkdir(f"{folder}/new.new")
+    os.symlink("/dev/full", f"{folder}/full.new")
+    os.mkdir(f"{folder}/odd \u202e")
+    for name, path, failed in (
+        ("a folder", f"{folder}/odd \u202e", "reading"), ("full", f"{folder}/full", "writing"),
+        ("no folder", f"{folder}/none/kept", "writing"), ("new", f"{folder}/new", "writing"),
+        ("a folder that is to be locked", f"{folder}/held", "writing"),
+    ):
+        for more in ([], ["--json"]):
+            ran = run([PROGRAM, *words, *more, "--keep", path], given)
+            yield f"{name}, {more}", fault_of(ran, failed_of(failed, path, "kept"))
+    # (a file that was there is as it was)
+    file = f"{folder}/full"
+    with open(file, "wb") as log:
+        log.write(lines)
+    ran = run([PROGRAM, *words, "--keep", file], text_of_lines(told_at(90)).encode())
+    # (what was told before stands)
+    is_told = ran.out.startswith(b"audit fault: Order 2: ")
+    wanted = failed_of("writing", file, "kept")
+    fault = fault_of(ran, Ran(wanted.status, ran.out, wanted.err))
+    yield "full, later", fault if is_told else f"{ran}"
+    with open(file, "rb") as log:
+        yield "it is as it was", None if log.read() == lines else "it is another"
+
+
+def failed_of(failed, file, how):
+    """How a watch ends whose file fails."""
+    file = file.replace("\u202e", "\\u202e")
+    said = f"fdb_audit: {failed} failed\nfdb_audit: {how} in {file}\n"
+    return Ran(NO_STREAM, b"", said.encode())
+
+
+def locked_of(file):
+    """How a watch ends whose file another one has."""
+    return failed_of("locking", file, "another watch keeps")
+
+
+# How many watches begin on one file at once, and how often.
+AT_ONCE, BEGUN = 8, 5
+
+
+def told_at(at):
+    """Lines of which the second is stale, and is told at the third where nothing is waited for."""
+    return (timed("commit", at + 5, at, at + 10, "a"), timed("read", 1, at + 20, at + 30, "b"),
+            timed("read", at + 5, at + 29, at + 30, "a"))
+
+
+def alone(_program):
+    """One watch at a time keeps in a file: a second one is refused, and the first goes on. Behind
+    one that ended or was killed the next goes on at once."""
+    words = ["--follow", "0", "--keep"]
+    with tempfile.TemporaryDirectory() as folder:
+        os.symlink(folder, f"{folder}/self")
+        file, other = f"{folder}/kept", f"{folder}/self/kept"
+        for at, is_killed in ((0, False), (100, True), (200, True), (300, False)):
+            with Growing(*words, file) as first:
+                # (once it has told something, it has begun)
+                first.write(*told_at(at))
+                yield f"{at}, it tells", began_with(first.told(), b"audit fault: Order ")
+                for path in (file, other):
+                    ran = run([PROGRAM, *words, path], text_of_lines(told_at(at)).encode())
+                    yield f"{at}, a second one at {path}", fault_of(ran, locked_of(path))
+                ran = run([PROGRAM, *words, f"{file}.{at}"], LINE)
+                yield f"{at}, another file", None if ran.status == OK else f"{ran}"
+                if is_killed:
+                    first.started.kill()
+                    first.started.wait()
+                else:
+                    before = lines_kept(file)
+                    first.write(timed("read", at + 5, at + 60, at + 70, "a"))
+                    first.started.stdin.close()
+                    is_on = first.end().status == FAULTY and lines_kept(file) > before
+                    yield f"{at}, the first goes on", None if is_on else "it does not keep"
+            ran = run([PROGRAM, *words, file], b"")
+            yield f"{at}, the next", None if ran.status in (OK, REFUSED) else f"{ran}"
+
+
+def at_once(_program):
+    """Of many watches that begin on one file at once, one keeps in it, and the others end."""
+    for at in range(BEGUN):
+        with tempfile.TemporaryDirectory() as folder, contextlib.ExitStack() as stack:
+            file = f"{folder}/kept"
+            words = ["--follow", "0", "--keep", file]
+            all_of = [stack.enter_context(Growing(*words)) for _ in range(AT_ONCE)]
+            late = time.monotonic() + SECONDS
+            left = all_of
+            while len(left) > 1 and time.monotonic() < late:
+                time.sleep(PAUSE)
+                left = [it for it in all_of if it.started.poll() is None]
+            yield f"{at}, they are left", None if len(left) == 1 else f"{len(left)} go on"
+            for it in all_of:
+                if it not in left:
+                    yield f"{at}, one is refused", fault_of(it.end(), locked_of(file))
+            for it in left:
+                it.write(*STALE)
+                it.started.stdin.close()
+                ran = it.end()
+                is_so = ran.status == OK and lines_kept(file) == len(STALE)
+                yield f"{at}, one goes on", None if is_so else f"{ran}"
 
 
 def made_by(*words, margin=0):

@@ -30,7 +30,8 @@ SAID = (
     (README, "and {MAX_THROTTLES:,} throttles; 1 to {MAX_CLIENTS} clients"),
     (README, "for a read at most {MAX_TAGS} tags, of at most {MAX_TAG} bytes"),
     (README, "a request for 1 to {MAX_COUNT:,} transactions"),
-    (README, "A log for `fdb_audit`: {MAX_LINES:,} lines of {MAX_LINE_BYTES:,} bytes"),
+    (README, "A log for `fdb_audit`: at most {MAX_LINES:,} lines, each of at most"
+             " {MAX_LINE_BYTES:,} bytes"),
     (LOG, "the line has more than {MAX_LINE_BYTES:,} bytes"),
     (LOG, "there are {MAX_LINES:,} lines above"),
     (README, "0 to {MAX_VERSION:,}."),

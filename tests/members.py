@@ -10,7 +10,7 @@ ROW = re.compile(r"^(`.*?) \| (.*)$")
 THROTTLE = re.compile(r"All of its members are required: (.*), the last two whole numbers")
 # A word of a script in the code that reads it.
 WORD = re.compile(r'"([a-z_]+)"')
-READER = "crates/fdb_script/src/reading"
+SCRIPTS, READER = "crates/fdb_script/src", "reading"
 PRIORITIES = {"system", "default", "batch"}
 
 
@@ -39,7 +39,8 @@ def told():
 def named(_program):
     """The reader of scripts knows the words that the document tells of, and edges.py tries them."""
     top, of_throttles, commands = told()
-    words = {word for file in files_below(READER, ".rt") for word in WORD.findall(text_of(file))}
+    files = [it for it in files_below(SCRIPTS, ".rt") if it.startswith(f"{SCRIPTS}/{READER}")]
+    words = {word for file in files for word in WORD.findall(text_of(file))}
     known = top | of_throttles | set(commands) | set().union(*commands.values()) | PRIORITIES
     known |= {"do", "client"}
     yield "each word that is read", f"not told: {words - known}" if words - known else None

@@ -223,6 +223,7 @@ def audits():
     keys, many = read(f"{EXAMPLES}/logs/keys.jsonl"), large_log(400)[0]
     yield "a log that grows", ["--follow", "9", "--key", "key", "--all"], keys + b"{}\n", each
     yield "a larger one", ["--follow", "9", "--json", "--show", "note"], many, further
+    yield "a file to keep in that fails", ["--follow", "9", "--keep", "/none/kept"], keys, each
 
 
 def audited(_program):

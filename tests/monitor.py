@@ -133,7 +133,8 @@ def unit_runs(_program):
         is_so = is_told and str(status) in successes and "\nKillMode=mixed\n" in unit
         yield "what it starts", None if is_so else f"status {status}, {fed.errors}"
         left = sorted(it for it in os.listdir(folder))
-        yield "its files", None if left == ["calls", "kept", "kept.files", "said"] else f"{left}"
+        expected = ["calls", "kept", "kept.files", "kept.lock", "said"]
+        yield "its files", None if left == expected else f"{left}"
         told = len(fed.told())
         for which in ("its exporter", "another one") if is_here() else ():
             count = counted_by_unit(folder, told)

@@ -239,6 +239,27 @@ print(1 < len(blocks) <= 5, sum(it.count(b"x\\n") for it in blocks))
 """
 
 
+# Whether bytes in a file are the same where they are sent, and the files go with them.
+STORED = f"""
+import os, pickle, sys
+sys.path.insert(0, {os.path.dirname(TOOL)!r})
+import dask_tasks
+here = dask_tasks.stored(b"abcdef")
+there = pickle.loads(pickle.dumps(here))
+print(there.part(2, 3), there.size, sys.getsizeof(there) >= 6)
+files = [here.file, there.file]
+print(sum(map(os.path.exists, files)), end=" ")
+del here, there
+print(sum(map(os.path.exists, files)))
+"""
+
+
+def fault_of_stored() -> Optional[str]:
+    """What is wrong with bytes that a worker keeps in a file."""
+    ran = run([PYTHON, "-B", "-c", STORED])
+    return None if ran.out == b"b'cde' 6 True\n2 0\n" else f"{ran}"
+
+
 def fault_of_blocks(folder: str) -> Optional[str]:
     """What is wrong with the blocks of a log of which there would be too many pieces."""
     path = {**os.environ, "PYTHONPATH": os.path.dirname(TOOL)}
@@ -253,6 +274,7 @@ def parts(_program: str) -> Case:
         yield "without Dask", None
         return
     yield "what others say beside it", fault_of_logs()
+    yield "bytes in a file of a worker", fault_of_stored()
     with tempfile.TemporaryDirectory(prefix="dask-log-") as folder, cluster() as (made, address):
         yield "blocks of many pieces", fault_of_blocks(folder)
         files, whole = write_log(folder)

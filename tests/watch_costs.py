@@ -19,7 +19,7 @@ OPEN, KEPT = 300_000, 100_000
 # how long a watch does nothing that has gone over what came.
 WINDOW, COMING, PAUSE, REST = 50_000, 400, 0.01, 0.5
 # How many times what is measured beside a run may take, and seconds that are never too many.
-MOST, FEW_SECONDS = 4, 0.3
+MOST, FEW_SECONDS = 4, 2
 # Behind this all is open.
 FAR = 2**40
 

@@ -323,6 +323,7 @@ static void names_and_version(void) {
     assert(fdb_read_version_version() == FDB_READ_VERSION_VERSION);
     assert(!strcmp(fdb_status_name(FDB_OK), "OK") && !strcmp(fdb_status_name(FDB_OVER), "OVER"));
     assert(!strcmp(fdb_status_name(FDB_UNJUDGED), "UNJUDGED"));
+    assert(!strcmp(fdb_status_name(FDB_NOT_KEPT), "NOT_KEPT"));
     assert(!strcmp(fdb_status_name(FDB_TAG_TOO_LONG), "TAG_TOO_LONG"));
     assert(fdb_status_name(9) == NULL && fdb_status_name(255) == NULL);
     assert(!strcmp(fdb_member_name(FDB_KEY), "key") && !strcmp(fdb_fault_name(5), "Stray"));

@@ -245,6 +245,37 @@ static uint8_t watch_bears(long allowed) {
     return status == FDB_FAULT ? FDB_OK : status;
 }
 
+/* Where the text of what is kept is not made, the watch is as it was; and none is opened by it. */
+static uint8_t keeping_bears(long allowed) {
+    fdb_watch_options options = {.behind = 9};
+    fdb_watch watch = FDB_WATCH_NONE, next = FDB_WATCH_NONE;
+    fdb_refused refused = {.line = 77};
+    uint8_t text[1000] = {77};
+    uint64_t size = 77;
+    assert(fdb_watch_new(&options, NAME("k"), NAME("x,y"), &watch) == FDB_OK);
+    assert(fdb_watch_push(&watch, NAME(KEYED)) == FDB_OK);
+    left = allowed;
+    uint8_t worst = fdb_watch_keep(&watch, text, 1, &size);
+    assert(worst == FDB_MEMORY || worst == FDB_ROOM);
+    assert(text[0] == 77 && (size == 77) == (worst == FDB_MEMORY));
+    if (worst == FDB_ROOM) {
+        /* it is held, and so it needs none */
+        long before = left;
+        left = 0;
+        assert(fdb_watch_keep(&watch, text, sizeof text, &size) == FDB_OK);
+        left = before;
+        worst = fdb_watch_restore(&options, NAME("k"), NAME("x,y"), text, size, &next, &refused);
+        assert(worst == FDB_OK || (worst == FDB_MEMORY && next.at == NULL));
+        assert(refused.line == 77);
+    }
+    left = -1;
+    assert(fdb_watch_keep(&watch, text, sizeof text, &size) == FDB_OK && size > 200);
+    assert(fdb_watch_end(&watch, &refused) == FDB_FAULT);
+    fdb_watch_free(&watch);
+    fdb_watch_free(&next);
+    return worst;
+}
+
 static void sweep(uint8_t (*bears)(long allowed)) {
     for (long allowed = 0; bears(allowed) != FDB_OK; allowed++) {
         assert(allowed < 10000);
@@ -264,6 +295,7 @@ int main(void) {
     sweep(pieces_bear);
     sweep(keys_bear);
     sweep(watch_bears);
+    sweep(keeping_bears);
     assert(refusals > 10);
     puts("ok");
     return 0;

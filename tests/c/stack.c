@@ -8,12 +8,12 @@
 #include <stdlib.h>
 #include <string.h>
 
-#define STACK (140 * 1024)
+#define STACK (150 * 1024)
 /* How deep a line may be nested below its own object, and how long such a one may be. */
 #define DEPTH 126
 #define MOST 4096
 
-/* Audits and watches a line whose last member is nested so, DEPTH times. */
+/* Audits and watches a line whose last member is nested so, DEPTH times, and keeps and restores it. */
 static void *nested(void *given) {
     const char *const *brackets = given;
     char *line = calloc(1, MOST);
@@ -36,6 +36,10 @@ static void *nested(void *given) {
     fdb_watch watch = FDB_WATCH_NONE;
     assert(fdb_watch_new(&watched, &shown, 0, &shown, 1, &watch) == FDB_OK);
     assert(fdb_watch_push(&watch, bytes, length) == FDB_OK);
+    assert(fdb_watch_keep(&watch, text, MOST, &size) == FDB_OK && size > 0);
+    assert(fdb_watch_end(&watch, &refused) == FDB_OK);
+    fdb_watch_free(&watch);
+    assert(!fdb_watch_restore(&watched, &shown, 0, &shown, 1, text, size, &watch, &refused));
     assert(fdb_watch_end(&watch, &refused) == FDB_OK);
     fdb_watch_free(&watch);
     free(text);

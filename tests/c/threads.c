@@ -15,6 +15,7 @@ typedef struct handles {
     fdb_queue queue;
     fdb_audit audit;
     fdb_watch watch;
+    uint8_t kept[1000];
 } handles;
 
 static void *made(void *given) {
@@ -45,13 +46,18 @@ static void *used(void *given) {
     fdb_refused refused;
     assert(fdb_audit_push(&both->audit, LINE, sizeof LINE - 1, &refused) == FDB_OK);
     assert(fdb_watch_push(&both->watch, LINE, sizeof LINE - 1) == FDB_OK);
+    /* what is kept is held for the next thread */
+    uint64_t size;
+    assert(fdb_watch_keep(&both->watch, both->kept, 0, &size) == FDB_ROOM);
     return NULL;
 }
 
 static void *freed(void *given) {
     handles *both = given;
     fdb_refused refused;
+    uint64_t size;
     assert(fdb_audit_end(&both->audit, &refused) == FDB_OK);
+    assert(fdb_watch_keep(&both->watch, both->kept, sizeof both->kept, &size) == FDB_OK);
     assert(fdb_watch_end(&both->watch, &refused) == FDB_OK);
     fdb_audit_free(&both->audit);
     fdb_watch_free(&both->watch);
@@ -62,7 +68,7 @@ static void *freed(void *given) {
 }
 
 int main(void) {
-    handles both = {FDB_CHAIN_NONE, FDB_QUEUE_NONE, FDB_AUDIT_NONE, FDB_WATCH_NONE};
+    handles both = {FDB_CHAIN_NONE, FDB_QUEUE_NONE, FDB_AUDIT_NONE, FDB_WATCH_NONE, {0}};
     void *(*const turns[])(void *) = {made, used, freed};
     for (size_t i = 0; i < 3; i++) {
         pthread_t thread;

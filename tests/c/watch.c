@@ -219,12 +219,191 @@ static void came_early(void) {
     }
 }
 
+/* What is kept, in each room that is too small and then in one that is long enough. */
+static char *kept_by(fdb_watch *watch) {
+    uint64_t size = 77;
+    uint8_t status = FDB_ROOM;
+    char *at = NULL;
+    for (size_t room = 0; status == FDB_ROOM; room++) {
+        free(at);
+        at = malloc(room + 1);
+        assert(at);
+        memset(at, '~', room + 1);
+        status = fdb_watch_keep(watch, (uint8_t *)at, room, &size);
+        assert(status == (room < size ? FDB_ROOM : FDB_OK));
+        assert(at[room < size ? 0 : size] == '~');
+    }
+    at[size] = '\0';
+    return at;
+}
+
+static uint8_t restored(fdb_watch_options options, const char *key, const char *shown,
+                        const char *kept, fdb_watch *watch, fdb_refused *refused) {
+    *refused = (fdb_refused){77, 77};
+    *watch = (fdb_watch)FDB_WATCH_NONE;
+    uint8_t status =
+        fdb_watch_restore(&options, NAME(key), NAME(shown), NAME(kept), watch, refused);
+    assert((status == FDB_OK) == (watch->at != NULL));
+    if (status == FDB_OK || status == FDB_MEMORY) assert(refused->line == 77);
+    return status;
+}
+
+static void counted(fdb_watch *watch, fdb_watch_counted wanted) {
+    fdb_watch_counted counts;
+    memset(&counts, 0x77, sizeof counts);
+    assert(fdb_watch_counts(watch, &counts) == FDB_OK);
+    assert(!memcmp(&counts, &wanted, sizeof wanted));
+}
+
+/* What is kept of the stale read, of which nothing is settled. */
+#define FIRST_AND(lines, clients) \
+    "{\"client\":\"a\",\"commit\":200,\"began\":10,\"ended\":14,\"kept_line\":1,\"kept_lines\":" \
+    lines ",\"kept_clients\":" clients ",\"kept_by\":\"--follow 5 --margin 0\"}\n"
+#define SECOND_KEPT "{\"client\":\"b\",\"read\":100,\"began\":15,\"ended\":16,\"kept_line\":2," \
+                    "\"kept_lines\":2}\n"
+
+#define SHOWN "{\"client\":\"a\",\"commit\":2,\"began\":1,\"ended\":2,\"k\":\"z\",\"y\":[1]"
+
+/* Kept wherever a line ends, and restored, it tells what one watch tells. */
+static void goes_on(void) {
+    static const char *const LINES[] = {
+        "{\"client\":\"a\",\"commit\":200,\"began\":10,\"ended\":14}\n",
+        "{\"client\":\"b\",\"read\":100,\"began\":15,\"ended\":16}\n",
+        "{\"client\":\"a\",\"read\":200,\"began\":30,\"ended\":31}\n",
+        "{\"client\":\"b\",\"read\":200,\"began\":30,\"ended\":31}\n",
+        "{\"client\":\"a\",\"commit\":300,\"began\":40,\"ended\":41}\n",
+    };
+    fdb_watch_options options = {.behind = 5};
+    fdb_refused refused;
+    for (size_t cut = 0; cut <= 5; cut++) {
+        fdb_watch watch = opened(options, "", "");
+        bool is_told = false;
+        for (size_t line = 0; line < 5; line++) {
+            if (line == cut) {
+                char *kept = kept_by(&watch);
+                fdb_watch_free(&watch);
+                assert(restored(options, "", "", kept, &watch, &refused) == FDB_OK);
+                says(&watch, "", "");
+                free(kept);
+            }
+            push(&watch, LINES[line]);
+            assert(fdb_watch_tell(&watch, true) == FDB_OK);
+            /* the fourth line says that the third's clock is right */
+            says(&watch, line == 3 ? SAID("2") : "", "");
+            is_told |= line == 3;
+        }
+        assert(is_told);
+        /* (what an earlier watch has told, a later one does not know of) */
+        assert(fdb_watch_end(&watch, &refused) == (cut == 4 ? FDB_OK : FDB_FAULT));
+        fdb_watch_free(&watch);
+    }
+}
+
+/* What is kept is a text of its own, and is made anew once more has come. */
+static void what_is_kept(void) {
+    fdb_watch_options options = {.behind = 5};
+    fdb_refused refused;
+    fdb_watch watch = opened(options, "", "");
+    uint64_t size = 77;
+    assert(fdb_watch_keep(&watch, (uint8_t *)&size, 0, &size) == FDB_OK && size == 0);
+    push(&watch, "{\"client\":\"a\",\"commit\":200,\"began\":10,\"ended\":14}\n{\"client\":");
+    char *kept = kept_by(&watch);
+    assert(!strcmp(kept, FIRST_AND("1", "1")));
+    free(kept);
+    uint8_t none = '~';
+    assert(fdb_watch_keep(&watch, &none, 1, &size) == FDB_ROOM && none == '~');
+    assert(size == strlen(FIRST_AND("1", "1")));
+    push(&watch, "\"b\",\"read\":100,\"began\":15,\"ended\":16}\n");
+    assert(fdb_watch_keep(&watch, &none, 1, &size) == FDB_ROOM);
+    assert(size == strlen(FIRST_AND("2", "2") SECOND_KEPT));
+    /* the room is there, and the text is held */
+    kept = kept_by(&watch);
+    assert(!strcmp(kept, FIRST_AND("2", "2") SECOND_KEPT));
+    counted(&watch, (fdb_watch_counted){.lines = 2, .reads = 1, .commits = 1, .open = 2, .kept = 2,
+                                        .newest_end = 16});
+    assert(fdb_watch_end(&watch, &refused) == FDB_FAULT);
+    says(&watch, SAID("2"), "");
+    fdb_watch_counted counts = {.lines = 77};
+    assert(fdb_watch_keep(&watch, &none, 1, &size) == FDB_OVER && none == '~' && size != 77);
+    assert(fdb_watch_counts(&watch, &counts) == FDB_OVER && counts.lines == 77);
+    fdb_watch_free(&watch);
+    /* lines that were kept are kept on, and not counted */
+    assert(restored(options, "", "", kept, &watch, &refused) == FDB_OK);
+    char *again = kept_by(&watch);
+    assert(!strcmp(again, kept));
+    free(again);
+    fdb_watch_counted few;
+    assert(fdb_watch_counts(&watch, &few) == FDB_OK);
+    assert(few.lines == 0 && few.open == 2 && few.kept == 2 && few.settled_to == 0);
+    assert(fdb_watch_end(&watch, &refused) == FDB_FAULT);
+    says(&watch, SAID("2"), "");
+    free(kept);
+    fdb_watch_free(&watch);
+}
+
+/* A text that is not what such a watch keeps is refused, by the line. */
+static void what_is_not_kept(void) {
+    fdb_watch_options options = {.behind = 5};
+    fdb_refused refused;
+    fdb_watch watch;
+    const struct {
+        fdb_watch_options options;
+        const char *key, *shown, *kept;
+        uint8_t status;
+        uint64_t line;
+        uint8_t member;
+    } REFUSED[] = {
+        {{.behind = 6}, "", "", FIRST_AND("1", "1"), FDB_NOT_KEPT, 1, 0},
+        {{.behind = 5, .margin = 1}, "", "", FIRST_AND("1", "1"), FDB_NOT_KEPT, 1, 0},
+        {options, "k", "", FIRST_AND("1", "1"), FDB_NOT_KEPT, 1, 0},
+        {options, "", "k", FIRST_AND("1", "1"), FDB_NOT_KEPT, 1, 0},
+        {options, "", "", SECOND_KEPT, FDB_NOT_KEPT, 1, 0},
+        {options, "", "", FIRST_AND("2", "2") SECOND_KEPT SECOND_KEPT, FDB_NOT_KEPT, 3, 0},
+        {options, "", "", FIRST_AND("2", "2") STALE, FDB_NOT_KEPT, 2, 0},
+        {options, "", "", FIRST_AND("2", "2") "{\"client\":\"b\",\"re", FDB_NOT_JSON, 2, 0},
+        {options, "", "", "nil\n", FDB_NOT_JSON, 1, 0},
+        {options, "", "", "{}\n", FDB_NO_CALL, 1, 0},
+        {options, "", "", "{\"client\":[]}\n", FDB_BAD_MEMBER, 1, FDB_CLIENT},
+        {options, "\xff", "", FIRST_AND("1", "1"), FDB_BAD_MEMBER, 0, 0},
+        {options, "", "\xff", FIRST_AND("1", "1"), FDB_BAD_MEMBER, 0, 0},
+    };
+    for (size_t at = 0; at < sizeof REFUSED / sizeof *REFUSED; at++) {
+        uint8_t status = restored(REFUSED[at].options, REFUSED[at].key, REFUSED[at].shown,
+                                  REFUSED[at].kept, &watch, &refused);
+        assert(status == REFUSED[at].status);
+        assert(refused.line == REFUSED[at].line && refused.member == REFUSED[at].member);
+    }
+    /* but what is printed may be another */
+    fdb_watch_options others = {.behind = 5, .totals = true, .json = true};
+    assert(restored(others, "", "", FIRST_AND("1", "1"), &watch, &refused) == FDB_OK);
+    fdb_watch_free(&watch);
+    /* and a text without a line is of a watch that keeps none */
+    assert(restored(options, "", "", "", &watch, &refused) == FDB_OK);
+    assert(fdb_watch_end(&watch, &refused) == FDB_EMPTY && refused.line == 0);
+    fdb_watch_free(&watch);
+    /* what is kept by a key, with what is shown */
+    watch = opened((fdb_watch_options){.behind = 9, .margin = 2}, "k", "x,y");
+    push(&watch, SHOWN "}\n");
+    char *kept = kept_by(&watch);
+    assert(!strcmp(kept, SHOWN ",\"kept_line\":1,\"kept_lines\":1,\"kept_clients\":1,\"kept_by\":"
+                         "\"--follow 9 --margin 2 --key \\\"k\\\" --show \\\"x\\\" "
+                         "--show \\\"y\\\"\"}\n"));
+    fdb_watch_free(&watch);
+    others = (fdb_watch_options){.behind = 9, .margin = 2};
+    assert(restored(others, "k", "x,y", kept, &watch, &refused) == FDB_OK);
+    fdb_watch_free(&watch);
+    free(kept);
+}
+
 int main(void) {
     a_stale_read();
     what_waits();
     what_is_asked();
     left_out();
     came_early();
+    goes_on();
+    what_is_kept();
+    what_is_not_kept();
     puts("ok");
     return 0;
 }
