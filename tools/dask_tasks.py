@@ -1,7 +1,9 @@
 """What a worker does for audit_on_dask: fdb_audit cuts a block of a log, or judges a part."""
+import contextlib
 import json
 import os
 import re
+import shutil
 import subprocess
 import tempfile
 from typing import NamedTuple
@@ -16,6 +18,8 @@ NUMBER = "split_line"
 GOOD = {True: b'{"read":1,"began":0,"ended":0}\n', False: b'{"client":"a","read":1}\n'}
 # What is kept of a line to be refused: one byte more than a line may have.
 MOST_BYTES = 1_048_577
+# How many bytes are copied at once.
+COPIED = 1 << 20
 DONE, LOG_REFUSED, FAULT = 0, 1, 4
 
 
@@ -43,21 +47,67 @@ class Cut(NamedTuple):
     said: bytes = b""
 
 
+class Stored:
+    """Bytes in a file of this worker, which goes with them: they are read where they are sent."""
+
+    def __init__(self, file):
+        self.file = file
+        self.size = os.path.getsize(file)
+
+    def __sizeof__(self):
+        return self.size
+
+    def __reduce__(self):
+        with open(self.file, "rb") as it:
+            return stored, (it.read(),)
+
+    def __del__(self):
+        with contextlib.suppress(OSError):
+            os.remove(self.file)
+
+    def part(self, at, size):
+        """Some of the bytes, from a place on."""
+        with open(self.file, "rb") as it:
+            it.seek(at)
+            return it.read(size)
+
+
 class Judged(NamedTuple):
     """How an audit of a part ended, its faults, a line each, and its totals."""
 
     status: int
     said: bytes
-    faults: bytes
+    faults: Stored | None
     totals: bytes
 
 
-def folder():
-    """A folder of a task's own, where its worker has its files."""
+def room():
+    """Where this worker has its files."""
     try:
-        return tempfile.TemporaryDirectory(dir=get_worker().local_directory)
+        return get_worker().local_directory
     except ValueError:
-        return tempfile.TemporaryDirectory()
+        return None
+
+
+def folder():
+    """A folder of a task's own."""
+    return tempfile.TemporaryDirectory(dir=room())
+
+
+def kept(file):
+    """What is in a file of a task's own, for longer than the task."""
+    to, name = tempfile.mkstemp(dir=room())
+    os.close(to)
+    os.replace(file, name)
+    return Stored(name)
+
+
+def stored(told):
+    """These bytes, in a file."""
+    to, name = tempfile.mkstemp(dir=room())
+    with open(to, "wb") as it:
+        it.write(told)
+    return Stored(name)
 
 
 def sizes(block):
@@ -79,7 +129,7 @@ def cut(block, first, asked):
         if ran.returncode == DONE:
             told = json.loads(ran.stdout)
             names = (f"{into}/{part:04}.jsonl" for part in range(asked.parts))
-            pieces = [read(it) if os.path.exists(it) else b"" for it in names]
+            pieces = [kept(it) if os.path.exists(it) else None for it in names]
             return Cut(told["parts"], told["timed"], told["untimed"]), pieces
         refused = REFUSED.match(ran.stderr)
         if ran.returncode != LOG_REFUSED or not refused:
@@ -87,11 +137,6 @@ def cut(block, first, asked):
         number = int(refused[1])
         above, _ = cut(lines_above(block, number - first - 1), first, asked)
         return above._replace(counts=[], refused=number), []
-
-
-def read(file):
-    with open(file, "rb") as it:
-        return it.read()
 
 
 def lines_above(block, count):
@@ -129,27 +174,33 @@ def piece(made, part):
 
 def judge(pieces, asked):
     """Judges a part, which is made of a piece of each block; none where it has no line."""
+    pieces = [it for it in pieces if it]
+    if not pieces:
+        return Judged(DONE, b"", None, b"")
     with folder() as own:
-        log, said = f"{own}/part.jsonl", f"{own}/said"
+        log, said, faults = f"{own}/part.jsonl", f"{own}/said", f"{own}/faults"
         with open(log, "wb") as to:
-            to.writelines(pieces)
-        if not os.path.getsize(log):
-            return Judged(DONE, b"", b"", b"")
+            for it in pieces:
+                with open(it.file, "rb") as lines:
+                    shutil.copyfileobj(lines, to, COPIED)
         words = [log, "--key", asked.key, "--json", "--numbers", NUMBER, *asked.arguments]
         with open(said, "wb") as out:
             ran = subprocess.run([asked.program, *words], stdout=out, stderr=subprocess.PIPE)
-        faults, totals = [], []
-        with open(said, "rb") as lines:
+        totals = []
+        with open(said, "rb") as lines, open(faults, "wb") as to:
             for text in lines:
-                (faults if text.startswith(b'{"fault":') else totals).append(text)
-    return Judged(ran.returncode, ran.stderr, b"".join(faults), b"".join(totals))
+                if text.startswith(b'{"fault":'):
+                    to.write(text)
+                else:
+                    totals.append(text)
+        return Judged(ran.returncode, ran.stderr, kept(faults), b"".join(totals))
 
 
 def ending(judged):
     """How an audit of a part ended, with its totals, and how many bytes its faults have."""
-    return judged._replace(faults=b""), len(judged.faults)
+    return judged._replace(faults=None), judged.faults.size if judged.faults else 0
 
 
 def faults_from(judged, at, size):
     """Some bytes of the faults of a part."""
-    return judged.faults[at : at + size]
+    return judged.faults.part(at, size)

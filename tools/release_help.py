@@ -5,7 +5,7 @@ from typing import List, NamedTuple, Optional, Tuple
 USAGE = re.compile(r"^usage: (.*?)\n\n", re.MULTILINE | re.DOTALL | re.IGNORECASE)
 ARGUMENT = re.compile(r"^  \[(\w+)\]  +(.*)$")
 OPTION = re.compile(r"^ +(?:(-\w), +)?(--[\w-]+)(?: <(\w+)>)?  +(.*)$")
-STATUS = re.compile(r"^  (\d+)  (.*)$")
+STATUS = re.compile(r"^  (\d+)  (.*(?:\n     .*)*)$", re.MULTILINE)
 
 
 class Argument(NamedTuple):
@@ -41,5 +41,5 @@ def help_of(text):
         lines[0], " ".join(USAGE.search(text)[1].split()),
         [Argument(None, None, *it.groups()) for it in map(ARGUMENT.match, lines) if it],
         [Argument(*it.groups()) for it in map(OPTION.match, lines) if it],
-        [it.groups() for it in map(STATUS.match, lines) if it],
+        [(status, " ".join(says.split())) for status, says in STATUS.findall(text)],
     )
