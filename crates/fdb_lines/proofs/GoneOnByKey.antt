@@ -127,7 +127,7 @@ on_by_key margin at lines keys places (line ∷ more) (key ∷ more_keys) same s
     (on_by_key margin at (lines ++ line ∷ []) (keys ++ key ∷ []) (places ++ length lines ∷ []) more more_keys (omega arith) (one_more_by_key margin at lines keys places stand line key))))
 
 -- what stands at some places, and all that comes since
-in_both : {X : Type 0} (xs more : List X) (d : X) (places : List ℕ) → All (λ k. k < length xs) places
+pub in_both : {X : Type 0} (xs more : List X) (d : X) (places : List ℕ) → All (λ k. k < length xs) places
     → map (λ k. get_or (xs ++ more) k d) (places ++ range_with_len (length xs) (length more)) ≡ map (λ k. get_or xs k d) places ++ more
 in_both {X} xs more d places within =
     let at = λ (k : ℕ). get_or (xs ++ more) k d in

@@ -47,6 +47,7 @@ pub mod Permuted
 pub mod OnceTold
 pub mod GoneOn
 pub mod Renumbered
+pub mod SomeLines
 pub mod StandByKey
 pub mod Divided
 pub mod GoneOnByKey

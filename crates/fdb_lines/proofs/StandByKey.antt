@@ -88,7 +88,7 @@ module _ (keys : List (Option ℕ)) (places : List ℕ) (q : Option ℕ) where
 
   module _ (within : All (λ k. k < length keys) places) where
     -- each stands where it is said to
-    kept_are : map (slice_index (places_of keys q)) (kept_of keys places q) ≡ its
+    pub kept_are : map (slice_index (places_of keys q)) (kept_of keys places q) ≡ its
     kept_are =
         map-map (slice_index (places_of keys q)) (place_among keys) its
         ∙ (maps_same (λ k. slice_index (places_of keys q) (place_among keys k)) (λ (k : ℕ). k) its (λ i d lt.

@@ -3,8 +3,8 @@
 ghost use Rattle.std.specs.Prelude.{◌==◌, ℕ, ◌<◌, ◌≤◌, ◌≡◌, ◌≢◌, ◌↔◌, ◌++◌, ◌∷◌, [], List, Option};
 ghost use Rattle.std.specs.Option.{option_eq};
 ghost use Rattle.std.specs.Prelude.{length, map, not, slice_index, true, IfSome, IsTrue, None};
-ghost use Rattle.std.specs.Prelude.{◌-◌, IsPermutation, Some};
-ghost use Rattle.std.specs.List.{filter, flat_map, range_with_len};
+ghost use Rattle.std.specs.Prelude.{◌-◌, All, Bool, IsPermutation, Some};
+ghost use Rattle.std.specs.List.{filter, flat_map, range_with_len, Contains};
 ghost use Rattle.fdb_lines.specs.declared.effect.Effect.{Effect};
 ghost use Rattle.fdb_lines.specs.declared.fault.Fault.{Fault};
 ghost use Rattle.fdb_lines.specs.declared.fault.Fault.TheVariants.{Order, NotAbove, Twice};
@@ -17,6 +17,7 @@ ghost use Rattle.fdb_lines.specs.Audit.{AreExplained, case_of};
 ghost use Rattle.fdb_lines.specs.Before.{began};
 ghost use Rattle.fdb_lines.specs.Carried.{with_times, AreLeftBelow, StandFor};
 ghost use Rattle.fdb_lines.specs.Divided.{faults_by_part, LearnsNothing};
+ghost use Rattle.fdb_lines.specs.KeyParts.{lines_of_one};
 ghost use Rattle.fdb_lines.specs.KeyWatch.{HasSeenByKey};
 ghost use Rattle.fdb_lines.specs.Keys.{case_of_key, faults_by_key, key_at, placed_found};
 ghost use Rattle.fdb_lines.specs.Keys.{places_of};
@@ -325,4 +326,38 @@ pub fn the_faults_of_its_parts_are_those_of_a_log()
         → LearnsNothing log → log.timed ≡ other.timed
         → AreSameButForNumbers log.lines keys other.lines other_keys
         → faults_by_key log keys opts ≡ faults_by_key other other_keys opts }
+{}
+
+/// What some lines of a log tell is true of all of it: each stale read, and each version drawn that is
+/// not above, which an audit of some lines finds, key by key, an audit of all finds too, at the place of
+/// its line among all. So it is of what the first lines tell, of what is told of the lines of one key, of
+/// all or of those that are due, and of what an audit finds that goes on from some lines, whatever lines come behind them, and however
+/// it numbers clients and keys.
+pub fn what_some_lines_tell_is_true_of_all()
+    ensures some { (margin : ℕ) (lines : List Line) (keys : List (Option ℕ)) (places : List ℕ)
+        → length keys ≡ length lines
+        → ((i : ℕ) → i < length places → slice_index places i < length lines)
+        → ((i j : ℕ) → i < j → j < length places → slice_index places i < slice_index places j)
+        → All (λ (found : Found). Contains (audited margin lines keys) (placed_found places found))
+        (audited margin (lines_in lines places) (keys_in keys places)) }
+    ensures first { (margin : ℕ) (lines more : List Line) (keys more_keys : List (Option ℕ))
+        → length keys ≡ length lines → length more_keys ≡ length more
+        → All (Contains (audited margin (lines ++ more) (keys ++ more_keys)))
+        (audited margin lines keys) }
+    ensures of_key { (margin : ℕ) (due : ℕ → Line → Bool) (lines : List Line)
+        (keys : List (Option ℕ)) (key : Option ℕ) → length keys ≡ length lines
+        → All (λ (found : Found).
+        Contains (audited margin lines keys) (placed_found (places_of keys key) found))
+        (told_of margin due (lines_of_one lines keys key)) }
+    ensures gone_on { (margin : ℕ) (lines more others : List Line)
+        (keys more_keys other_keys : List (Option ℕ)) (places : List ℕ)
+        → length keys ≡ length lines → length more_keys ≡ length more
+        → ((i : ℕ) → i < length places → slice_index places i < length lines)
+        → ((i j : ℕ) → i < j → j < length places → slice_index places i < slice_index places j)
+        → AreSameButForNumbers (lines_in lines places ++ more)
+        (keys_in keys places ++ more_keys) others other_keys
+        → let beyond = places ++ range_with_len (length lines) (length more) in
+        All (λ (found : Found).
+        Contains (audited margin (lines ++ more) (keys ++ more_keys)) (placed_found beyond found))
+        (audited margin others other_keys) }
 {}
