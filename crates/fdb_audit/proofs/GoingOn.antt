@@ -1,5 +1,5 @@
 -- A watch goes on from what it keeps, with what it has counted and told.
-use Rattle.std.proofs.Common.{◌≡◌, ◌∙◌, ◌+◌, ◌++◌, ◌∷◌, [], ℕ, List, None, Option, Some, Result, ap, append-nil, is_some, length, map, option_map, option_to_list, refl, string_bytes, subst, sym}
+use Rattle.std.proofs.Common.{◌≡◌, ◌∙◌, ◌+◌, ◌++◌, ◌∷◌, [], ℕ, Bool, IsPermutation, List, None, Option, Some, Result, ap, append-nil, is_some, length, map, option_map, option_to_list, refl, string_bytes, subst, sym}
 use Rattle.std.specs.Option.{option_or}
 use Rattle.fdb_lines.specs.declared.fault.Found.{Found}
 use Rattle.fdb_lines.specs.declared.key_watch.KeyWatch.{KeyWatch}
@@ -11,8 +11,8 @@ use Rattle.fdb_log_reader.specs.Printed.{printed}
 use Rattle.fdb_log_reader.specs.ReadLine.{LineNames, SaidLine, lines_read, member_in, names_behind, no_names}
 use Rattle.fdb_log_reader.specs.Reading.{EndsALine, lines_in}
 use Rattle.fdb_audit.specs.Following.{AreWindows, Before, Counted, Start, Window, counted_on, faults_told, told_in_all}
-use Rattle.fdb_audit.specs.GoingOn.{GoesOn, counted_before}
-use Rattle.fdb_audit.specs.Kept.{Keeps, kept_said, lines_kept, start_from, start_of}
+use Rattle.fdb_audit.specs.GoingOn.{GoesOn, MayForget, counted_before, places_staying}
+use Rattle.fdb_audit.specs.Kept.{KeepsLines, kept_said, lines_kept, start_from, start_of}
 use Rattle.fdb_audit.specs.Taken.{AreTaken, HasTotals, HasTotalsIn, IsCarried, counted_of}
 use Rattle.fdb_audit.specs.Watched.{AskForTheSame, HasFollowed, lines_asked, members_asked, names_asked}
 use Rattle.fdb_audit.specs.declared.arguments.AuditArguments.{AuditArguments}
@@ -24,6 +24,7 @@ use Rattle.fdb_audit.specs.declared.teller.Teller.{Teller}
 use Rattle.fdb_audit.specs.declared.told_faults.ToldFaults.{ToldFaults}
 use Rattle.fdb_audit.specs.private.Followed.{CountsBehind, HasGoneOn, IsQuiet, TakesPlace}
 use Rattle.fdb_audit.proofs.Following.{last_on}
+use Rattle.fdb_audit.proofs.Forgotten.{keeps_all}
 use Rattle.fdb_audit.proofs.KeptTexts.{StaysInOne, all_read, ends_so, member_followed}
 use Rattle.fdb_audit.proofs.SettledOn.{believes_else}
 
@@ -147,13 +148,14 @@ module _ (asked : AuditArguments) (start : Start) (old next new : Follower) (byt
   abbrev on : Start
   on = record (start_of asked start.behind kept) { before = counted_before start has.read has.telling.windows old.taking }
 
-  goes_on : Keeps (option_map string_bytes asked.key) (line_names old.reader) start.numbers old.taking has.read kept → EndsALine bytes
+  goes_on : (stays : Option ℕ → Bool) → MayForget asked.forget stays
+      → KeepsLines (places_staying stays has.read old.taking) (option_map string_bytes asked.key) (line_names old.reader) start.numbers old.taking has.read kept → EndsALine bytes
       → (start_of asked start.behind kept).from ≡ old.taking.watch.from → GoesOn asked start bytes told kept on
-  goes_on keeps ends from =
+  goes_on stays forgets keeps ends from =
       let is = has.telling in
       let Its = λ (read : List (Result SaidLine Why)) (names : LineNames). AreTaken start old.taking read (start.told ++ told_in_all read is.windows)
       × (AreWindows start.numbers asked.opts.margin asked.wanted read names.clients is.windows told
-      × (Keeps (option_map string_bytes asked.key) names start.numbers old.taking read kept
+      × (KeepsLines (places_staying stays read old.taking) (option_map string_bytes asked.key) names start.numbers old.taking read kept
       × (on ≡ record (start_of asked start.behind kept) { before = counted_before start read is.windows old.taking }))) in
       let silent : told ++ string_bytes old.teller.text ≡ told = ap (λ text. told ++ text) quiet.text ∙ append-nil told in
       let all : Its (lines_asked asked bytes) (names_asked asked bytes) =
@@ -166,6 +168,8 @@ module _ (asked : AuditArguments) (start : Start) (old next new : Follower) (byt
         margin = is.margin;
         taken = all.0;
         tells = all.1.0;
+        stays = stays;
+        forgets = forgets;
         keeps = all.1.1.0;
         ends = ends;
         from = from;
@@ -219,32 +223,33 @@ module _ (asked : AuditArguments) (start : Start) (old next new : Follower) (byt
           subst (λ (counted : Option ToldFaults). HasTotalsIn new.teller.wanted.totals (members_asked asked) counted told_all) (sym (ap (λ (teller : Teller). teller.told) place.teller))
           (subst (λ (wanted : Wanted). HasTotalsIn wanted.totals (members_asked asked) old.teller.told told_all) (sym wanted) has.telling.are.totals)
 
-  pub gone_on : Keeps (option_map string_bytes asked.key) (line_names old.reader) start.numbers old.taking has.read kept → EndsALine bytes
+  pub gone_on : (stays : Option ℕ → Bool) → MayForget asked.forget stays
+      → KeepsLines (places_staying stays has.read old.taking) (option_map string_bytes asked.key) (line_names old.reader) start.numbers old.taking has.read kept → EndsALine bytes
       → (start_of asked start.behind kept).from ≡ old.taking.watch.from
       → (restored : HasFollowed asked (start_of asked start.behind kept) next kept []) → restored.telling.windows ≡ [] → TakesPlace old next new → HasGoneOn asked start new bytes told
-  gone_on keeps ends from restored none place = (kept, on, goes_on keeps ends from, followed_on restored none place)
+  gone_on stays forgets keeps ends from restored none place = (kept, on, goes_on stays forgets keeps ends from, followed_on restored none place)
 
 -- by one that was restored as this one is asked for
 pub gone_on_by : (asked given : AuditArguments) → AskForTheSame asked given → (start : Start) (old next new : Follower) (bytes told kept : List ℕ) (has : HasFollowed asked start old bytes told) → IsQuiet old
-    → Keeps (option_map string_bytes asked.key) (line_names old.reader) start.numbers old.taking has.read kept → EndsALine bytes
+    → (stays : Option ℕ → Bool) → MayForget given.forget stays
+    → KeepsLines (places_staying stays has.read old.taking) (option_map string_bytes asked.key) (line_names old.reader) start.numbers old.taking has.read kept → EndsALine bytes
     → (restored : HasFollowed given (start_of given old.behind kept) next kept []) × (restored.telling.windows ≡ []) → next.taking.watch.from ≡ (start_of given old.behind kept).from
     → next.taking.watch.from ≡ old.taking.watch.from → TakesPlace old next new → HasGoneOn asked start new bytes told
-gone_on_by asked given same start old next new bytes told kept has quiet keeps ends restored moment still place =
+gone_on_by asked given same start old next new bytes told kept has quiet stays forgets keeps ends restored moment still place =
     let begun : start_of given old.behind kept ≡ start_of asked start.behind kept =
     start_same asked given same old.behind kept ∙ ap (λ behind. start_of asked behind kept) has.telling.behind in
     let (so, none) : (has : HasFollowed given (start_of asked start.behind kept) next kept []) × (has.telling.windows ≡ []) =
     subst (λ start. (has : HasFollowed given start next kept []) × (has.telling.windows ≡ [])) begun restored in
     let (as_asked, windows) = followed_same asked given same (start_of asked start.behind kept) next kept [] so in
-    gone_on asked start old next new bytes told kept has quiet keeps ends (sym (ap (λ (start : Start). start.from) begun) ∙ (sym moment ∙ still)) as_asked (windows ∙ none) place
+    gone_on asked start old next new bytes told kept has quiet stays (record { unkeyed = forgets.unkeyed; all = λ none. forgets.all (same.forget ∙ none) }) keeps ends (sym (ap (λ (start : Start). start.from) begun) ∙ (sym moment ∙ still)) as_asked (windows ∙ none) place
 
--- the text that keeps lines keeps those that were read, by the member that has the keys
+-- the text that keeps lines keeps those that were read, by the member that has the keys, in whatever order they are named
 pub kept_so : (asked : AuditArguments) (start : Start) (old : Follower) (bytes told kept : List ℕ) (has : HasFollowed asked start old bytes told) → StaysInOne
-    → ((start : Start) (read : List (Result SaidLine Why)) (told : List Found) → AreTaken start old.taking read told
-    → Keeps (member_in (line_names old.reader)) (line_names old.reader) start.numbers old.taking read kept)
-    → Keeps (option_map string_bytes asked.key) (line_names old.reader) start.numbers old.taking has.read kept
-kept_so asked start old bytes told kept has stays says =
-    subst (λ key. Keeps key (line_names old.reader) start.numbers old.taking has.read kept) (member_followed asked start old bytes told has stays)
-    (says start has.read (start.told ++ told_in_all has.read has.telling.windows) has.telling.taken)
+    → (wanted are : List ℕ) → IsPermutation wanted are
+    → KeepsLines are (member_in (line_names old.reader)) (line_names old.reader) start.numbers old.taking has.read kept
+    → KeepsLines wanted (option_map string_bytes asked.key) (line_names old.reader) start.numbers old.taking has.read kept
+kept_so asked start old bytes told kept has stays wanted are same keeps =
+    subst (λ key. KeepsLines wanted key (line_names old.reader) start.numbers old.taking has.read kept) (member_followed asked start old bytes told has stays) (keeps_all are same keeps)
 
 -- and a text of which nothing is pending ends where a line does
 pub ends_there : (asked : AuditArguments) (start : Start) (old : Follower) (bytes told : List ℕ) → HasFollowed asked start old bytes told → length (lines_on old.reader (32 ∷ [])) ≡ 1

@@ -4,7 +4,7 @@ use Rattle.std.specs.List.{All, flat_map, range_with_len}
 use Rattle.std.specs.Prelude.{count_by, nat_lt, IfOk}
 use Rattle.std.proofs.lemmas.List.{length-map, map-append, take-append-drop}
 use Rattle.std.proofs.lemmas.List.Elements.{All-append, All-cons, All-nil}
-use Rattle.std.proofs.lemmas.List.Sorted.{IsPermutation-refl}
+use Rattle.std.proofs.lemmas.List.Sorted.{IsPermutation-refl, IsPermutation-trans}
 use Rattle.fdb_lines.specs.declared.fault.Found.{Found}
 use Rattle.fdb_lines.specs.declared.key_part.KeyPart.{KeyPart}
 use Rattle.fdb_lines.specs.declared.key_watch.KeyWatch.{KeyWatch}
@@ -25,10 +25,11 @@ use Rattle.fdb_log_reader.specs.Reading.{EndsALine, lines_in}
 use Rattle.fdb_audit.specs.declared.arguments.AuditArguments.{AuditArguments}
 use Rattle.fdb_audit.specs.declared.taking.Taking.{Taking}
 use Rattle.fdb_audit.specs.Following.{Start, early_at, keys_taken, lines_since, lines_taken, taken, told_in_all}
-use Rattle.fdb_audit.specs.Kept.{Keeps, kept_said, lines_kept, named, named_at, start_of}
+use Rattle.fdb_audit.specs.Kept.{KeepsLines, kept_said, lines_kept, named, named_at, places_kept, start_of}
 use Rattle.fdb_audit.specs.Pieces.{AreWatched, MayGoOn, Piece, all_bytes, audited_in, places_beyond}
 use Rattle.fdb_audit.specs.Taken.{AreTaken}
 use Rattle.fdb_audit.specs.Watched.{lines_asked, names_asked}
+use Rattle.fdb_audit.proofs.Forgotten.{keeps_all}
 use Rattle.fdb_audit.proofs.KeptTexts.{StaysInOne, early_on, member_asked, taken_on}
 use Rattle.fdb_audit.proofs.ReadOn.{all_front, all_grown, behind_on, drop_front, early_named, in_time, keys_taken_on, lines_taken_on, named_somes, numbered_at, read_on, somes, taken_all}
 use Rattle.fdb_audit.proofs.SaysWhen.{StandsForAll, none_before, none_early}
@@ -115,7 +116,7 @@ still_same {lines} {lines_so} {others} {others_so} {keys} {keys_so} {other_keys}
 
 module _ (known : Known) (asked : AuditArguments) (start : Start) (behind : ℕ) (piece kept next : List ℕ) (taking : Taking) (told now : List Found)
     (are : AreTaken start taking (lines_asked asked piece) told)
-    (keeps : Keeps (option_map string_bytes asked.key) (names_asked asked piece) start.numbers taking (lines_asked asked piece) kept) (goes : MayGoOn asked piece kept next) where
+    (wanted : List ℕ) (keeps : KeepsLines wanted (option_map string_bytes asked.key) (names_asked asked piece) start.numbers taking (lines_asked asked piece) kept) (goes : MayGoOn asked piece kept next) where
   abbrev read : List (Result SaidLine Why)
   read = lines_asked asked piece
 
@@ -215,7 +216,7 @@ module _ (known : Known) (asked : AuditArguments) (start : Start) (behind : ℕ)
   keys_there [] = refl
   keys_there (place ∷ places) = let rest = keys_there places in (λ i. sym (key_is (taken read) place) i ∷ rest i)
 
-  same : AreSameButForNumbers (lines_at (lines_taken read) keeps.places ++ lines_taken more) (keys_in (keys_taken read) keeps.places ++ keys_taken more)
+  pub same : AreSameButForNumbers (lines_at (lines_taken read) keeps.places ++ lines_taken more) (keys_in (keys_taken read) keeps.places ++ keys_taken more)
       (lines_taken front ++ lines_taken back) (keys_taken front ++ keys_taken back)
   same =
       let lines = map-append line_of at_places (taken more) ∙ ap (λ (list : List Line). list ++ lines_taken more) (lines_there keeps.places) in
@@ -224,9 +225,32 @@ module _ (known : Known) (asked : AuditArguments) (start : Start) (behind : ℕ)
       let keys_too = map-append key_of (taken front) (taken back) in
       still_same lines keys lines_too keys_too all_same
 
+  -- what an audit finds of them, and of both pieces
+  pub again_on : (margin : ℕ) → audited margin (lines_taken (lines_asked asked (kept ++ next))) (keys_taken (lines_asked asked (kept ++ next)))
+      ≡ audited margin (lines_taken front ++ lines_taken back) (keys_taken front ++ keys_taken back)
+  again_on margin =
+      let lines = lines_taken_on front back in
+      let keys = keys_taken_on front back in
+      ap (λ (list : List (Result SaidLine Why)). audited margin (lines_taken list) (keys_taken list)) (read_both known asked kept next keeps.ends ∙ in_parts)
+      ∙ (λ i. audited margin (lines i) (keys i))
+
+  pub both_on : (margin : ℕ) → audited margin (lines_taken read ++ lines_taken more) (keys_taken read ++ keys_taken more)
+      ≡ audited margin (lines_taken (lines_asked asked (piece ++ next))) (keys_taken (lines_asked asked (piece ++ next)))
+  both_on margin =
+      let lines = sym (lines_taken_on read more) in
+      let keys = sym (keys_taken_on read more) in
+      (λ i. audited margin (lines i) (keys i))
+      ∙ ap (λ (list : List (Result SaidLine Why)). audited margin (lines_taken list) (keys_taken list)) (sym (read_both known asked piece next goes.ends))
+
+  pub many : length (lines_taken more) ≡ length (lines_taken (lines_asked asked (piece ++ next))) - length (lines_taken read)
+  many =
+      let all = ap (λ (list : List (Result SaidLine Why)). length (lines_taken list)) (read_both known asked piece next goes.ends) in
+      let both = ap length (lines_taken_on read more) ∙ length-append (lines_taken read) (lines_taken more) in
+      omega (arith, all, both)
+
   -- ---- where no line came early
 
-  module _ (margin : taking.watch.margin ≡ asked.opts.margin) (from : on.from ≡ taking.watch.from) (start_early : start.early ≡ 0) (early : taking.counts.early ≡ 0)
+  module _ (all : IsPermutation (places_kept taking.watch) wanted) (margin : taking.watch.margin ≡ asked.opts.margin) (from : on.from ≡ taking.watch.from) (start_early : start.early ≡ 0) (early : taking.counts.early ≡ 0)
       (late : early_at on.from (lines_since on (lines_asked asked (kept ++ next))) ≡ 0)
       (whole : IsPermutation (on.told ++ now) (audited_in asked (kept ++ next))) where
     rest_in_time : early_at on.from (lines_taken rest) ≡ 0
@@ -238,7 +262,7 @@ module _ (known : Known) (asked : AuditArguments) (start : Start) (behind : ℕ)
     back_in_time : early_at on.from (lines_taken back) ≡ 0
     back_in_time =
         let both = early_on on.from (drop count again) rest in
-        let one = none_early known.stand asked start behind piece kept taking are keeps start_early early in
+        let one = none_early known.stand asked start behind piece kept taking are (keeps_all wanted all keeps) start_early early in
         let other = rest_in_time in
         omega (arith, both, one, other)
 
@@ -253,12 +277,7 @@ module _ (known : Known) (asked : AuditArguments) (start : Start) (behind : ℕ)
         (subst (λ at. IsPermutation on.told (audited_to asked.opts.margin at (lines_taken front) (keys_taken front))) from (IsPermutation-refl on.told))
 
     is_told : IsPermutation (on.told ++ now) (audited taking.watch.margin (lines_taken front ++ lines_taken back) (keys_taken front ++ keys_taken back))
-    is_told =
-        let lines = lines_taken_on front back in
-        let keys = keys_taken_on front back in
-        subst (IsPermutation (on.told ++ now))
-        (ap (λ (list : List (Result SaidLine Why)). audited asked.opts.margin (lines_taken list) (keys_taken list)) (read_both known asked kept next keeps.ends ∙ in_parts)
-        ∙ (λ i. audited (sym margin i) (lines i) (keys i))) whole
+    is_told = subst (IsPermutation (on.told ++ now)) (again_on asked.opts.margin ∙ ap (λ margin. audited margin (lines_taken front ++ lines_taken back) (keys_taken front ++ keys_taken back)) (sym margin)) whole
 
     told_there : let beyond = keeps.places ++ range_with_len (length (lines_taken read)) (length (lines_taken more)) in
         IsPermutation (told ++ map (placed_found beyond) now) (audited taking.watch.margin (lines_taken read ++ lines_taken more) (keys_taken read ++ keys_taken more))
@@ -266,26 +285,17 @@ module _ (known : Known) (asked : AuditArguments) (start : Start) (behind : ℕ)
         let line_size = λ (list : List (Result SaidLine Why)). length-map (taken list) line_of in
         let key_size = λ (list : List (Result SaidLine Why)). length-map (taken list) key_of in
         known.rest taking.watch (lines_taken read) (lines_taken more) (lines_taken front) (lines_taken back)
-        (keys_taken read) (keys_taken more) (keys_taken front) (keys_taken back) keeps.places told on.told now are.seen (are.once start_early early) keeps.all keeps.rise
+        (keys_taken read) (keys_taken more) (keys_taken front) (keys_taken back) keeps.places told on.told now are.seen (are.once start_early early) (IsPermutation-trans (places_kept taking.watch) wanted keeps.places all keeps.all) keeps.rise
         (key_size more ∙ sym (line_size more)) (key_size front ∙ sym (line_size front)) (key_size back ∙ sym (line_size back))
         (λ j lt. subst (λ at. at ≤ began (line_at (lines_taken more) j)) from (in_time on.from (lines_taken more) more_in_time j lt))
         (λ j lt. subst (λ at. at ≤ began (line_at (lines_taken back) j)) from (in_time on.from (lines_taken back) back_in_time j lt))
         same was_told is_told
 
-    many : length (lines_taken more) ≡ length (lines_taken (lines_asked asked (piece ++ next))) - length (lines_taken read)
-    many =
-        let all = ap (λ (list : List (Result SaidLine Why)). length (lines_taken list)) (read_both known asked piece next goes.ends) in
-        let both = ap length (lines_taken_on read more) ∙ length-append (lines_taken read) (lines_taken more) in
-        omega (arith, all, both)
-
     pub told_as_by_one : IsPermutation (told ++ map (placed_found (places_beyond asked piece next keeps.places)) now) (audited_in asked (piece ++ next))
     told_as_by_one =
-        let lines = sym (lines_taken_on read more) in
-        let keys = sym (keys_taken_on read more) in
         subst (λ count. IsPermutation (told ++ map (placed_found (keeps.places ++ range_with_len (length (lines_taken read)) count)) now) (audited_in asked (piece ++ next))) many
         (subst (IsPermutation (told ++ map (placed_found (keeps.places ++ range_with_len (length (lines_taken read)) (length (lines_taken more)))) now))
-        ((λ i. audited (margin i) (lines i) (keys i))
-        ∙ ap (λ (list : List (Result SaidLine Why)). audited asked.opts.margin (lines_taken list) (keys_taken list)) (sym (read_both known asked piece next goes.ends))) told_there)
+        (ap (λ margin. audited margin (lines_taken read ++ lines_taken more) (keys_taken read ++ keys_taken more)) margin ∙ both_on asked.opts.margin) told_there)
 
     -- nor has any line of both pieces come early
     pub still_in_time : early_at start.from (lines_since start (lines_asked asked (piece ++ next))) ≡ 0
@@ -328,8 +338,8 @@ all_told known asked (piece ∷ pieces) start bytes told start_early (text, kept
     let first = told_in_all (lines_asked asked bytes) one.followed.windows in
     let others_told = map (placed_found (places_beyond asked bytes next one.keeps.places)) rest in (
       subst (λ told. IsPermutation told (audited_in asked (bytes ++ next))) (append_assoc start.told first others_told ∙ ap (λ (told : List Found). start.told ++ told) (sym is))
-          (told_as_by_one known asked start piece.behind bytes kept next one.taking (start.told ++ first) rest one.taken one.keeps goes one.margin from start_early none late all),
-      still_in_time known asked start piece.behind bytes kept next one.taking (start.told ++ first) rest one.taken one.keeps goes one.margin from start_early none late all,
+          (told_as_by_one known asked start piece.behind bytes kept next one.taking (start.told ++ first) rest one.taken (places_kept one.taking.watch) one.keeps goes (IsPermutation-refl (places_kept one.taking.watch)) one.margin from start_early none late all),
+      still_in_time known asked start piece.behind bytes kept next one.taking (start.told ++ first) rest one.taken (places_kept one.taking.watch) one.keeps goes (IsPermutation-refl (places_kept one.taking.watch)) one.margin from start_early none late all,
     )
 
 pub pieces_told : (known : Known) (asked : AuditArguments) (start : Start) (bytes : List ℕ) (pieces : List Piece) (told : List Found) → start.early ≡ 0

@@ -217,7 +217,7 @@ found_in : (margin : ℕ) (to : Option ℕ) (read : List (Result SaidLine Why)) 
     → IsFoundIn margin (lines_of_one (lines_taken read) (keys_taken read) part.key) (window_of to read names entry part beside)
 found_in margin to read names entry part beside same told =
     subst (λ m. IsFoundIn m (lines_of_one (lines_taken read) (keys_taken read) part.key) (window_of to read names entry part beside)) same
-    (record { told = told.told.told; reasons = told.told.reasons; late = told.told.late })
+    (record { told = told.told.told; reasons = told.told.reasons; late = told.told.late; within = told.told.within })
 
 -- what is shown of lines
 abbrev pub log_with : List Line → List (List ℕ) → List ℕ → List Beside → PrintedLog

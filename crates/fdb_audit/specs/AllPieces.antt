@@ -1,5 +1,5 @@
 -- What a watch that has gone on tells of all that it read. (this product's own)
-use Rattle.std.specs.Prelude.{◌≡◌, ℕ, zero, suc, ◌++◌, true, List, Option, map}
+use Rattle.std.specs.Prelude.{◌≡◌, ℕ, zero, suc, ◌++◌, true, List, Option, map, ⊤}
 use Rattle.fdb_lines.specs.declared.fault.Found.{Found}
 use Rattle.fdb_lines.specs.Keys.{placed_found}
 use Rattle.fdb_log_reader.specs.declared.error.ReadError.{ReadError}
@@ -21,6 +21,13 @@ told_of_pieces asked found refused last_early zero start bytes text last = told_
 told_of_pieces asked found refused last_early (suc times) start bytes text (piece, rest, first, more, told, kept, bytes_are, text_is, next, goes, told_with, left) =
     told_in_all (lines_asked asked piece) goes.windows
     ++ map (placed_found (places_beyond asked piece rest goes.keeps.places)) (told_of_pieces asked found refused last_early times next (kept ++ rest) more left)
+
+-- There is room for the names of each.
+abbrev pub HaveRoom : (asked : AuditArguments) (found : Option LogFault) (refused : Option ReadError) (last_early : Option ℕ) (times : ℕ) (start : Start) (bytes text : List ℕ)
+    → Pieces asked found refused last_early times start bytes text → Type 0
+HaveRoom asked found refused last_early zero start bytes text last = ⊤
+HaveRoom asked found refused last_early (suc times) start bytes text (piece, rest, first, more, told, kept, bytes_are, text_is, next, goes, told_with, left) =
+    MayGoOn asked piece kept rest × HaveRoom asked found refused last_early times next (kept ++ rest) more left
 
 -- No line came early to any of them, and there is room for the names of each.
 abbrev pub AreInTime : (asked : AuditArguments) (found : Option LogFault) (refused : Option ReadError) (last_early : Option ℕ) (times : ℕ) (start : Start) (bytes text : List ℕ)

@@ -1,5 +1,5 @@
 -- What is told of a log that is followed as it grows. (this product's own)
-use Rattle.std.specs.Prelude.{◌≡◌, ℕ, zero, suc, ◌+◌, ◌-◌, ◌^◌, ◌≤◌, ◌||◌, nat_le, not, Bool, true, false, List, [], ◌∷◌, ◌++◌, All, Option, None, Some, codes, count_by, drop, length, map, min, nat_lt, option_map, slice_get, slice_index, take, unwrap_or, Result, Ok, Err, if◌then◌else◌}
+use Rattle.std.specs.Prelude.{◌≡◌, ℕ, zero, suc, ◌+◌, ◌-◌, ◌^◌, ◌<◌, ◌≤◌, ◌||◌, nat_le, not, Bool, true, false, List, [], ◌∷◌, ◌++◌, All, Option, None, Some, codes, count_by, drop, length, map, min, nat_lt, option_map, slice_get, slice_index, take, unwrap_or, Result, Ok, Err, if◌then◌else◌}
 use Rattle.std.specs.List.{flat_map}
 use Rattle.std.specs.Option.{option_or}
 use Rattle.fdb_lines.specs.declared.fault.Found.{Found}
@@ -171,6 +171,7 @@ pub record IsFoundIn (margin : ℕ) (lines : List Line) (window : Window) : Type
       ≡ told_of margin (is_due window.from window.early window.since window.to) lines
   pub reasons : All (λ finding. HasReason (with_times lines) (opts_of margin) (placed_finding window.kept finding)) window.found
   pub late : All (λ finding. HasLateSince window.early (with_times lines) (opts_of margin) (placed_finding window.kept finding)) window.found
+  pub within : All (λ finding. finding.found.line < length window.kept) window.found
 
 -- the places of those lines among all that were taken
 abbrev pub places_in : List (Result SaidLine Why) → Window → List ℕ

@@ -1,11 +1,13 @@
 -- A watch that goes on from what it keeps, where the names that it holds have become many. (this product's own)
-use Rattle.std.specs.Prelude.{◌≡◌, ℕ, ◌+◌, ◌++◌, List, Result, option_map, string_bytes}
+use Rattle.std.specs.Prelude.{◌≡◌, ℕ, ◌+◌, ◌++◌, Bool, List, None, Option, Result, option_map, string_bytes, true}
+use Rattle.std.specs.List.{filter}
 use Rattle.std.specs.Option.{option_or}
+use Rattle.fdb_lines.specs.Keys.{key_at}
 use Rattle.fdb_log_reader.specs.declared.error.Why.{Why}
 use Rattle.fdb_log_reader.specs.ReadLine.{SaidLine}
 use Rattle.fdb_log_reader.specs.Reading.{EndsALine}
-use Rattle.fdb_audit.specs.Following.{AreWindows, Before, Start, Window, counted_on, faults_told, first_told, last_refused, told_in_all}
-use Rattle.fdb_audit.specs.Kept.{Keeps, start_of}
+use Rattle.fdb_audit.specs.Following.{AreWindows, Before, Start, Window, counted_on, faults_told, first_told, keys_taken, last_refused, told_in_all}
+use Rattle.fdb_audit.specs.Kept.{KeepsLines, places_kept, start_of}
 use Rattle.fdb_audit.specs.Taken.{AreTaken, counted_of}
 use Rattle.fdb_audit.specs.Watched.{lines_asked, names_asked}
 use Rattle.fdb_audit.specs.declared.arguments.AuditArguments.{AuditArguments}
@@ -21,15 +23,26 @@ counted_before start read windows taking = record {
   told = start.before.told ++ faults_told read windows;
 }
 
+-- Of what a watch keeps, the places of the lines whose keys stay.
+abbrev pub places_staying : (Option ℕ → Bool) → List (Result SaidLine Why) → Taking → List ℕ
+places_staying stays read taking = filter (λ place. stays (key_at (keys_taken read) place)) (places_kept taking.watch)
+
+-- Lines without a key stay, and where no key is to be forgotten, all do.
+pub record MayForget (forget : Option ℕ) (stays : Option ℕ → Bool) : Type 0 where
+  pub unkeyed : stays None ≡ true
+  pub all : forget ≡ None → (key : Option ℕ) → stays key ≡ true
+
 -- A watch goes on where a line of these bytes ends: it has told this text of them, and from now on it is as one that was restored from
--- the text that keeps its lines, with what it has counted. This text says up to when all was told.
+-- the text that keeps its lines, but for those of keys that it forgets, with what it has counted. This text says up to when all was told.
 pub record GoesOn (asked : AuditArguments) (start : Start) (bytes told kept : List ℕ) (next : Start) : Type 0 where
   pub taking : Taking
   pub windows : List Window
   pub margin : taking.watch.margin ≡ asked.opts.margin
   pub taken : AreTaken start taking (lines_asked asked bytes) (start.told ++ told_in_all (lines_asked asked bytes) windows)
   pub tells : AreWindows start.numbers asked.opts.margin asked.wanted (lines_asked asked bytes) (names_asked asked bytes).clients windows told
-  pub keeps : Keeps (option_map string_bytes asked.key) (names_asked asked bytes) start.numbers taking (lines_asked asked bytes) kept
+  pub stays : Option ℕ → Bool
+  pub forgets : MayForget asked.forget stays
+  pub keeps : KeepsLines (places_staying stays (lines_asked asked bytes) taking) (option_map string_bytes asked.key) (names_asked asked bytes) start.numbers taking (lines_asked asked bytes) kept
   pub ends : EndsALine bytes
   pub from : next.from ≡ taking.watch.from
   pub next_is : next ≡ record (start_of asked start.behind kept) { before = counted_before start (lines_asked asked bytes) windows taking }

@@ -1,5 +1,5 @@
 -- What a text says that has the lines which are kept of a log that is followed. (this product's own)
-use Rattle.std.specs.Prelude.{◌≡◌, ℕ, ◌+◌, ◌-◌, ◌<◌, nat_lt, false, IsPermutation, List, [], ◌∷◌, ◌++◌, Option, codes, count_by, drop, is_some, length, map, option_and_then, option_map, slice_get, slice_index, string_bytes, take, unwrap_or, Result, if◌then◌else◌}
+use Rattle.std.specs.Prelude.{◌≡◌, ℕ, ◌+◌, ◌-◌, ◌<◌, nat_lt, false, All, IsPermutation, List, [], ◌∷◌, ◌++◌, Option, codes, count_by, drop, is_some, length, map, option_and_then, option_map, slice_get, slice_index, string_bytes, take, unwrap_or, Result, if◌then◌else◌}
 use Rattle.std.specs.List.{flat_map}
 use Rattle.std.specs.Option.{option_flatten}
 use Rattle.fdb_lines.specs.declared.key_part.KeyPart.{KeyPart}
@@ -103,18 +103,23 @@ places_kept watch = flat_map (λ (part : KeyPart). part.numbers.items) watch.par
 abbrev pub Rise : List ℕ → Type 0
 Rise places = (i j : ℕ) → i < j → j < length places → slice_index places i < slice_index places j
 
--- A text says which lines are kept, in the order in which they came, each once and under its number, how many lines were read, and
--- up to when all was told; and of each line, whatever is shown of it, what it said when it was taken, by these names. Each of its
--- lines is one of them, and it ends where a line does.
-pub record Keeps (key : Option (List ℕ)) (names : LineNames) (before : KeptNumbers) (taking : Taking) (read : List (Result SaidLine Why)) (text : List ℕ)
+-- A text says which lines are kept, those at some places, in the order in which they came, each once and under its number, how
+-- many lines were read, and up to when all was told; and of each line, whatever is shown of it, what it said when it was taken, by
+-- these names. Each of its lines is one of them, and it ends where a line does.
+pub record KeepsLines (kept : List ℕ) (key : Option (List ℕ)) (names : LineNames) (before : KeptNumbers) (taking : Taking) (read : List (Result SaidLine Why)) (text : List ℕ)
     : Type 0 where
   pub places : List ℕ
-  pub all : IsPermutation (places_kept taking.watch) places
+  pub all : IsPermutation kept places
+  pub within : All (λ place. place < length (taken read)) places
   pub rise : Rise places
   pub said : kept_said (lines_kept key text) ≡ kept_at before read places taking.settled taking.watch.from
   pub lines : (shown : List (List ℕ)) → named_in key shown text ≡ map (named_at names read) places
   pub whole : length (lines_in text) ≡ length places
   pub ends : EndsALine text
+
+-- the lines that a watch keeps, all of them
+abbrev pub Keeps : Option (List ℕ) → LineNames → KeptNumbers → Taking → List (Result SaidLine Why) → List ℕ → Type 0
+Keeps key names before taking read text = KeepsLines (places_kept taking.watch) key names before taking read text
 
 -- A watch has stopped: what it has told of these bytes, and by what it goes on from them, which a text keeps.
 pub record IsStopped (asked : AuditArguments) (start : Start) (bytes text : List ℕ) (found : Option LogFault) (last_early : Option ℕ) (kept : List ℕ) : Type 0 where

@@ -32,13 +32,14 @@ use Rattle.fdb_audit.specs.Progress.{HasPrinted, IsPrinted}
 abbrev pub text_rule : Text → Rule
 text_rule name = record (new_rule name) { long = Some name; value_names = 1 }
 
--- LOGS, --version, --complete START, --margin N, --follow N, --keep FILE, --position MEMBER, --key MEMBER, --show MEMBER,MEMBER, --numbers MEMBER, --all, --summary, --json, --history and --progress
+-- LOGS, --version, --complete START, --margin N, --follow N, --forget N, --keep FILE, --position MEMBER, --key MEMBER, --show MEMBER,MEMBER, --numbers MEMBER, --all, --summary, --json, --history and --progress
 abbrev pub command : App
 command = versioned_command_of (codes "fdb_audit")
     (file_rule
     ∷ number_rule (codes "complete") (pos 0) (pos 9223372036854775807)
     ∷ number_rule (codes "margin") (pos 0) (pos 9223372036854775807)
     ∷ number_rule (codes "follow") (pos 0) (pos 9223372036854775807)
+    ∷ number_rule (codes "forget") (pos 0) (pos 9223372036854775807)
     ∷ text_rule (codes "keep") ∷ text_rule (codes "position") ∷ text_rule (codes "key") ∷ text_rule (codes "show") ∷ text_rule (codes "numbers") ∷ flag_rule (codes "all") ∷ flag_rule (codes "summary") ∷ flag_rule (codes "json") ∷ flag_rule (codes "history") ∷ flag_rule (codes "progress") ∷ [])
 
 -- the number that an argument gives, if it is given
@@ -69,6 +70,7 @@ pub record IsAsked (arguments : List Text) (asked : AuditArguments) : Type 0 whe
   pub complete : asked.opts.complete ≡ number_named (codes "complete") arguments
   pub margin : asked.opts.margin ≡ unwrap_or (number_named (codes "margin") arguments) 0
   pub follow : asked.follow ≡ number_named (codes "follow") arguments
+  pub forget : asked.forget ≡ number_named (codes "forget") arguments
   pub wanted : IsWanted arguments asked.wanted
   pub keep : option_map string_bytes asked.keep ≡ first_of (codes "keep") (matches_of command arguments)
   pub position : option_map string_bytes asked.position ≡ first_of (codes "position") (matches_of command arguments)
@@ -146,7 +148,7 @@ RefusesBy (Some behind) asked bytes (Early number) =
     × IsPrinted asked (started asked behind kept) (not (is_some asked.keep)) (kept ++ bytes) text found None (Some number)
 RefusesBy (Some behind) asked bytes (Of_kept refused) = is_some asked.keep ≡ true
 
--- Neither --complete nor --history suits --follow, --keep suits nothing else, --position suits --keep alone, and --numbers suits neither --follow nor --history. It prints what an audit of the log finds that the bytes stand for,
+-- Neither --complete nor --history suits --follow, --keep suits nothing else, --position suits --keep alone, --forget suits --follow with --key alone, and --numbers suits neither --follow nor --history. It prints what an audit of the log finds that the bytes stand for,
 -- and refuses what stands for none; that memory was refused says nothing of the bytes. Whatever it finds, it prints. Of
 -- a log that is followed it says on standard error which lines it leaves out.
 abbrev pub audit : Promise AuditArguments AuditIntake LogsRefused LogFault
@@ -157,8 +159,10 @@ audit = record {
       && (is_some (number_named (codes "complete") arguments) || is_given (codes "history") arguments)
       || ((is_some (first_of (codes "keep") (matches_of command arguments)) && not (is_some (number_named (codes "follow") arguments)))
       || ((is_some (first_of (codes "position") (matches_of command arguments)) && not (is_some (first_of (codes "keep") (matches_of command arguments))))
-      || (is_some (first_of (codes "numbers") (matches_of command arguments))
-      && (is_some (number_named (codes "follow") arguments) || is_given (codes "history") arguments)))));
+      || ((is_some (first_of (codes "numbers") (matches_of command arguments))
+      && (is_some (number_named (codes "follow") arguments) || is_given (codes "history") arguments))
+      || (is_some (number_named (codes "forget") arguments)
+      && not (is_some (number_named (codes "follow") arguments) && is_some (first_of (codes "key") (matches_of command arguments))))))));
   asks = IsAsked;
   tells = λ arguments. is_set (codes "progress") command arguments;
   warns = λ arguments. is_some (number_named (codes "follow") arguments);

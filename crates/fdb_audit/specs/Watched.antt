@@ -34,6 +34,7 @@ members_asked asked =
 pub record AskForTheSame (asked other : AuditArguments) : Type 0 where
   pub opts : other.opts ≡ asked.opts
   pub wanted : other.wanted ≡ asked.wanted
+  pub forget : other.forget ≡ asked.forget
   pub key : option_map string_bytes other.key ≡ option_map string_bytes asked.key
   pub shown : map string_bytes other.shown.items ≡ map string_bytes asked.shown.items
 

@@ -4,6 +4,7 @@ pub mod Followed
 pub mod Numbering
 pub mod Kept
 pub mod KeptTexts
+pub mod KeyTimes
 pub mod Pace
 use Rattle.std.specs.Prelude.{◌≡◌, ℕ, Bool, List, [], Option, map, option_copied, string_bytes}
 use Rattle.fdb_lines.specs.declared.key_order.Order.{Order}

@@ -34,8 +34,9 @@ also Early. If what FILE keeps is refused, mostly as NotKept, the line above it 
 last one names FILE.
 
 With --follow a watch of a file ends where the file ends. To watch a file that grows, call
-tail -F LOGS | fdb_audit --follow N. --keep needs --follow, and --position needs --keep. --follow
-does not suit --complete, --history and --numbers, nor --numbers --history.
+tail -F LOGS | fdb_audit --follow N. --keep needs --follow, --position needs --keep, and --forget
+needs --follow and --key. --follow does not suit --complete, --history and --numbers, nor --numbers
+--history.
 
 With --split a log is cut into parts by key, and not judged: fdb_audit --split 1 --help tells how.
 
@@ -48,6 +49,8 @@ const MARGIN_HELP: &str = "How far clients' clocks may be apart, in the times' u
 
 const FOLLOW_HELP: &str =
     "Watch a growing log; a call may begin up to N before the newest end of one";
+
+const FORGET_HELP: &str = "Forget a key of which no line came within N of the newest end";
 
 const KEEP_HELP: &str = "Go on from what FILE keeps, and keep in it what later lines may need";
 
@@ -67,6 +70,9 @@ pub struct AuditArguments {
     /// How far behind the newest end of a call a line that comes may begin, in the unit of the
     /// log's times, where the log is to be followed as it grows; none where it is not.
     pub follow: Option<u64>,
+    /// How far the newest end may go on until a key is forgotten of which no line comes meanwhile, in
+    /// the same unit, where keys are to be forgotten.
+    pub forget: Option<u64>,
     pub wanted: Wanted,
     /// The name of the file in which the lines of a followed log are kept, where `--keep` names
     /// one.
@@ -95,6 +101,7 @@ impl AuditArguments {
         Ok(AuditArguments {
             opts: self.opts,
             follow: self.follow,
+            forget: self.forget,
             wanted: self.wanted,
             keep: None,
             position,
@@ -204,7 +211,7 @@ fn members_in(alloc: Global, text: &str) -> Result<Vec<String>, AllocError>
     Ok(members)
 }
 
-/// The command that clap is given: one file, three numbers from 0 to 2^63 - 1, five texts, and
+/// The command that clap is given: one file, four numbers from 0 to 2^63 - 1, five texts, and
 /// five flags.
 pub(crate) fn command<'a>(alloc: Global) -> Result<Command<'a>, AllocError>
     ensures { IfOk result (λ made. app_of made ≡ command) }
@@ -224,6 +231,7 @@ pub(crate) fn command<'a>(alloc: Global) -> Result<Command<'a>, AllocError>
     .arg(number_argument(alloc, "complete", 0, i64::MAX, "START", COMPLETE_HELP))?
     .arg(number_argument(alloc, "margin", 0, i64::MAX, "N", MARGIN_HELP))?
     .arg(number_argument(alloc, "follow", 0, i64::MAX, "N", FOLLOW_HELP))?
+    .arg(number_argument(alloc, "forget", 0, i64::MAX, "N", FORGET_HELP))?
     .arg(text_argument(alloc, "keep", "FILE", KEEP_HELP))?
     .arg(text_argument(alloc, "position", "MEMBER", POSITION_HELP))?
     .arg(text_argument(alloc, "key", "MEMBER", KEY_HELP))?

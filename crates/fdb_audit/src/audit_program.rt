@@ -69,11 +69,20 @@ impl Program for Audit {
     ) -> Result<AuditArguments, ArgumentsFault> {
         let complete = number(matches, "complete");
         let follow = number(matches, "follow");
+        let forget = number(matches, "forget");
         let wanted = wanted_of(matches);
         let keep = text(matches, "keep");
         let position = text(matches, "position");
+        let key = text(matches, "key");
         let numbers = text(matches, "numbers");
-        if is_unfit(follow, complete, wanted, keep, position, numbers) {
+        let watched = Watched {
+            follow,
+            forget,
+            keep,
+            position,
+            key,
+        };
+        if is_unfit(&watched, complete, wanted, numbers) {
             return Err(ArgumentsFault::Refused);
         }
         Ok(AuditArguments {
@@ -82,10 +91,11 @@ impl Program for Audit {
                 margin: number(matches, "margin").unwrap_or(0),
             },
             follow,
+            forget,
             wanted,
             keep: owned(alloc, keep)?,
             position: owned(alloc, position)?,
-            key: owned(alloc, text(matches, "key"))?,
+            key: owned(alloc, key)?,
             shown: member_names(alloc, text(matches, "show"))?,
             numbers: owned(alloc, numbers)?,
             progress: is_given(matches, "progress"),
@@ -190,27 +200,40 @@ impl AuditIntake {
     }
 }
 
+/// What the arguments say of a log that is followed.
+#[derive(Clone, Copy)]
+struct Watched<'a> {
+    follow: Option<u64>,
+    forget: Option<u64>,
+    keep: Option<&'a str>,
+    position: Option<&'a str>,
+    key: Option<&'a str>,
+}
+
 /// Whether a log is to be followed and what needs all of it is asked for; or is not to be followed,
 /// and lines of it are to be kept; or none are, and where the last one stands is; or lines have
-/// their own numbers where it is followed, or an order is to be told.
+/// their own numbers where it is followed, or an order is to be told; or keys are to be forgotten
+/// where it is not followed, or not by key.
 fn is_unfit(
-    follow: Option<u64>,
+    watched: &Watched<'_>,
     complete: Option<u64>,
     wanted: Wanted,
-    keep: Option<&str>,
-    position: Option<&str>,
     numbers: Option<&str>,
 ) -> bool
-    ensures { result ≡ (is_some follow && (is_some complete || wanted.history)
-        || ((is_some keep.entry && not (is_some follow))
-        || ((is_some position.entry && not (is_some keep.entry))
-        || (is_some numbers.entry && (is_some follow || wanted.history))))) }
+    ensures { let it = watched.now in
+        result ≡ (is_some it.follow && (is_some complete || wanted.history)
+        || ((is_some it.keep && not (is_some it.follow))
+        || ((is_some it.position && not (is_some it.keep))
+        || ((is_some numbers.entry && (is_some it.follow || wanted.history))
+        || (is_some it.forget && not (is_some it.follow && is_some it.key)))))) }
 {
-    let needs_all = follow.is_some() && (complete.is_some() || wanted.history);
-    let keeps_none = keep.is_some() && follow.is_none();
-    let has_no_place = position.is_some() && keep.is_none();
-    let has_no_number = numbers.is_some() && (follow.is_some() || wanted.history);
-    needs_all || (keeps_none || (has_no_place || has_no_number))
+    let follows = watched.follow.is_some();
+    let needs_all = follows && (complete.is_some() || wanted.history);
+    let keeps_none = watched.keep.is_some() && !follows;
+    let has_no_place = watched.position.is_some() && watched.keep.is_none();
+    let has_no_number = numbers.is_some() && (follows || wanted.history);
+    let has_no_keys = watched.forget.is_some() && !(follows && watched.key.is_some());
+    needs_all || (keeps_none || (has_no_place || (has_no_number || has_no_keys)))
 }
 
 /// Tells what has become certain of a log that is followed.

@@ -33,6 +33,9 @@ const SETTLING: Pace = Pace {
     due: 0,
 };
 
+/// At least so many lines come between two looks for keys that are to be forgotten.
+const LOOKING: u64 = 4_096;
+
 /// A log that is followed, and where its lines are kept, if they are to be.
 #[derive(Drop)]
 pub struct FollowedLog {
@@ -45,6 +48,8 @@ pub struct FollowedLog {
     asked: AuditArguments,
     /// So many names are not many: twice as many as there were when it could not go on with fewer.
     few_names: u64,
+    /// How many lines had been taken when it was looked last for keys that are to be forgotten.
+    looked_at: u64,
     /// Whether bytes have come since something was told: where none have, the log has ended.
     has_grown: bool,
 }
@@ -116,6 +121,7 @@ impl FollowedLog {
             settling: SETTLING,
             asked,
             few_names: 0,
+            looked_at: 0,
             has_grown: false,
         })
     }
@@ -129,7 +135,7 @@ impl FollowedLog {
     {
         self.has_grown = true;
         self.note_bytes(bytes)?;
-        if !self.has_many_names() {
+        if !self.has_much_to_leave() {
             return self.read(bytes);
         }
         let (line, rest) = bytes.split_at(first_end(bytes));
@@ -138,9 +144,35 @@ impl FollowedLog {
         self.read(rest)
     }
 
-    /// Whether it is to go on with fewer names.
-    fn has_many_names(&self) -> bool {
-        self.follower.name_count() > self.few_names && self.follower.has_many_names()
+    /// Whether it is to go on with fewer names, or to forget keys.
+    fn has_much_to_leave(&mut self) -> bool
+        ensures same { (self.new.follower ≡ self.old.follower)
+            × (self.new.reporter ≡ self.old.reporter) × (self.new.asked ≡ self.old.asked) }
+    {
+        let names = self.follower.name_count();
+        if names > self.few_names && self.follower.has_many_names() {
+            return true;
+        }
+        self.has_many_old_keys()
+    }
+
+    /// Whether many keys are to be forgotten. Only once half as many lines have come as it keeps, and
+    /// some thousands, it is looked for again, and when it has just settled: then what is left says up
+    /// to when all was told.
+    fn has_many_old_keys(&mut self) -> bool
+        ensures same { (self.new.follower ≡ self.old.follower)
+            × (self.new.reporter ≡ self.old.reporter) × (self.new.asked ≡ self.old.asked) }
+    {
+        let Some(after) = self.asked.forget else {
+            return false;
+        };
+        let lines = self.follower.line_count();
+        let enough = (self.follower.kept_count() / 2).saturating_add(LOOKING);
+        if lines.saturating_sub(self.looked_at) < enough || !self.follower.has_just_settled() {
+            return false;
+        }
+        self.looked_at = lines;
+        self.follower.has_many_old_keys(after)
     }
 
     /// Reads bytes.

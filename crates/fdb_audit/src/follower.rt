@@ -4,20 +4,29 @@ ghost use Rattle.std.specs.Prelude.{◌≡◌, ◌++◌, ℕ, [], Bool, IfOk, Li
 ghost use Rattle.std.specs.Prelude.{◌-◌, ◌<◌, max, Option, Result, option_map, string_bytes};
 ghost use Rattle.fdb_log_reader.specs.ReadLine.{SaidLine};
 ghost use Rattle.fdb_log_reader.specs.declared.error.Why.{Why};
-ghost use Rattle.fdb_audit.specs.Following.{Start, fresh, left_out, none_before, start_with};
+ghost use Rattle.fdb_audit.specs.Following.{Start, fresh, keys_taken, left_out, lines_taken};
+ghost use Rattle.fdb_audit.specs.Following.{none_before, start_with};
 ghost use Rattle.std.specs.Option.{option_or};
 ghost use Rattle.fdb_lines.specs.declared.fault.Found.{Found};
-ghost use Rattle.fdb_audit.specs.Kept.{KeptSaid, start_from, start_of, Keeps};
+ghost use Rattle.fdb_audit.specs.Kept.{KeepsLines, KeptSaid, start_from, start_of, Keeps};
+ghost use Rattle.fdb_audit.specs.private.KeptTexts.{number_of};
+ghost use Rattle.fdb_lines.specs.KeyWatch.{IsKept};
+ghost use Rattle.std.specs.List.Sorted.{IsNonDecreasing};
+ghost use Rattle.std.specs.Prelude.{All, map};
 ghost use Rattle.fdb_audit.specs.Taken.{AreTaken};
 ghost use Rattle.fdb_log_reader.specs.ReadLine.{member_in};
 ghost use Rattle.fdb_audit.specs.Watched.{IsFollowed};
 ghost use Rattle.fdb_audit.specs.declared.arguments.AuditArguments.{AuditArguments};
+
+mod ending;
+mod going_on;
 
 use crate::arguments::AuditArguments;
 use crate::carried::Carried;
 use crate::fault::LogFault;
 use crate::kept::{KeptText, kept_text};
 use crate::kept_arguments::{is_made_by, made_by, with_arguments};
+use crate::key_times::KeyTimes;
 use crate::numbering::Numbering;
 use crate::progress::Progress;
 use crate::read_back::{kept_in_order, refusal_of};
@@ -25,17 +34,11 @@ use crate::refused::KeptRefused;
 use crate::taking::Taking;
 use crate::teller::Teller;
 use crate::unsettled::Unsettled;
-use fdb_lines::{KeyWatch, laws};
+use fdb_lines::{KeptLine, KeyWatch, laws};
 use fdb_log_reader::laws::{a_space_more_is_of_one_line, keys_stay_in_one_member};
 use fdb_log_reader::{LineReader, ReadError, Why};
 use std::alloc::{AllocError, Global};
 use std::mem::replace;
-
-/// It goes on from what it keeps where it has names of more clients and keys than this for each line
-/// that it keeps, which has two at most, and so many more.
-const NAMES_FOR_EACH: u64 = 4;
-
-const NAMES: u64 = 4_096;
 
 /// An audit that follows a log as it grows: it tells each stale read, and each version that is drawn
 /// and not above what was known, once, as soon as that is certain. It keeps the lines that may yet
@@ -129,7 +132,9 @@ impl Follower {
         ensures settled { IfOk result (λ follower. follower.taking.watch.from ≡ 0) }
     {
         let reader = LineReader::new(alloc, asked.key.as_deref(), &asked.shown)?;
-        let taking = Taking::new(alloc, asked.opts.margin, behind, &asked.shown, numbering)?;
+        let times = KeyTimes::new(alloc, asked.forget.is_some());
+        let margin = asked.opts.margin;
+        let taking = Taking::new(alloc, margin, behind, &asked.shown, numbering, times)?;
         let teller = Teller::new(alloc, asked, &taking.rows.members)?;
         let made_by = made_by(alloc, asked, behind)?;
         let before = Carried::new();
@@ -258,6 +263,7 @@ impl Follower {
         let lines = self.reader.feed(self.alloc, bytes)?;
         self.taking.take_kept(lines, told, settled)?;
         self.taking.clocks.go_on(settled, are_many);
+        self.taking.times.refresh(self.taking.clocks.believed);
         Ok(())
     }
 
@@ -318,83 +324,38 @@ impl Follower {
             → let names = line_names self.now.reader in
             Keeps (member_in names) names start.numbers self.now.taking read (string_bytes text))) }
     {
-        let kept = kept_in_order(self.alloc, &self.taking.watch)?;
+        let kept = kept_in_order(self.alloc, &self.taking, None)?;
+        self.read_back_of(&kept, beside)
+    }
+
+    /// The same of some lines, in the order in which they came.
+    fn read_back_of(
+        &self,
+        kept: &[KeptLine],
+        beside: &str,
+    ) -> Result<Result<String, KeptRefused>, AllocError>
+        requires rise { IsNonDecreasing (map number_of kept.now) }
+        ensures { IfOk result (λ it. IfOk it (λ text. (start : Start)
+            → (read : List (Result SaidLine Why)) → (told : List Found)
+            → AreTaken start self.now.taking read told
+            → All (IsKept (lines_taken read) (keys_taken read)) kept.now
+            → let names = line_names self.now.reader in
+            KeepsLines (map number_of kept.now) (member_in names) names start.numbers
+            self.now.taking read (string_bytes text))) }
+    {
         let key = self.teller.key.as_deref();
         let beside = with_arguments(self.alloc, &self.made_by, beside)?;
-        let text = kept_text(self.alloc, &self.reader, &self.taking, key, &kept, &beside)?;
+        let text = kept_text(self.alloc, &self.reader, &self.taking, key, kept, &beside)?;
         match refusal_of(
             self.alloc,
             &self.reader,
             &self.taking,
-            &kept,
+            kept,
             text.as_bytes(),
         )? {
             Some(refused) => Ok(Err(refused)),
             None => Ok(Ok(text)),
         }
-    }
-
-    /// How many names of clients and keys it has.
-    pub(crate) fn name_count(&self) -> u64 {
-        let clients = self.reader.names().count() as u64;
-        match self.reader.key_names() {
-            Some(keys) => clients.saturating_add(keys.count() as u64),
-            None => clients,
-        }
-    }
-
-    /// Whether these are many more than the lines that it keeps.
-    pub(crate) fn has_many_names(&self) -> bool {
-        let few = self.taking.kept.saturating_mul(NAMES_FOR_EACH);
-        self.name_count() > few.saturating_add(NAMES)
-    }
-
-    /// Whether no line is open, and nothing is left to be said.
-    pub(crate) fn is_quiet(&self) -> bool
-        ensures { result ≡ true → IsQuiet self.now }
-    {
-        let is_told = self.teller.text.is_empty() && self.taking.warnings.is_empty();
-        is_told && self.reader.is_at_line_end()
-    }
-
-    /// Goes on as an audit that is restored from what this one keeps, with what this one has counted:
-    /// of names it then has those of the lines that it keeps, and no others. Nothing changes where the
-    /// text that keeps them is refused, or does not say up to when all is told. Answers whether it has
-    /// gone on. An error says that memory was refused.
-    pub(crate) fn go_on(&mut self, asked: &AuditArguments) -> Result<bool, AllocError>
-        requires quiet { IsQuiet self.old }
-        ensures gone_on { IfOk result (λ goes_on. goes_on ≡ true → (other : AuditArguments)
-            → (start : Start) → (bytes told : List ℕ) → AskForTheSame other asked.now
-            → HasFollowed other start self.old bytes told
-            → HasGoneOn other start self.new bytes told) }
-        ensures same { IfOk result (λ goes_on. goes_on ≡ false → self.new ≡ self.old) }
-    {
-        a_space_more_is_of_one_line();
-        keys_stay_in_one_member();
-        let Ok(text) = self.read_back("")? else {
-            return Ok(false);
-        };
-        let next = Follower::restore(self.alloc, asked, self.behind, text.as_bytes())?;
-        let Ok(next) = next else {
-            return Ok(false);
-        };
-        if next.taking.watch.settled_to() != self.taking.watch.settled_to() {
-            return Ok(false);
-        }
-        self.give_way(next);
-        Ok(true)
-    }
-
-    /// Lets another one take its place, which goes on with what this one has counted and told.
-    fn give_way(&mut self, next: Follower)
-        ensures { TakesPlace self.old next self.new }
-    {
-        let mut next = next;
-        next.before = self.before.with(&self.taking);
-        next.teller.told = replace(&mut self.teller.told, None);
-        next.teller.first = self.teller.first;
-        next.taking.clocks.carry(&self.taking.clocks);
-        *self = next;
     }
 
     /// How many lines had been taken when the audit settled last, with those that it was restored
@@ -463,117 +424,5 @@ impl Follower {
             text: replace(&mut self.teller.text, String::new(self.alloc)),
             warnings: replace(&mut self.taking.warnings, String::new(self.alloc)),
         }
-    }
-
-    /// What is left to be said, where the log ends here: what is open, and the totals.
-    pub fn finish(mut self) -> Result<Followed, AllocError>
-        ensures told { IfOk result (λ it. (asked : AuditArguments) → (start : Start)
-            → (bytes told : List ℕ) → HasFollowed asked start self bytes told → IsFollowed asked
-            start true bytes (told ++ string_bytes it.said.text) it.found it.last_early) }
-        ensures said { IfOk result (λ it. (asked : AuditArguments) → (start : Start)
-            → (bytes warned : List ℕ) → HasSaid asked start self bytes warned → HasSaidAll asked
-            start bytes it.last_early (warned ++ string_bytes it.said.warnings)) }
-        ensures refused { IfOk result (λ it. (asked : AuditArguments) → (start : Start)
-            → (bytes told : List ℕ) → HasFollowed asked start self bytes told
-            → it.refused ≡ left_out start (lines_asked asked bytes)) }
-    {
-        self.take_last()?;
-        let refused = self.taking.left_out(&self.before);
-        self.settle_for_good()?;
-        let followed = self.conclude(refused)?;
-        Ok(followed)
-    }
-
-    /// What is left to be said, where the log is to be followed on later: the totals. What is open is
-    /// kept, and not told, by a text as [`kept`](Follower::kept) gives it.
-    pub fn stop(mut self, beside: &str) -> Result<Stopped, AllocError>
-        ensures told { IfOk result (λ it. (asked : AuditArguments) → (start : Start)
-            → (bytes told : List ℕ) → HasFollowed asked start self bytes told
-            → IsFollowed asked start false bytes (told ++ string_bytes it.followed.said.text)
-            it.followed.found it.followed.last_early) }
-        ensures said { IfOk result (λ it. (asked : AuditArguments) → (start : Start)
-            → (bytes warned : List ℕ) → HasSaid asked start self bytes warned
-            → HasSaidAll asked start bytes it.followed.last_early
-            (warned ++ string_bytes it.followed.said.warnings)) }
-        ensures refused { IfOk result (λ it. (asked : AuditArguments) → (start : Start)
-            → (bytes told : List ℕ) → HasFollowed asked start self bytes told
-            → it.followed.refused ≡ left_out start (lines_asked asked bytes)) }
-        ensures kept { IfOk result (λ it. IfOk it.kept (λ text. (asked : AuditArguments)
-            → (start : Start) → (bytes told : List ℕ) → HasFollowed asked start self bytes told
-            → IsStopped asked start bytes (told ++ string_bytes it.followed.said.text)
-            it.followed.found it.followed.last_early (string_bytes text))) }
-    {
-        self.take_last()?;
-        let refused = self.taking.left_out(&self.before);
-        let kept = self.read_back(beside)?;
-        laws::all_is_told_up_to_where_it_settled();
-        keys_stay_in_one_member();
-        let followed = self.conclude(refused)?;
-        Ok(Stopped { followed, kept })
-    }
-
-    /// Takes the line that has not ended, if there is one.
-    fn take_last(&mut self) -> Result<(), AllocError>
-        ensures told { OnOk result ((asked : AuditArguments) → (start : Start)
-            → (bytes told : List ℕ) → HasFollowed asked start self.old bytes told
-            → IsTelling asked start self.new (lines_asked asked bytes) told) }
-        ensures said { OnOk result ((asked : AuditArguments) → (start : Start)
-            → (bytes warned : List ℕ) → HasSaid asked start self.old bytes warned
-            → HasWarned start self.new.taking (lines_asked asked bytes) warned
-            × AreEarlyIn start (lines_asked asked bytes) self.new.taking.counts) }
-        ensures names { OnOk result ((asked : AuditArguments) → (start : Start)
-            → (bytes told : List ℕ) → HasFollowed asked start self.old bytes told
-            → names_asked asked bytes ≡ line_names self.new.reader) }
-        ensures before { self.new.before ≡ self.old.before }
-    {
-        let last = self.reader.finish(self.alloc)?;
-        if let Some(last) = last {
-            self.taking.take(last)?;
-        }
-        Ok(())
-    }
-
-    /// Settles all.
-    fn settle_for_good(&mut self) -> Result<(), AllocError>
-        ensures reader { self.new.reader ≡ self.old.reader }
-        ensures told { OnOk result ((asked : AuditArguments) → (start : Start)
-            → (read : List (Result SaidLine Why)) → (told : List ℕ)
-            → IsTelling asked start self.old read told
-            → HasToldAll asked start true self.new read told) }
-        ensures warnings { (self.new.taking.warnings ≡ self.old.taking.warnings)
-            × (self.new.taking.counts ≡ self.old.taking.counts) }
-        ensures before { self.new.before ≡ self.old.before }
-    {
-        let none = KeyWatch::new(self.alloc, 0, 0);
-        let watch = replace(&mut self.taking.watch, none);
-        let told = watch.finish(self.alloc)?;
-        self.teller
-            .tell_all(self.alloc, &self.reader, &self.taking, &told)?;
-        Ok(())
-    }
-
-    /// Says how much was read, behind all that was told.
-    fn conclude(mut self, refused: Option<ReadError>) -> Result<Followed, AllocError>
-        ensures told { IfOk result (λ it. (asked : AuditArguments) → (start : Start)
-            → (bytes told : List ℕ) → (ends : Bool)
-            → (all : HasToldAll asked start ends self (lines_asked asked bytes) told)
-            → names_asked asked bytes ≡ line_names self.reader → (followed : IsFollowed asked
-            start ends bytes (told ++ string_bytes it.said.text) it.found it.last_early)
-            × (followed.windows ≡ all.windows)
-            × (followed.counts ≡ counted_of self.taking)) }
-        ensures refused { IfOk result (λ it. it.refused ≡ refused) }
-        ensures early { IfOk result (λ it. it.last_early
-            ≡ option_or self.taking.counts.last_early self.before.counts.last_early) }
-        ensures warnings { IfOk result (λ it. it.said.warnings ≡ self.taking.warnings) }
-    {
-        let all = self.before.with(&self.taking);
-        self.teller.end(self.alloc, &all, self.behind)?;
-        let said = self.say();
-        Ok(Followed {
-            said,
-            found: self.teller.first,
-            refused,
-            last_early: all.counts.last_early,
-        })
     }
 }

@@ -39,6 +39,9 @@ pub(crate) fn made_by(
     let mut text = String::new(alloc);
     let margin = asked.opts.margin;
     write!(text, "--follow {behind} --margin {margin}")?;
+    if let Some(after) = asked.forget {
+        write!(text, " --forget {after}")?;
+    }
     push_member(alloc, &mut text, "--key", asked.key.as_deref())?;
     for member in &asked.shown {
         push_member(alloc, &mut text, "--show", Some(member.as_str()))?;

@@ -1,8 +1,9 @@
 //! Laws of the definitions. The functions do nothing: each stands for its contract.
 
-ghost use Rattle.std.specs.Prelude.{ℕ, ◌≡◌, ◌++◌, All, IsPermutation, List, Option, false, map};
+ghost use Rattle.std.specs.Prelude.{ℕ, ◌≡◌, ◌++◌, All, IsPermutation, List, None, Option, false};
+ghost use Rattle.std.specs.Prelude.{map};
 ghost use Rattle.std.specs.Prelude.{option_map, string_bytes, true};
-ghost use Rattle.std.specs.List.{flat_map};
+ghost use Rattle.std.specs.List.{flat_map, Contains};
 ghost use Rattle.fdb_lines.specs.declared.fault.Found.{Found};
 ghost use Rattle.fdb_lines.specs.declared.opts.AuditOpts.{AuditOpts};
 ghost use Rattle.fdb_lines.specs.Keys.{placed_found};
@@ -12,7 +13,7 @@ ghost use Rattle.fdb_audit.specs.declared.taking.Taking.{Taking};
 ghost use Rattle.fdb_audit.specs.Following.{early_at, lines_since, told_in_all, Start};
 ghost use Rattle.fdb_log_reader.specs.declared.error.ReadError.{ReadError};
 ghost use Rattle.fdb_log_reader.specs.Reading.{Reading};
-ghost use Rattle.fdb_audit.specs.AllPieces.{told_of_pieces, AreInTime, Pieces};
+ghost use Rattle.fdb_audit.specs.AllPieces.{told_of_pieces, AreInTime, HaveRoom, Pieces};
 ghost use Rattle.fdb_audit.specs.Joined.{faults_by_number, ArePartsOf, WasReadByKey};
 ghost use Rattle.fdb_audit.specs.Kept.{start_of, IsStopped, Keeps};
 ghost use Rattle.fdb_audit.specs.Pieces.{all_bytes, audited_in, places_beyond, AreWatched};
@@ -23,7 +24,8 @@ ghost use Rattle.fdb_audit.specs.Watched.{lines_asked, names_asked, IsFollowed};
 
 use fdb_lines::laws::{
     logs_that_say_the_same_differ_in_numbers_alone, the_faults_of_its_parts_are_those_of_a_log,
-    what_a_watch_keeps_stands_for_all, who_goes_on_from_what_a_watch_kept_tells_the_rest,
+    what_a_watch_keeps_stands_for_all, what_some_lines_tell_is_true_of_all,
+    who_goes_on_from_what_a_watch_kept_tells_the_rest,
 };
 use fdb_log_reader::laws::{
     each_name_has_one_number, keys_stay_in_one_member, names_keep_their_numbers,
@@ -97,13 +99,13 @@ pub fn a_log_watched_in_pieces_is_told_as_by_one_watch()
     who_goes_on_from_what_a_watch_kept_tells_the_rest();
 }
 
-/// A watch that goes on from what it keeps, however often, tells of a log that has ended what an audit
-/// of all lines finds, where no line came early: nothing twice and nothing lost, each fault at the place
-/// of its line among all lines.
+/// A watch that goes on from what it keeps, however often, and forgets no key, tells of a log that has
+/// ended what an audit of all lines finds, where no line came early: nothing twice and nothing lost, each
+/// fault at the place of its line among all lines.
 pub fn a_watch_that_goes_on_tells_as_one_audit()
     ensures { (asked : AuditArguments) (found : Option LogFault) (refused : Option ReadError)
         (last_early : Option ℕ) (times : ℕ) (start : Start) (bytes text : List ℕ)
-        → start.early ≡ 0
+        → asked.forget ≡ None → start.early ≡ 0
         → (pieces : Pieces asked found refused last_early times start bytes text)
         → AreInTime asked found refused last_early times start bytes text pieces → IsPermutation
         (start.told ++ told_of_pieces asked found refused last_early times start bytes text pieces)
@@ -117,6 +119,29 @@ pub fn a_watch_that_goes_on_tells_as_one_audit()
     what_a_watch_keeps_stands_for_all();
     what_follows_an_ended_line_is_apart();
     what_lines_say_is_theirs_alone();
+    who_goes_on_from_what_a_watch_kept_tells_the_rest();
+}
+
+/// What a watch tells is true of all lines, however often it has gone on, whichever keys it has
+/// forgotten, and whether or not lines came early: an audit of all lines finds each fault that it tells,
+/// at the place of its line among all lines.
+pub fn what_a_watch_tells_is_true_of_all_lines()
+    ensures { (asked : AuditArguments) (found : Option LogFault) (refused : Option ReadError)
+        (last_early : Option ℕ) (times : ℕ) (start : Start) (bytes text : List ℕ)
+        → (pieces : Pieces asked found refused last_early times start bytes text)
+        → HaveRoom asked found refused last_early times start bytes text pieces
+        → All (Contains (audited_in asked bytes))
+        (told_of_pieces asked found refused last_early times start bytes text pieces) }
+{
+    each_name_has_one_number();
+    keys_stay_in_one_member();
+    logs_that_say_the_same_differ_in_numbers_alone();
+    names_keep_their_numbers();
+    numbers_are_those_of_names();
+    what_a_watch_keeps_stands_for_all();
+    what_follows_an_ended_line_is_apart();
+    what_lines_say_is_theirs_alone();
+    what_some_lines_tell_is_true_of_all();
     who_goes_on_from_what_a_watch_kept_tells_the_rest();
 }
 

@@ -23,6 +23,7 @@ mod judged;
 mod kept;
 mod kept_arguments;
 mod kept_file;
+mod key_times;
 mod last_line;
 pub mod laws;
 mod listing;

@@ -5,7 +5,6 @@ ghost use Rattle.std.specs.Prelude.{Option, Result};
 ghost use Rattle.std.specs.Prelude.{count_by, length, map, nat_lt, true, if◌then◌else◌};
 ghost use Rattle.std.specs.List.Sorted.{IsNonDecreasing};
 ghost use Rattle.fdb_lines.specs.declared.fault.Found.{Found};
-ghost use Rattle.fdb_lines.specs.declared.line.Line.{Line};
 ghost use Rattle.fdb_lines.specs.KeyWatch.{HasSeenByKey, IsKept};
 ghost use Rattle.fdb_log_reader.specs.declared.error.Why.{Why};
 ghost use Rattle.fdb_log_reader.specs.LineReader.{line_names};
@@ -13,7 +12,9 @@ ghost use Rattle.fdb_log_reader.specs.ReadLine.{SaidLine, member_in, said_in};
 ghost use Rattle.fdb_log_reader.specs.Reading.{lines_in, EndsALine};
 ghost use Rattle.fdb_audit.specs.Following.{Start, keys_taken, lines_taken, taken};
 ghost use Rattle.fdb_audit.specs.Kept.{client_named, kept_at, kept_members, kept_said, key_named};
-ghost use Rattle.fdb_audit.specs.Kept.{lines_kept, named_in, named_said, places_kept, Rise};
+ghost use Rattle.fdb_audit.specs.Kept.{lines_kept, named_in, named_said, Rise};
+ghost use Rattle.fdb_audit.specs.GoingOn.{places_staying};
+ghost use Rattle.fdb_audit.specs.private.KeyTimes.{is_staying};
 ghost use Rattle.fdb_audit.specs.Taken.{AreTaken, kept_by};
 ghost use Rattle.fdb_audit.specs.private.KeptTexts.{named_kept, number_of, said_of};
 ghost use Rattle.fdb_audit.specs.private.Numbering.{AreNumbersOf};
@@ -22,19 +23,29 @@ use crate::kept::{KeptText, client_name, key_name};
 use crate::numbering::Numbering;
 use crate::refused::KeptRefused;
 use crate::taking::Taking;
-use fdb_lines::{KeptLine, KeyWatch, Line};
+use fdb_lines::{KeptLine, Line};
 use fdb_log_reader::{LineReader, ReadLine, Why};
 use std::alloc::{AllocError, Global};
 
-/// The lines that a watch keeps, in the order in which they came.
-pub(crate) fn kept_in_order(alloc: Global, watch: &KeyWatch) -> Result<Vec<KeptLine>, AllocError>
+/// The lines that are kept, but for those of keys that are to be forgotten, in the order in which they
+/// came.
+pub(crate) fn kept_in_order(
+    alloc: Global,
+    taking: &Taking,
+    forget: Option<u64>,
+) -> Result<Vec<KeptLine>, AllocError>
     ensures rise { IfOk result (λ kept. IsNonDecreasing (map number_of kept.items)) }
-    ensures kept { IfOk result (λ kept. (lines : List Line) → (keys : List (Option ℕ))
-        → HasSeenByKey watch.now lines keys
-        → IsPermutation (places_kept watch.now) (map number_of kept.items)
-        × All (IsKept lines keys) kept.items) }
+    ensures kept { IfOk result (λ kept. (read : List (Result SaidLine Why))
+        → HasSeenByKey taking.now.watch (lines_taken read) (keys_taken read)
+        → IsPermutation (places_staying
+        (is_staying taking.now.times forget taking.now.clocks.believed) read taking.now)
+        (map number_of kept.items)
+        × All (IsKept (lines_taken read) (keys_taken read)) kept.items) }
 {
-    let mut kept = watch.kept(alloc)?;
+    let mut kept = taking.watch.kept(alloc)?;
+    taking
+        .times
+        .forget(forget, taking.clocks.believed, &mut kept);
     kept.sort_unstable_by_key(|line| line.number);
     Ok(kept)
 }

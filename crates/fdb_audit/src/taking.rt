@@ -15,6 +15,7 @@ ghost use Rattle.fdb_lines.specs.ToldByKey.{audited_to};
 use crate::carried::Carried;
 use crate::clocks::Clocks;
 use crate::counts::{Came, Counts};
+use crate::key_times::KeyTimes;
 use crate::numbering::Numbering;
 use crate::rows::Rows;
 use crate::unsettled::Unsettled;
@@ -45,6 +46,8 @@ pub(crate) struct Taking {
     pub(crate) refused: Option<ReadError>,
     /// What is to be said on standard error next.
     pub(crate) warnings: String,
+    /// When the lines of each key came, where keys may be forgotten.
+    pub(crate) times: KeyTimes,
     ghost above: { All (λ above. above ≤ taken) numbering.above.items },
 }
 
@@ -64,6 +67,7 @@ impl Taking {
         behind: u64,
         shown: &[String],
         numbering: Numbering,
+        times: KeyTimes,
     ) -> Result<Self, AllocError>
         requires none { numbering.above.items ≡ [] }
         requires few { numbering.more < 18446744073709551615 }
@@ -90,6 +94,7 @@ impl Taking {
             kept: 0,
             refused: None,
             warnings: String::new(alloc),
+            times,
         })
     }
 
@@ -261,6 +266,7 @@ impl Taking {
         }
         self.rows.add(self.taken, shown)?;
         self.note(&line, is_judged)?;
+        self.times.hear(key, &line, self.clocks.believed)?;
         Ok(())
     }
 

@@ -59,6 +59,7 @@ pub(crate) fn asked_with(
     Ok(AuditArguments {
         opts,
         follow,
+        forget: None,
         wanted,
         keep: None,
         position: None,

@@ -1,6 +1,7 @@
 use Rattle.std.proofs.Common.{◌≡◌, ◌∙◌, ◌++◌, arith, sym}
+use Rattle.std.proofs.lemmas.List.Sorted.{IsPermutation-refl}
 use Rattle.fdb_audit.specs.Following.{early_at, lines_since, told_in_all}
-use Rattle.fdb_audit.specs.Kept.{start_of}
+use Rattle.fdb_audit.specs.Kept.{places_kept, start_of}
 use Rattle.fdb_audit.specs.Watched.{lines_asked}
 use Rattle.fdb_audit.proofs.Pieces.{Known, pieces_told, told_as_by_one}
 use Rattle.fdb_audit.proofs.SaysWhen.{none_early}
@@ -37,7 +38,7 @@ returns-clause-two_watches c = λ asked start behind piece kept next text text_t
     let on = start_of asked behind kept in
     let late : early_at on.from (lines_since on (lines_asked asked (kept ++ next))) ≡ 0 = (let le = other.late in omega (arith, le, others_early)) in
     told_as_by_one known asked start behind piece kept next one.taking (start.told ++ told_in_all (lines_asked asked piece) one.followed.windows)
-    (told_in_all (lines_asked asked (kept ++ next)) other.windows) one.taken one.keeps goes one.margin from start_early (sym one.early ∙ early) late
+    (told_in_all (lines_asked asked (kept ++ next)) other.windows) one.taken (places_kept one.taking.watch) one.keeps goes (IsPermutation-refl (places_kept one.taking.watch)) one.margin from start_early (sym one.early ∙ early) late
     (other.whole (none_early known.stand asked start behind piece kept one.taking one.taken one.keeps start_early (sym one.early ∙ early)) others_early)
 
 pub returns-clause-any_more : goal.returns-clause-any_more
@@ -53,4 +54,4 @@ returns-clause-any_more c = λ asked start behind piece kept next taking told no
       rest = c.who_goes_on_from_what_a_watch_kept_tells_the_rest.ensures;
       stand = c.what_a_watch_keeps_stands_for_all.ensures;
     } in
-    told_as_by_one known asked start behind piece kept next taking told now are keeps goes margin from start_early early late whole
+    told_as_by_one known asked start behind piece kept next taking told now are (places_kept taking.watch) keeps goes (IsPermutation-refl (places_kept taking.watch)) margin from start_early early late whole

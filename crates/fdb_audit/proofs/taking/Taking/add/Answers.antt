@@ -1,4 +1,4 @@
-use Rattle.std.proofs.Common.{◌++◌, ◌∷◌, ◌∙◌, [], ap, subst, sym}
+use Rattle.std.proofs.Common.{◌++◌, ◌∷◌, ◌∙◌, [], Ok, ap, refl, subst, sym}
 use Rattle.fdb_lines.specs.declared.key_watch.KeyWatch.{KeyWatch}
 use Rattle.fdb_lines.specs.KeyWatch.{HasSeenByKey}
 use Rattle.fdb_lines.specs.ToldByKey.{HasTold}
@@ -6,6 +6,7 @@ use Rattle.fdb_log_reader.specs.ReadLine.{said_by}
 use Rattle.fdb_audit.specs.Following.{keys_taken, lines_taken}
 use Rattle.fdb_audit.specs.private.Followed.{NotesLine}
 use Rattle.fdb_audit.proofs.Following.{takes}
+use Rattle.fdb_audit.proofs.SettledOn.{taken_beside}
 use Rattle.fdb_audit.proofs.Warned.{early_more, noted_more}
 use Rattle.fdb_audit.proofs.taking.Taking.add.Goals as goal
 
@@ -32,11 +33,11 @@ returns-clause-taken c = λ start lines told are.
       came = record { early = its.came.early; judged = its.came.judged; last = its.came.last };
       warned = its.warned;
     }) in
-    takes start old new lines said told are c.requires.room
+    taken_beside start new _ (lines ++ Ok said ∷ []) told (takes start old new lines said told are c.requires.room
     (subst (λ watch. HasSeenByKey watch more keys) (sym c.note.ensures.watch) (c.in-Ok.ensures.ok (lines_taken lines) (keys_taken lines) are.seen))
     notes (ap (λ (watch : KeyWatch). watch.from) c.note.ensures.watch ∙ c.push.ensures.settled)
     (λ has late. subst (λ watch. HasTold watch more keys told) (sym c.note.ensures.watch) (c.in-Ok.ensures.told (lines_taken lines) (keys_taken lines) told are.seen has late))
-    (early_more start old new lines said told are c.requires.room notes are.came)
+    (early_more start old new lines said told are c.requires.room notes are.came)) refl refl refl refl refl refl refl
 
 pub returns-clause-warned : goal.returns-clause-warned
 returns-clause-warned c = λ start lines told warned are was.
