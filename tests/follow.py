@@ -413,14 +413,26 @@ def of_own_clients(count):
         yield f'{{"client":"{at}","commit":{at + 1},"began":{began},"ended":{began + 5}}}\n'
 
 
+def of_own_keys(count):
+    """Commits of two clients in turn, each of a key of its own."""
+    for at in range(count):
+        began, client = 9 * at, "ab"[at % 2]
+        yield (f'{{"client":"{client}","key":"{at}","commit":1,"began":{began},'
+               f'"ended":{began + 5}}}\n')
+
+
 def large(_program):
     """A large log takes no more memory than a small one, and it is told how far it is read."""
-    for name, lines in (("lines", repeated(LARGE)), ("clients", of_own_clients(LARGE))):
+    forgets = ("--key", "key", "--forget", "20000")
+    for name, lines, words in (
+        ("lines", repeated(LARGE), ()), ("clients", of_own_clients(LARGE), ()),
+        ("keys", of_own_keys(LARGE), forgets),
+    ):
         with tempfile.TemporaryDirectory() as folder:
             log = f"{folder}/log"
             with open(log, "w", encoding="ascii") as file:
                 file.writelines(lines)
-            it = spent([PROGRAM, "--follow", "2000", log], 60, 2**30)
+            it = spent([PROGRAM, "--follow", "2000", *words, log], 60, 2**30)
             is_so = it.status == OK and it.memory <= MOST_MEMORY
             fault = f"{it}, where {MOST_MEMORY} KiB are the most"
             yield f"{LARGE} {name}", None if is_so else fault
