@@ -1,23 +1,24 @@
-//! The chain of commit versions, with the answers that its proxies have processed let go.
+//! The chain of commit versions, with the answers that its proxies have processed let go; those
+//! that are kept for one of them, whole.
 
-ghost use Rattle.std.specs.Prelude.{◌≡◌, ◌+◌, ◌<◌, ◌≤◌, ◌⊎◌, ◌↔◌, ◌^◌, true, false, length};
-ghost use Rattle.std.specs.Prelude.{IsSome, IfSome, Some, OnOk, OnErr, IfOk, IfErr};
+ghost use Rattle.std.specs.Prelude.{◌≡◌, ◌+◌, ◌<◌, ◌≤◌, ◌⊎◌, ◌↔◌, ◌^◌, true, false, length, IsSome};
+ghost use Rattle.std.specs.Prelude.{IfSome, Some, OnOk, OnErr, IfOk, IfErr, All};
 ghost use Rattle.std.specs.Option.{ForSome};
+ghost use Rattle.std.specs.List.{slice_index_or};
 ghost use Rattle.fdb_history.specs.Issuing.{Chain, answer_to, kept_answer, with_answer};
 ghost use Rattle.fdb_history.specs.Chain.{IsChain, prev_after};
-ghost use Rattle.fdb_chain.specs.ChainCore.{IsAnswer, IsEpoch, IsFor, IsOf};
-ghost use Rattle.fdb_chain.specs.ChainCore.{IsProxyCount, MayRefuse};
-ghost use Rattle.fdb_chain.specs.ChainCore.{new_chain};
+ghost use Rattle.fdb_chain.specs.ChainCore.{IsAnswer, IsEpoch, IsFor, IsOf, IsProxyCount};
+ghost use Rattle.fdb_chain.specs.ChainCore.{MayRefuse, new_chain};
 ghost use Rattle.fdb_chain.specs.Recent.{IsStateOf, answer_under, latest_num, next_ordinal, own_of};
-ghost use Rattle.fdb_chain.specs.private.Recent.{IsNextOf, answer_of, fresh_of};
-ghost use Rattle.fdb_chain.specs.private.Recent.{next_of, state_after};
+ghost use Rattle.fdb_chain.specs.Recent.{answers_after, no_answers};
+ghost use Rattle.fdb_chain.specs.private.Recent.{IsNextOf, answer_of, fresh_of, next_of};
+ghost use Rattle.fdb_chain.specs.private.Recent.{state_after, proxies_after};
 
-use crate::chain_core::MAX_PROXIES;
+use crate::chain_core::{self, MAX_PROXIES};
 use crate::error::ChainError;
-use crate::recent_replies::RecentReplies;
-use crate::version;
 use fdb_history::{Ask, Issued, MAX_VERSION};
 use std::alloc::{AllocError, Global};
+use std::collections::VecDeque;
 use std::marker::Model;
 
 /// The commit versions that a sequencer has given, in one chain, of which it keeps the last
@@ -221,8 +222,8 @@ impl RecentChain {
             proxy: ask.proxy,
             num: ask.num,
             processed: ask.processed,
-            prev: version::prev_after(self.epoch_end, last),
-            version: version::version_after(self.recovery, last, ask.at),
+            prev: chain_core::prev_after(self.epoch_end, last),
+            version: chain_core::version_after(self.recovery, last, ask.at),
             at: ask.at,
             fresh: true,
         }
@@ -248,5 +249,94 @@ fn next_ordinal(last: Option<Issued>) -> u64
     match last {
         None => 0,
         Some(last) => last.ordinal + 1,
+    }
+}
+
+/// The answers of one commit proxy that have not been erased
+/// (`CommitProxyVersionReplies` of masterserver, FoundationDB 7.1).
+#[derive(Debug, Drop)]
+pub(crate) struct RecentReplies {
+    /// No answer up to this number is kept.
+    erased: u64,
+    /// The answers above, in the order of their numbers.
+    answers: VecDeque<Issued>,
+}
+
+impl Model for RecentReplies {
+    ghost use Rattle.fdb_chain.specs.Recent.{KeptAnswers};
+
+    ghost Value = { KeptAnswers };
+
+    ghost view = { λ own. record { erased = own.erased; answers = own.answers.items } };
+}
+
+impl RecentReplies {
+    /// The replies of a proxy that got no answer yet. Takes no memory.
+    pub(crate) fn new(alloc: Global) -> Self
+        ensures { result ≡ no_answers }
+    {
+        RecentReplies {
+            erased: 0,
+            answers: VecDeque::new(alloc),
+        }
+    }
+
+    /// No replies for each of so many proxies. It is refused only where memory runs out.
+    pub(crate) fn of_each(alloc: Global, proxies: u32) -> Result<Vec<RecentReplies>, AllocError>
+        ensures count { IfOk result (λ all. length all.items ≡ proxies) }
+        ensures empty { IfOk result (λ all. All (λ own. own ≡ no_answers) all.items) }
+    {
+        let mut all = Vec::with_capacity(alloc, proxies as usize)?;
+        for _ in 0..proxies {
+            all.push_reserved(RecentReplies::new(alloc));
+        }
+        Ok(all)
+    }
+
+    /// The greatest number under which the proxy got an answer, and 0 before the first.
+    pub(crate) fn latest(&self) -> u64
+        requires { latest_num self.now < 2 ^ 63 }
+        ensures { result ≡ latest_num self.now }
+    {
+        self.erased + self.answers.len() as u64
+    }
+
+    /// The answer under a number, if it is kept.
+    pub(crate) fn reply(&self, num: u64) -> Option<Issued>
+        ensures { result ≡ answer_under self.now num }
+    {
+        if num <= self.erased {
+            return None;
+        }
+        self.answers.get((num - self.erased - 1) as usize).copied()
+    }
+
+    /// Keeps the proxy's next answer among the replies of all. Where
+    /// memory is refused, nothing has changed.
+    pub(crate) fn keep_among(all: &mut [RecentReplies], answer: &Issued) -> Result<(), AllocError>
+        requires known { answer.now.proxy < length all.old }
+        requires in_range { latest_num (slice_index_or all.old answer.now.proxy no_answers) < 2 ^ 63 }
+        ensures ok { OnOk result (all.new
+            ≡ proxies_after all.old answer.now (slice_index_or all.old answer.now.proxy no_answers)) }
+        ensures err { OnErr result (all.new ≡ all.old) }
+    {
+        all[answer.proxy as usize].keep(*answer)
+    }
+
+    /// Keeps the proxy's next answer, and erases those that the proxy has processed,
+    /// though not this one. Where memory is refused, nothing has changed.
+    pub(crate) fn keep(&mut self, answer: Issued) -> Result<(), AllocError>
+        requires { latest_num self.old < 2 ^ 63 }
+        ensures ok { OnOk result (self.new ≡ answers_after self.old answer) }
+        ensures err { OnErr result (self.new ≡ self.old) }
+    {
+        let latest = self.latest();
+        self.answers.push_back(answer)?;
+        let erased = answer.processed.max(self.erased).min(latest);
+        for _ in self.erased..erased {
+            let _processed = self.answers.pop_front();
+        }
+        self.erased = erased;
+        Ok(())
     }
 }

@@ -79,19 +79,19 @@ agrees_alike start number log more call no_earlier within agrees = record {
 
 pub comes_to : (before : ℕ) (calls : List Call) → NeverGoesBack before calls → before ≤ position_after_calls before calls
 comes_to before [] order = omega arith
-comes_to before (call ∷ calls) order = let rest = comes_to call.position calls order.3 in let least = order.0 in let more = order.1 in omega arith
+comes_to before (call ∷ calls) order = let rest = comes_to call.position calls order.1 in let least = order.0.0 in let more = order.0.1 in omega arith
 
 order_added : (before : ℕ) (calls : List Call) (call : Call) → NeverGoesBack before calls → position_after_calls before calls ≤ call.asked → call.asked ≤ call.position
     → (IsTrue (answer_changes call.answer) → call.asked < call.position) → NeverGoesBack before (calls ++ call ∷ [])
-order_added before [] call order least more new = (least, more, new, tt)
-order_added before (first ∷ calls) call order least more new = (order.0, order.1, order.2, order_added first.position calls call order.3 least more new)
+order_added before [] call order least more new = ((least, more, new), tt)
+order_added before (first ∷ calls) call order least more new = (order.0, order_added first.position calls call order.1 least more new)
 
 pub all_alike : (start : Record) (number before : ℕ) (log more : List Change) (calls : List Call) → NeverGoesBack before calls → position_after_calls before calls ≤ length log
     → AllByRecursion (AgreesAt start number log) calls → AllByRecursion (AgreesAt start number (log ++ more)) calls
 all_alike start number before log more [] order within each = each
 all_alike start number before log more (call ∷ calls) order within each =
-    let least = comes_to call.position calls order.3 in
-    (agrees_alike start number log more call order.1 (omega arith) each.0, all_alike start number call.position log more calls order.3 within each.1)
+    let least = comes_to call.position calls order.1 in
+    (agrees_alike start number log more call order.0.1 (omega arith) each.0, all_alike start number call.position log more calls order.1 within each.1)
 
 -- ---- one more call
 

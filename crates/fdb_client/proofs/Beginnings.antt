@@ -9,7 +9,7 @@ use Rattle.fdb_history.specs.declared.register.Record.{Record}
 
 order_from_0 : (begun : ℕ) (calls : List Call) → NeverGoesBack begun calls → NeverGoesBack 0 calls
 order_from_0 begun [] order = order
-order_from_0 begun (call ∷ calls) order = (omega arith, order.1, order.2, order.3)
+order_from_0 begun (call ∷ calls) order = ((omega arith, order.0.1, order.0.2), order.1)
 
 reached_from_0 : (begun : ℕ) (calls : List Call) → position_after_calls 0 calls ≤ position_after_calls begun calls
 reached_from_0 begun [] = omega arith

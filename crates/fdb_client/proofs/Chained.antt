@@ -26,7 +26,7 @@ use Rattle.fdb_chain.specs.declared.error.ChainError.{ChainError}
 use Rattle.fdb_live.specs.Holding.{IsAsked, answers_to, own_answers, versions}
 use Rattle.fdb_live.specs.Seen.{Sight}
 use Rattle.fdb_client.proofs.Chains.{answers_to-append, prefix_trans, version_stays}
-use Rattle.fdb_client.specs.Account.{Account, Logs, drawn_in, sight}
+use Rattle.fdb_client.specs.Account.{Account, Logs, drawn_in, may_hear_more, sight}
 use Rattle.fdb_live.specs.declared.live_record.Ack.{Ack}
 use Rattle.fdb_client.specs.Agreeing.{Agrees, AgreesWithChain, AreJustified}
 use Rattle.fdb_client.specs.Calls.{Asks, IsReadAnswer, IsReportAnswer, Reads, Reports, request_of}
@@ -184,10 +184,10 @@ module _ (epoch_end recovery : ℕ) (start : Record) (before after : Account) (a
 
 -- a call that changed nothing of the record and by which a client saw no change of it, as it is logged
 logs_still : (asked : Input) (answer : CallAnswer) (before after : Account) → answer_changes answer ≡ false → position_after_calls before.begun before.calls ≡ length before.changes → after.number ≡ before.number → after.begun ≡ before.begun → after.changes ≡ before.changes
-    → IsPrefix before.answers after.answers → (drawn_in answer ≡ [] → own_answers (sight after) ≡ own_answers (sight before))
+    → IsPrefix before.answers after.answers → (may_hear_more asked answer ≡ false → after.answers ≡ before.answers) → (drawn_in answer ≡ [] → own_answers (sight after) ≡ own_answers (sight before))
     → after.calls ≡ before.calls ++ record { input = asked; asked = length before.changes; position = length before.changes; answer = answer } ∷ []
     → Logs before asked answer after
-logs_still asked answer before after still come_to number begun changes more not_drawn calls = record {
+logs_still asked answer before after still come_to number begun changes more hears not_drawn calls = record {
   number = number;
   begun = begun;
   calls = calls ∙ ap (λ n. before.calls ++ record { input = asked; asked = length before.changes; position = n; answer = answer } ∷ []) (sym (ap length changes));
@@ -197,6 +197,7 @@ logs_still asked answer before after still come_to number begun changes more not
   own = λ _. ap (λ (p : ℕ × List Change). own_positions (record { reporter = Some p.0; changes = p.1; answers = [] })) (λ i. (number i, changes i));
   changed = λ is. absurd (cc (is, still));
   answers = more;
+  hears = hears;
   not_drawn = not_drawn;
 }
 
@@ -205,7 +206,7 @@ pub logs_refused : (asked : Input) (cause : Refusal) (before after : Account) �
     → after.calls ≡ before.calls ++ record { input = asked; asked = length before.changes; position = length before.changes; answer = Refused cause } ∷ []
     → Logs before asked (Refused cause) after
 logs_refused asked cause before after come_to number begun answers changes calls =
-    logs_still asked (Refused cause) before after refl come_to number begun changes ([], append-nil before.answers ∙ sym answers)
+    logs_still asked (Refused cause) before after refl come_to number begun changes ([], append-nil before.answers ∙ sym answers) (λ _. answers)
     (λ _. ap (λ (p : ℕ × List Issued). answers_to p.0 p.1) (λ i. (number i, answers i))) calls
 
 pub same_issued : {one other : Issued} → Path (Result Issued ClientError) (Ok one) (Ok other) → one ≡ other
@@ -224,7 +225,7 @@ module _ (begun : issuing.Chain) (start : Record) (number begun_at num processed
   AddsCall answer = now_calls ≡ calls ++ record { input = input.Ask num processed at; asked = length old.changes; position = length old.changes; answer = answer } ∷ []
 
   asked_still : (answer : CallAnswer) → answer_changes answer ≡ false → (drawn_in answer ≡ [] → own_answers new ≡ own_answers old) → AddsCall answer → Logs before (input.Ask num processed at) answer after
-  asked_still answer still own adds = logs_still (input.Ask num processed at) answer before after still come_to refl refl same more (λ none. own_answers_same number old new whose stays (own none)) adds
+  asked_still answer still own adds = logs_still (input.Ask num processed at) answer before after still come_to refl refl same more (λ is. absurd (cc is)) (λ none. own_answers_same number old new whose stays (own none)) adds
 
   now_is : (by_then : List Issued) (issued : Issued) (b : Bool) → issued.fresh ≡ b → record begun { answers = new.answers } ≡ with_answer (record begun { answers = by_then }) issued
       → new.answers ≡ by_then ++ cond b (issued ∷ []) []

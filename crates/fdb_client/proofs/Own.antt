@@ -1,6 +1,5 @@
 -- Own positions and own answers that stay, and the number that comes after them.
-use Rattle.std.proofs.Common.{◌≡◌, ℕ, ◌+◌, ◌==◌, length, Some, Result, Ok, Err, ap, sym, ◌∙◌, arith}
-use Rattle.std.specs.Prelude.{IfOk}
+use Rattle.std.proofs.Common.{◌≡◌, ℕ, ◌+◌, ◌==◌, length, Some, ap, sym, ◌∙◌, arith}
 use Rattle.std.proofs.lemmas.List.Sums.{length-filter}
 use Rattle.fdb_history.specs.Chain.{latest}
 use Rattle.fdb_history.specs.declared.chain.Issued.{Issued}
@@ -24,8 +23,3 @@ own_answers_same number before after is same own =
 pub next_is : (epoch_end recovery : ℕ) (account : Account) → AgreesWithChain epoch_end recovery account → next_number account ≡ latest account.number account.answers + 1
 next_is epoch_end recovery account agrees =
     omega (arith, ap length agrees.own, length-filter (λ (answer : Issued). answer.proxy == account.number) account.answers)
-
--- what holds of a value of which another thing holds
-pub as_well : {X E : Type 0} (P Q : X → Type 0) (result : Result X E) → IfOk result P → IfOk result (λ x. P x → Q x) → IfOk result Q
-as_well P Q (Ok x) has then = then has
-as_well P Q (Err cause) has then = tt

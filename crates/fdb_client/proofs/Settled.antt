@@ -12,7 +12,7 @@ use mathlib.Core.List.{IsPrefix}
 use Rattle.fdb_history.specs.Audit.{Low}
 use Rattle.fdb_history.specs.Faults.{Nowhere, change_in, changes_in, changes_at, at_position, after_changes, register_at, IsFaultless, OutOfOrder, WronglyAnswered, IsClash, IsGap, IsOutOfOrder}
 use Rattle.fdb_history.specs.Laws.{HasMinimumWithin, HaveMinimaWithin}
-use Rattle.fdb_history.specs.Linear.{NeverGoesBack}
+use Rattle.fdb_history.specs.Linear.{GoesForward, NeverGoesBack}
 use Rattle.fdb_history.specs.Log.{answer_changes, calls_of, position_after_calls}
 use Rattle.fdb_history.specs.Register.{after_report}
 use Rattle.fdb_history.specs.declared.auditing.registers.PlacedChange.{PlacedChange}
@@ -22,9 +22,7 @@ use Rattle.fdb_history.specs.declared.log.CallAnswer.{CallAnswer}
 use Rattle.fdb_history.specs.declared.log.CallAnswer.TheVariants.{Version, Acked, Answered, Told, Refused}
 use Rattle.fdb_history.specs.declared.log.ClientLog.{ClientLog}
 use Rattle.fdb_history.specs.declared.register.Record.{Record}
-use Rattle.fdb_live.specs.Gathering.{AreNumbered}
-use Rattle.fdb_client.specs.Settling.{IsToldAll}
-use Rattle.fdb_live.specs.Holding.{own_answers}
+use Rattle.fdb_live.specs.Gathering.{AreNumbered, HasCaughtUp}
 use Rattle.fdb_live.specs.Seen.{Sight, changed_by, last_record, own_among, own_positions}
 use Rattle.fdb_live.specs.declared.view.Change.{Change}
 use Rattle.fdb_client.specs.Account.{Account}
@@ -295,24 +293,17 @@ register_is start logs log each (suc i) within =
 
 -- a call among some that never go back
 record IsInOrder (before : ℕ) (calls : List Call) (place : ℕ) (call : Call) : Type 0 where
-  pub least : position_after_calls before (take place calls) ≤ call.asked
-  pub more : call.asked ≤ call.position
-  pub new : IsTrue (answer_changes call.answer) → call.asked < call.position
+  pub forward : GoesForward (position_after_calls before (take place calls)) call
   pub most : call.position ≤ position_after_calls before calls
 
 in_order : (before : ℕ) (calls : List Call) (place : ℕ) (call : Call) → NeverGoesBack before calls → slice_get calls place ≡ Some call → IsInOrder before calls place call
 in_order before [] place call order is = absurd (cc is)
 in_order before (one ∷ calls) zero call order is =
     let same : one ≡ call = cc is in
-    subst (IsInOrder before (one ∷ calls) zero) same (record { least = order.0; more = order.1; new = order.2; most = comes_to one.position calls order.3 })
+    subst (IsInOrder before (one ∷ calls) zero) same (record { forward = order.0; most = comes_to one.position calls order.1 })
 in_order before (one ∷ calls) (suc place) call order is =
-    let rest = in_order one.position calls place call order.3 is in
-    record { least = rest.least; more = rest.more; new = rest.new; most = rest.most }
-
-not_out : (calls : List Call) (place : ℕ) (call : Call) → IsInOrder 0 calls place call → IsOutOfOrder (take place calls) call → ⊥
-not_out calls place call order (inl early) = let least = order.least in omega arith
-not_out calls place call order (inr (inl back)) = let more = order.more in omega arith
-not_out calls place call order (inr (inr (changed, same))) = let new = order.new changed in omega arith
+    let rest = in_order one.position calls place call order.1 is in
+    record { forward = rest.forward; most = rest.most }
 
 -- What is known of the logs of so many clients, beside the one list that all of them have seen.
 pub record AreSettled (start : Record) (logs : List ClientLog) (log : List Change) : Type 0 where
@@ -391,13 +382,13 @@ module _ (start : Record) (logs : List ClientLog) (log : List Change) (settled :
   pub no_low : Nowhere (Low start logs)
   no_low client place (call, is, low) =
       let (order, within) = reached client place call is in
-      let no_later = order.more in
+      let no_later = order.forward.1 in
       let agrees = settled.each client (inside logs client place call is) in
       let right = at_each (AgreesAt start client log) (calls_of logs client) place call agrees.each is in
       right.above (low_alike (register_at start logs) (record_at start log) call.asked call.answer (register call.asked (omega arith)) low)
 
   no_disorder : (client place : ℕ) → OutOfOrder logs client place → ⊥
-  no_disorder client place (call, is, out) = not_out (calls_of logs client) place call (reached client place call is).0 out
+  no_disorder client place (call, is, out) = out (reached client place call is).0.forward
 
   pub faultless : IsFaultless start logs
   faultless = record { order = no_disorder; clash = no_clash; gap = no_gap; wrong = no_wrong }
@@ -410,13 +401,15 @@ module _ (start : Record) (logs : List ClientLog) (log : List Change) (settled :
 
 -- ---- tokens that were brought together
 
-module _ (start : Record) (reporters : ℕ) (logs : List ClientLog) (old new : List Sight) (log : List Change) (logs_count : length logs ≡ reporters)
-    (told : (k : ℕ) (token : Sight) → slice_get old k ≡ Some token → IsToldAll log token k new) where
+module _ (start : Record) (reporters : ℕ) (logs : List ClientLog) (first : Sight) (old new : List Sight) (logs_count : length logs ≡ reporters)
+    (told : (k : ℕ) (token : Sight) → slice_get old k ≡ Some token → HasCaughtUp first token k new) where
+  abbrev log : List Change
+  log = first.changes
+
   -- what agrees with the tokens before agrees with the list that all of them have then
   pub settled_by : length old ≡ reporters → AreNumbered old → AllAgree start logs old → All (λ r. r.reporter < reporters) log
-      → ((k : ℕ) (token : Sight) → slice_get old k ≡ Some token → IsPrefix token.changes log)
       → AreSettled start logs log
-  settled_by old_count numbered agree by extends = record {
+  settled_by old_count numbered agree by = record {
     by = subst (λ n. All (λ r. r.reporter < n) log) (sym logs_count) by;
     each = λ k within. settled k (omega (arith, logs_count)) (take_more old k (omega (arith, logs_count, old_count)));
   }
@@ -426,8 +419,8 @@ module _ (start : Record) (reporters : ℕ) (logs : List ClientLog) (old new : L
           let all = told k token at in
           let whose : token.reporter ≡ Some k = numbered k token at in
           let same : changed_by k 1 log ≡ changed_by k 1 token.changes =
-          sym (ap (λ (p : Option ℕ × List Change). own_among p.0 p.1) (λ i. ((all.number ∙ whose) i, all.seen i))) ∙ (all.own_changes ∙ ap (λ who. own_among who token.changes) whose) in
-          agrees_more start k (calls_of logs k) token.changes log (whatever start k (calls_of logs k) token.answers [] token.changes (agree k token at)) (extends k token at) same
+          ap (λ who. own_among who log) (sym whose) ∙ (all.own.positions ∙ ap (λ who. own_among who token.changes) whose) in
+          agrees_more start k (calls_of logs k) token.changes log (whatever start k (calls_of logs k) token.answers [] token.changes (agree k token at)) all.seen.changes same
 
   -- and so with the tokens after
   pub still_agree : length old ≡ reporters → length new ≡ reporters → AreSettled start logs log → AllAgree start logs new
@@ -435,25 +428,6 @@ module _ (start : Record) (reporters : ℕ) (logs : List ClientLog) (old new : L
       let within : k < reporters = omega (arith, new_count, slice_get_within new k token at) in
       let (was, before, _) = take_more old k (omega (arith, old_count)) in
       let all = told k was before in
-      let is : all.now ≡ token = same_Some all.now token (sym all.at ∙ at) in
-      subst (λ (seen : List Change). Agrees start (record { number = k; begun = 0; calls = calls_of logs k; answers = token.answers; changes = seen })) (sym all.seen ∙ ap (λ (t : Sight). t.changes) is)
+      let is : record first { reporter = was.reporter } ≡ token = same_Some _ token (sym all.at ∙ at) in
+      subst (λ (seen : List Change). Agrees start (record { number = k; begun = 0; calls = calls_of logs k; answers = token.answers; changes = seen })) (ap (λ (t : Sight). t.changes) is)
       (whatever start k (calls_of logs k) [] token.answers log (settled.each k (omega (arith, logs_count))))
-
--- what the gathering says of each token
-pub told_all : (reporters : ℕ) (first : Sight) (old new : List Sight) → length old ≡ reporters → AreNumbered old
-    → ((k : ℕ) → k < reporters → slice_get new k ≡ Some (record first { reporter = Some k }))
-    → ((k : ℕ) (token : Sight) → slice_get old k ≡ Some token → IsPrefix token.answers first.answers)
-    → ((k : ℕ) (token other : Sight) → slice_get old k ≡ Some token → slice_get new k ≡ Some other → own_positions other ≡ own_positions token)
-    → ((k : ℕ) (token other : Sight) → slice_get old k ≡ Some token → slice_get new k ≡ Some other → own_answers other ≡ own_answers token)
-    → (k : ℕ) (token : Sight) → slice_get old k ≡ Some token → IsToldAll first.changes token k new
-told_all reporters first old new count numbered list answers own own_drawn k token is =
-    let at = list k (omega (arith, count, slice_get_within old k token is)) in
-    record {
-      now = record first { reporter = Some k };
-      at = at;
-      number = sym (numbered k token is);
-      seen = refl;
-      answers = answers k token is;
-      own_answers = own_drawn k token (record first { reporter = Some k }) is at;
-      own_changes = own k token (record first { reporter = Some k }) is at;
-    }

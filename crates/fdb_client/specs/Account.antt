@@ -7,7 +7,7 @@ use Rattle.fdb_history.specs.declared.chain.Issued.{Issued}
 use Rattle.fdb_history.specs.declared.log.Call.{Call}
 use Rattle.fdb_history.specs.declared.log.CallAnswer.{CallAnswer}
 use Rattle.fdb_history.specs.declared.log.Input.{Input}
-use Rattle.fdb_history.specs.declared.log.Input.TheVariants.{Learn}
+use Rattle.fdb_history.specs.declared.log.Input.TheVariants.{Ask, Learn}
 use Rattle.fdb_live.specs.Holding.{own_answers}
 use Rattle.fdb_live.specs.Seen.{Sight, own_positions}
 use Rattle.fdb_live.specs.declared.view.Change.{Change}
@@ -51,13 +51,18 @@ abbrev pub may_see_more : Input → CallAnswer → Bool
 may_see_more (Learn from) answer = true
 may_see_more input answer = may_advance input answer
 
+-- whether it may have heard of more answers to requests for commit versions: after an ask too
+abbrev pub may_hear_more : Input → CallAnswer → Bool
+may_hear_more (Ask num processed at) answer = true
+may_hear_more input answer = may_see_more input answer
+
 -- the commit version in an answer, if it was drawn for its call
 abbrev pub drawn_in : CallAnswer → List Issued
 drawn_in answer = filter (λ issued. issued.fresh) (answer_in answer)
 
 -- A call with this input was logged, with this answer: as the last of the client's calls, from the
 -- position that it had seen before to the one that it has seen since, which are those of its token.
--- It has seen more only where it may have, and forgets nothing. A position became its own exactly
+-- It has seen and heard more only where it may have, and forgets nothing. A position became its own exactly
 -- where the answer says that the call changed the register, and an answer only where it is fresh.
 pub record Logs (before : Account) (input : Input) (answer : CallAnswer) (after : Account)
     : Type 0 where
@@ -77,5 +82,6 @@ pub record Logs (before : Account) (input : Input) (answer : CallAnswer) (after 
   pub changed : answer_changes answer ≡ true
       → own_positions (sight after) ≡ own_positions (sight before) ++ length after.changes ∷ []
   pub answers : IsPrefix before.answers after.answers
+  pub hears : may_hear_more input answer ≡ false → after.answers ≡ before.answers
   pub not_drawn : drawn_in answer ≡ []
       → own_answers (sight after) ≡ own_answers (sight before)

@@ -1,7 +1,8 @@
 -- What a client's calls may log. (all of this is this product's own)
-use Rattle.std.specs.Prelude.{◌≡◌, ℕ, ◌+◌, ◌<◌, ◌≤◌, ◌++◌, Bool, true, ◌&&◌, not, List, length, Option, None, Some, Result}
+use Rattle.std.specs.Prelude.{◌≡◌, ◌≢◌, ◌⊎◌, ℕ, ◌+◌, ◌<◌, ◌≤◌, ◌++◌, Bool, true, ◌&&◌, not, List, length, Option, None, Some, Result, Ok, Err}
 use Rattle.std.specs.Bool.{MatchBool}
 use mathlib.Core.List.{IsPrefix}
+use Rattle.fdb_chain.specs.declared.error.ChainError.TheVariants.{Exhausted}
 use Rattle.fdb_history.specs.Audit.{IsNotAbove}
 use Rattle.fdb_history.specs.Issuing as definition
 use Rattle.fdb_history.specs.Log.{fresh_answers}
@@ -16,15 +17,22 @@ use Rattle.fdb_history.specs.declared.log.Input.TheVariants as input
 use Rattle.fdb_history.specs.declared.log.Refusal.{Refusal}
 use Rattle.fdb_history.specs.declared.log.Refusal.TheVariants as refusal
 use Rattle.fdb_history.specs.declared.register.Record.{Record}
-use Rattle.fdb_live.specs.Holding.{answers_to, own_answers}
+use Rattle.fdb_live.specs.Holding.{answers_to, least_above, own_answers}
 use Rattle.fdb_live.specs.Seen.{Sight}
 use Rattle.fdb_live.specs.Seen.{IsBounded, IsNotBehind, IsChangedBy, IsNotChangedBy, IsRecord, last_record, longer}
 use Rattle.fdb_live.specs.declared.live_record.Ack.{Ack}
 use Rattle.fdb_live.specs.declared.view.Change.{Change}
-use Rattle.fdb_client.specs.Account.{Account, Logs, drawn_in, sight}
+use Rattle.fdb_client.specs.Account.{Account, IsSameClient, Logs, drawn_in, sight}
 use Rattle.fdb_client.specs.Returned.{ReadReturns, AskReturns, ReportReturns}
 use Rattle.fdb_client.specs.declared.error.ClientError.{ClientError}
+use Rattle.fdb_client.specs.declared.error.ClientError.TheVariants.{Chain, Memory}
 use Rattle.fdb_client.specs.declared.reply.ReadVersion.{ReadVersion}
+
+-- It is the same client after a call, and what it has seen has not fallen.
+pub record IsNotSetBack (start : Record) (before after : Account) : Type 0 where
+  pub client : IsSameClient before after
+  pub never_falls : IsNotBehind (last_record start before.changes) (last_record start after.changes)
+  pub least : least_above before.answers ≤ least_above after.answers
 
 -- A read gets the last record that the client has then seen, and is turned away exactly where that
 -- is locked and the read is not lock-aware. Else it was refused as a read may be.
@@ -82,6 +90,21 @@ pub record Asks (begun : definition.Chain) (start : Record) (num processed at : 
       → ⊥
   pub returned : AskReturns answer result
 
+-- A request drew a version, or was refused since the versions are used up, or since memory is.
+abbrev pub IsFreshUnlessOut : Result Issued ClientError → Type 0
+IsFreshUnlessOut (Ok issued) = issued.fresh ≡ true
+IsFreshUnlessOut (Err cause) = (cause ≡ Chain Exhausted) ⊎ (cause ≡ Memory)
+
+-- What a result owes to the client's own answers alone. Under the next number a version is drawn, unless
+-- versions or memory are out; under any other the answer is the definition's on the chain that the
+-- client has seen, unless memory is refused.
+pub record IsDue (seen : definition.Chain) (num processed at : ℕ) (before : Account)
+    (result : Result Issued ClientError) : Type 0 where
+  pub next : num ≡ next_number before → IsFreshUnlessOut result
+  pub decided : num ≢ next_number before → result ≢ Err Memory
+      → AskReturns (logged_as (definition.answer_to seen (request_of before num processed at)))
+      result
+
 -- A report is refused as `NotIssued` where the client's calls have no version under its number, and
 -- as `MinAbove` where its minimum known committed version is above the version that they have.
 abbrev pub IsReportRefusal : Option ℕ → ℕ → Refusal → Type 0
@@ -112,6 +135,15 @@ pub record Reports (start : Record) (num : ℕ) (locked : Bool) (metadata : Opti
       before after answer
   pub returned : ReportReturns (length after.changes) answer result
 
+-- What a report of the version under a number was acknowledged with, to a client that has then seen
+-- these changes: their last record is not below that version, and all is within bounds.
+pub record IsAckOf (start : Record) (version : Option ℕ) (after : List Change) (ack : Ack)
+    : Type 0 where
+  pub covers : (reported : ℕ) → version ≡ Some reported
+      → reported ≤ (last_record start after).version
+  pub position : ack.position ≡ length after
+  pub bounded : IsBounded (length after) (last_record start after)
+
 -- A tell was logged, with the client that is told.
 abbrev pub Tells : ℕ → Account → Account → Type 0
 Tells to before after = Logs before (input.Tell to) Told after
@@ -123,3 +155,8 @@ pub record Learns (from : ℕ) (told : Sight) (before after : Account) : Type 0 
   pub seen : after.changes ≡ longer before.changes told.changes
   pub knows : IsPrefix told.changes after.changes
   pub answers : after.answers ≡ longer before.answers told.answers
+
+-- What a client has seen is not behind what it was told: neither its record, nor the versions drawn.
+pub record CoversTold (start : Record) (told : Sight) (after : Account) : Type 0 where
+  pub covers : IsNotBehind (last_record start told.changes) (last_record start after.changes)
+  pub least_told : least_above told.answers ≤ least_above after.answers

@@ -13,8 +13,8 @@ use Rattle.fdb_history.specs.declared.log.Refusal.{Refusal}
 use Rattle.fdb_history.specs.declared.log.Refusal.TheVariants as refusal
 use Rattle.fdb_live.specs.declared.live_record.Ack.{Ack}
 use Rattle.fdb_live.specs.declared.live_record.LiveError.TheVariants as live
-use Rattle.fdb_proxy.specs.declared.cause.Cause.{Cause}
-use Rattle.fdb_proxy.specs.declared.cause.Cause.TheVariants as cause
+use Rattle.fdb_proxy.specs.declared.error.Cause.{Cause}
+use Rattle.fdb_proxy.specs.declared.error.Cause.TheVariants as cause
 use Rattle.fdb_proxy.specs.declared.error.ProxyError.{ProxyError}
 use Rattle.fdb_proxy.specs.declared.error.ProxyError.TheVariants as desk
 use Rattle.fdb_queue.specs.declared.error.QueueError.TheVariants as queue

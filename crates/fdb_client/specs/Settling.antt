@@ -1,12 +1,13 @@
 -- Logs of a service's clients beside their tokens. (this product's own)
 use Rattle.std.specs.Prelude.{◌≡◌, ℕ, ◌<◌, [], Some, List, length, map, slice_get}
+use Rattle.fdb_history.specs.Audit.{Low}
+use Rattle.fdb_history.specs.Faults.{IsFaultless, Nowhere}
+use Rattle.fdb_history.specs.Laws.{HaveMinimaWithin}
 use Rattle.fdb_history.specs.Log.{calls_of}
 use Rattle.fdb_history.specs.declared.log.ClientLog.{ClientLog}
 use Rattle.fdb_history.specs.declared.register.Record.{Record}
-use mathlib.Core.List.{IsPrefix}
-use Rattle.fdb_live.specs.Holding.{own_answers}
-use Rattle.fdb_live.specs.Seen.{Sight, own_positions}
-use Rattle.fdb_live.specs.declared.view.Change.{Change}
+use Rattle.fdb_live.specs.Gathering.{AreNumbered}
+use Rattle.fdb_live.specs.Seen.{Sight}
 use Rattle.fdb_client.specs.Account.{Account, new_account}
 use Rattle.fdb_client.specs.Agreeing.{Agrees, AgreesWithChain}
 
@@ -52,14 +53,16 @@ pub record AreNew (number : ℕ) (clients : List Account) : Type 0 where
   pub count : length clients ≡ number
   pub each : (k : ℕ) → k < number → slice_get clients k ≡ Some (new_account k [] [])
 
--- What stands at a place among some tokens is what this one has become once its holder has seen all
--- of these changes: it has lost no answer, and what is its own is as before.
-pub record IsToldAll (changes : List Change) (old : Sight) (k : ℕ) (tokens : List Sight)
-    : Type 0 where
-  pub now : Sight
-  pub at : slice_get tokens k ≡ Some now
-  pub number : now.reporter ≡ old.reporter
-  pub seen : now.changes ≡ changes
-  pub answers : IsPrefix old.answers now.answers
-  pub own_answers : own_answers now ≡ own_answers old
-  pub own_changes : own_positions now ≡ own_positions old
+-- No fault of the register's history stands in these logs, no report told of a minimum above its
+-- version, and each version but the first is above what its asker had seen.
+pub record HaveNoFault (start : Record) (logs : List ClientLog) : Type 0 where
+  pub faultless : IsFaultless start logs
+  pub minima : HaveMinimaWithin logs
+  pub above : Nowhere (Low start logs)
+
+-- These are the tokens of so many reporters, in order, which agree with these logs.
+pub record AreTokensOf (start : Record) (reporters : ℕ) (logs : List ClientLog)
+    (tokens : List Sight) : Type 0 where
+  pub count : length tokens ≡ reporters
+  pub numbered : AreNumbered tokens
+  pub agree : AllAgree start logs tokens

@@ -1,21 +1,18 @@
 //! A client that calls the service, one call at a time, and logs each call.
 
-ghost use Rattle.std.specs.Prelude.{◌≡◌, ◌≢◌, ◌+◌, ◌<◌, ◌≤◌, ◌⊎◌, ℕ, [], length, slice_get, true};
-ghost use Rattle.std.specs.Prelude.{Contains, IfOk, IfErr, OnOk, OnErr, None, Some};
+ghost use Rattle.std.specs.Prelude.{◌≡◌, ◌≢◌, [], length};
+ghost use Rattle.std.specs.Prelude.{IfOk, IfErr, OnOk, OnErr, None, Some};
 ghost use mathlib.Core.List.{IsPrefix};
-ghost use Rattle.fdb_chain.specs.ChainCore.{IsFor, new_chain};
-ghost use Rattle.fdb_chain.specs.declared.error.ChainError.TheVariants.{Exhausted};
-ghost use Rattle.fdb_history.specs.Issuing.{answer_to};
+ghost use Rattle.fdb_chain.specs.ChainCore.{chain_of, new_chain};
 ghost use Rattle.fdb_history.specs.Log.{position_after_calls};
-ghost use Rattle.fdb_history.specs.Strays.{issued_under, logged_as};
-ghost use Rattle.fdb_history.specs.declared.chain.Issued.{Issued};
-ghost use Rattle.fdb_live.specs.Holding.{IsAboveRead, chain_of, least_above, own_answers};
-ghost use Rattle.fdb_live.specs.Seen.{IsBounded, IsNotBehind, last_record, own_positions};
+ghost use Rattle.fdb_history.specs.Strays.{issued_under};
+ghost use Rattle.fdb_live.specs.Holding.{IsIssued, own_answers};
+ghost use Rattle.fdb_live.specs.Seen.{own_positions};
 ghost use Rattle.fdb_client.specs.Account.{Account, IsSameClient, new_account, sight};
 ghost use Rattle.fdb_client.specs.Agreeing.{Agrees, AgreesWithChain};
-ghost use Rattle.fdb_client.specs.Calls.{Asks, IsReadOf, Learns, Reads, Reports, Tells};
+ghost use Rattle.fdb_client.specs.Calls.{Asks, CoversTold, IsAckOf, IsDue, IsFreshUnlessOut};
+ghost use Rattle.fdb_client.specs.Calls.{IsNotSetBack, IsReadOf, Learns, Reads, Reports, Tells};
 ghost use Rattle.fdb_client.specs.Calls.{next_number, request_of};
-ghost use Rattle.fdb_client.specs.Returned.{AskReturns};
 
 use crate::error::ClientError;
 use crate::journal::Journal;
@@ -29,7 +26,7 @@ use std::alloc::Global;
 use std::marker::Model;
 use std::sync::Wait;
 
-/// A client of the service `J`, with the log of its calls. It plays the commit proxy of its own
+/// A client of the service `S`, with the log of its calls. It plays the commit proxy of its own
 /// number.
 ///
 /// Contracts see it as its number, the position that it began with, its calls, and the answers and
@@ -39,16 +36,16 @@ use std::sync::Wait;
 /// read that is refused as `Locked` has seen the record, and an ask may show the client more
 /// answers, also where it is refused.
 #[derive(Drop)]
-pub struct Client<'a, J: Live> {
+pub struct Client<'a, S: Live> {
     alloc: Global,
     id: u32,
-    master: &'a Master<J>,
-    token: Seen<J>,
+    master: &'a Master<S>,
+    token: Seen<S>,
     begun: u64,
     journal: Journal,
 }
 
-impl<'a, J: Live> Model for Client<'a, J> {
+impl<'a, S: Live> Model for Client<'a, S> {
     ghost use Rattle.std.specs.Prelude.{◌≡◌, Some, length};
     ghost use Rattle.fdb_client.specs.Account.{Account};
     ghost use Rattle.fdb_client.specs.Agreeing.{Agrees, AgreesWithChain};
@@ -67,14 +64,14 @@ impl<'a, J: Live> Model for Client<'a, J> {
     ghost invariant = { λ client. (client.token.reporter ≡ Some client.id)
         × (position_after_calls client.begun client.journal.calls.items
         ≡ length client.token.changes)
-        × Agrees J.start (record {
+        × Agrees S.start (record {
           number = client.id;
           begun = client.begun;
           calls = client.journal.calls.items;
           answers = client.token.answers;
           changes = client.token.changes;
         })
-        × AgreesWithChain J.epoch_end J.recovery (record {
+        × AgreesWithChain S.epoch_end S.recovery (record {
           number = client.id;
           begun = client.begun;
           calls = client.journal.calls.items;
@@ -83,10 +80,10 @@ impl<'a, J: Live> Model for Client<'a, J> {
         }) };
 }
 
-impl<'a, J: Live> Client<'a, J> {
+impl<'a, S: Live> Client<'a, S> {
     /// A client that has called nobody yet, with the token of the commit proxy of its number. Takes
     /// no memory.
-    pub fn new(alloc: Global, id: u32, master: &'a Master<J>, token: Seen<J>) -> Self
+    pub fn new(alloc: Global, id: u32, master: &'a Master<S>, token: Seen<S>) -> Self
         requires number { token.reporter ≡ Some id }
         requires drew_none { own_answers token ≡ [] }
         requires owns_none { own_positions token ≡ [] }
@@ -149,18 +146,14 @@ impl<'a, J: Live> Client<'a, J> {
         &mut self,
         rt: &R,
         gate: &G,
-        desk: &Desk<J>,
+        desk: &Desk<S>,
         opts: GrvOpts,
     ) -> Result<ReadVersion, ClientError>
         ensures logged { result ≢ Err ClientError.Memory
-            → Reads J.start opts self.old self.new result }
-        ensures read { IfOk result (IsReadOf J.start opts self.old.changes self.new.changes) }
-        ensures never_falls { IsNotBehind
-            (last_record J.start self.old.changes)
-            (last_record J.start self.new.changes) }
-        ensures least { least_above self.old.answers ≤ least_above self.new.answers }
+            → Reads S.start opts self.old self.new result }
+        ensures read { IfOk result (IsReadOf S.start opts self.old.changes self.new.changes) }
+        ensures keeps { IsNotSetBack S.start self.old self.new }
         ensures memory { result ≡ Err ClientError.Memory → self.new ≡ self.old }
-        ensures client { IsSameClient self.old self.new }
     {
         self.journal.reserve()?;
         let logged = opts.clone()?;
@@ -201,24 +194,13 @@ impl<'a, J: Live> Client<'a, J> {
         at: u64,
     ) -> Result<Issued, ClientError>
         ensures logged { result ≢ Err ClientError.Memory
-            → Asks (new_chain J.epoch_end J.recovery J.reporters) J.start
+            → Asks (new_chain S.epoch_end S.recovery S.reporters) S.start
             (next_number self.old) processed at self.old self.new result }
-        ensures request { IfOk result
-            (IsFor (request_of self.old (next_number self.old) processed at)) }
-        ensures fresh { IfOk result (λ issued. issued.fresh ≡ true) }
-        ensures stands { IfOk result
-            (λ issued. slice_get self.new.answers issued.ordinal ≡ Some issued) }
-        ensures above { IfOk result (λ issued. (earlier : Issued)
-            → Contains self.old.answers earlier → earlier.version < issued.version) }
-        ensures above_old { IfOk result
-            (λ issued. least_above self.old.answers ≤ issued.version) }
-        ensures least { IfOk result
-            (λ issued. least_above self.new.answers ≡ issued.version + 1) }
-        ensures above_read { IfOk result
-            (IsAboveRead (last_record J.start self.old.changes).version) }
+        ensures issued { IfOk result (IsIssued S.start
+            (request_of self.old (next_number self.old) processed at)
+            (sight self.old) (sight self.new)) }
+        ensures fresh { IsFreshUnlessOut result }
         ensures extends { IsPrefix self.old.answers self.new.answers }
-        ensures refused { IfErr result (λ cause. (cause ≡ ClientError.Chain Exhausted)
-            ⊎ (cause ≡ ClientError.Memory)) }
         ensures memory { result ≡ Err ClientError.Memory
             → self.new ≡ record self.old { answers = self.new.answers } }
         ensures client { IsSameClient self.old self.new }
@@ -243,27 +225,12 @@ impl<'a, J: Live> Client<'a, J> {
         at: u64,
     ) -> Result<Issued, ClientError>
         ensures logged { result ≢ Err ClientError.Memory
-            → Asks (new_chain J.epoch_end J.recovery J.reporters) J.start
+            → Asks (new_chain S.epoch_end S.recovery S.reporters) S.start
             num processed at self.old self.new result }
-        ensures request { IfOk result (IsFor (request_of self.old num processed at)) }
-        ensures next { num ≡ next_number self.old → IfOk result (λ issued. issued.fresh ≡ true) }
-        ensures next_refused { num ≡ next_number self.old → IfErr result
-            (λ cause. (cause ≡ ClientError.Chain Exhausted)
-            ⊎ (cause ≡ ClientError.Memory)) }
-        ensures decided { num ≢ next_number self.old → result ≢ Err ClientError.Memory
-            → AskReturns (logged_as (answer_to
-            (chain_of J.epoch_end J.recovery J.reporters self.old.answers)
-            (request_of self.old num processed at))) result }
-        ensures stands { IfOk result (λ issued. slice_get self.new.answers issued.ordinal
-            ≡ Some (record issued { fresh = true })) }
-        ensures above { IfOk result (λ issued. issued.fresh ≡ true → (earlier : Issued)
-            → Contains self.old.answers earlier → earlier.version < issued.version) }
-        ensures above_old { IfOk result (λ issued. issued.fresh ≡ true
-            → least_above self.old.answers ≤ issued.version) }
-        ensures least { IfOk result (λ issued. issued.fresh ≡ true
-            → least_above self.new.answers ≡ issued.version + 1) }
-        ensures above_read { IfOk result (λ issued. issued.fresh ≡ true
-            → IsAboveRead (last_record J.start self.old.changes).version issued) }
+        ensures issued { IfOk result (IsIssued S.start (request_of self.old num processed at)
+            (sight self.old) (sight self.new)) }
+        ensures due { IsDue (chain_of S.epoch_end S.recovery S.reporters self.old.answers)
+            num processed at self.old result }
         ensures extends { IsPrefix self.old.answers self.new.answers }
         ensures memory { result ≡ Err ClientError.Memory
             → self.new ≡ record self.old { answers = self.new.answers } }
@@ -308,19 +275,11 @@ impl<'a, J: Live> Client<'a, J> {
         min_known: u64,
     ) -> Result<Ack, ClientError>
         ensures logged { result ≢ Err ClientError.Memory
-            → Reports J.start num locked metadata min_known self.old self.new result }
-        ensures never_falls { IsNotBehind
-            (last_record J.start self.old.changes)
-            (last_record J.start self.new.changes) }
-        ensures covers { OnOk result ((version : ℕ)
-            → issued_under self.old.calls num ≡ Some version
-            → version ≤ (last_record J.start self.new.changes).version) }
-        ensures position { IfOk result (λ ack. ack.position ≡ length self.new.changes) }
-        ensures bounded { OnOk result
-            (IsBounded (length self.new.changes) (last_record J.start self.new.changes)) }
-        ensures least { least_above self.old.answers ≤ least_above self.new.answers }
+            → Reports S.start num locked metadata min_known self.old self.new result }
+        ensures acked { IfOk result
+            (IsAckOf S.start (issued_under self.old.calls num) self.new.changes) }
+        ensures keeps { IsNotSetBack S.start self.old self.new }
         ensures memory { result ≡ Err ClientError.Memory → self.new ≡ self.old }
-        ensures client { IsSameClient self.old self.new }
     {
         self.journal.reserve()?;
         let input = Input::Report {
@@ -370,7 +329,7 @@ impl<'a, J: Live> Client<'a, J> {
     /// A token that has seen what the client has, for another client to learn.
     ///
     /// It is refused for memory alone, and waits for nobody.
-    pub fn tell(&mut self, to: u32) -> Result<Seen<J>, ClientError>
+    pub fn tell(&mut self, to: u32) -> Result<Seen<S>, ClientError>
         ensures logged { OnOk result (Tells to self.old self.new) }
         ensures given { IfOk result (λ told. told ≡ record (sight self.old) { reporter = None }) }
         ensures stays { sight self.new ≡ sight self.old }
@@ -397,23 +356,15 @@ impl<'a, J: Live> Client<'a, J> {
         &mut self,
         rt: &R,
         from: u32,
-        told: Seen<J>,
-    ) -> Result<(), (ClientError, Seen<J>)>
+        told: Seen<S>,
+    ) -> Result<(), (ClientError, Seen<S>)>
         requires { told.reporter ≡ None }
         ensures logged { OnOk result (Learns from told self.old self.new) }
-        ensures never_falls { IsNotBehind
-            (last_record J.start self.old.changes)
-            (last_record J.start self.new.changes) }
-        ensures covers { OnOk result (IsNotBehind
-            (last_record J.start told.changes)
-            (last_record J.start self.new.changes)) }
-        ensures least { least_above self.old.answers ≤ least_above self.new.answers }
-        ensures least_told { OnOk result
-            (least_above told.answers ≤ least_above self.new.answers) }
+        ensures told { OnOk result (CoversTold S.start told self.new) }
+        ensures keeps { IsNotSetBack S.start self.old self.new }
         ensures memory { IfErr result (λ refused. refused.0 ≡ ClientError.Memory) }
         ensures handed_back { IfErr result (λ refused. refused.1 ≡ told) }
         ensures unchanged { OnErr result (self.new ≡ self.old) }
-        ensures client { IsSameClient self.old self.new }
     {
         if self.journal.reserve().is_err() {
             return Err((ClientError::Memory, told));
@@ -432,14 +383,14 @@ impl<'a, J: Live> Client<'a, J> {
     /// The client's log and its token, which agree with one another. They do so also where the log
     /// is read as that of a client that began at the first position, whatever position this one
     /// began at; that is what settling asks for. Takes no memory.
-    pub fn finish(self) -> (ClientLog, Seen<J>)
+    pub fn finish(self) -> (ClientLog, Seen<S>)
         ensures log { result.0 ≡ record { calls = self.entry.calls } }
         ensures token { result.1 ≡ sight self.entry }
         ensures come_to { position_after_calls self.entry.begun self.entry.calls
             ≡ length self.entry.changes }
-        ensures agrees { Agrees J.start self.entry }
-        ensures chain { AgreesWithChain J.epoch_end J.recovery self.entry }
-        ensures settles { Agrees J.start (record self.entry { begun = 0 }) }
+        ensures agrees { Agrees S.start self.entry }
+        ensures chain { AgreesWithChain S.epoch_end S.recovery self.entry }
+        ensures settles { Agrees S.start (record self.entry { begun = 0 }) }
     {
         let Client {
             alloc: _,

@@ -45,31 +45,31 @@ pub struct ClusterConfig<'c> {
 /// What the clients of a service call: a master, and the desks of GRV proxies, which serve there
 /// while [`serve_while`](crate::serve_while) runs something else.
 #[derive(Drop)]
-pub struct Cluster<'c, J: Live> {
+pub struct Cluster<'c, S: Live> {
     pub(crate) config: ClusterConfig<'c>,
-    pub(crate) master: Master<J>,
-    pub(crate) desks: Vec<Desk<J>>,
+    pub(crate) master: Master<S>,
+    pub(crate) desks: Vec<Desk<S>>,
     pub ghost in_range: { IsClusterConfig config },
-    pub ghost epoch_end: { config.epoch_end ≡ J.epoch_end },
-    pub ghost recovery: { config.start.version ≡ J.recovery },
-    pub ghost start: { config.start ≡ J.start },
-    pub ghost clients: { config.clients ≡ J.reporters },
+    pub ghost epoch_end: { config.epoch_end ≡ S.epoch_end },
+    pub ghost recovery: { config.start.version ≡ S.recovery },
+    pub ghost start: { config.start ≡ S.start },
+    pub ghost clients: { config.clients ≡ S.reporters },
     ghost each: { vec_len desks ≡ config.grv_proxies },
 }
 
-impl<'c, J: Live> Cluster<'c, J> {
+impl<'c, S: Live> Cluster<'c, S> {
     /// A cluster of this configuration that nobody has called yet, with the master that was opened
     /// for it. It is refused for memory alone.
     pub fn new(
         alloc: Global,
-        master: Master<J>,
+        master: Master<S>,
         config: ClusterConfig<'c>,
     ) -> Result<Self, AllocError>
         requires in_range { IsClusterConfig config }
-        requires epoch_end { config.epoch_end ≡ J.epoch_end }
-        requires recovery { config.start.version ≡ J.recovery }
-        requires start { config.start ≡ J.start }
-        requires clients { config.clients ≡ J.reporters }
+        requires epoch_end { config.epoch_end ≡ S.epoch_end }
+        requires recovery { config.start.version ≡ S.recovery }
+        requires start { config.start ≡ S.start }
+        requires clients { config.clients ≡ S.reporters }
         ensures config { IfOk result (λ cluster. cluster.config ≡ config.entry) }
         ensures master { IfOk result (λ cluster. cluster.master ≡ master) }
     {
@@ -90,14 +90,14 @@ impl<'c, J: Live> Cluster<'c, J> {
     }
 
     /// The master, with a commit proxy for each client.
-    pub fn master(&self) -> &Master<J>
+    pub fn master(&self) -> &Master<S>
         ensures { result.now ≡ self.now.master }
     {
         &self.master
     }
 
     /// The live record that all clients report to and all GRV proxies read.
-    pub fn live(&self) -> &LiveRecord<J>
+    pub fn live(&self) -> &LiveRecord<S>
         ensures { result.now ≡ self.now.master.live }
     {
         self.master.record()
@@ -105,7 +105,7 @@ impl<'c, J: Live> Cluster<'c, J> {
 
     /// The desk of the GRV proxy with this number. They are numbered from 0, and beyond the last
     /// one they begin anew. Who closes a desk ends its proxy.
-    pub fn desk(&self, number: u32) -> &Desk<J> {
+    pub fn desk(&self, number: u32) -> &Desk<S> {
         &self.desks[self.place(number)]
     }
 
@@ -123,8 +123,8 @@ impl<'c, J: Live> Cluster<'c, J> {
         &self,
         alloc: Global,
         number: u32,
-        first: &mut Seen<J>,
-    ) -> Result<GrvProxy<'_, J>, AllocError>
+        first: &mut Seen<S>,
+    ) -> Result<GrvProxy<'_, S>, AllocError>
         ensures { IfOk result (IsMadeFor self.now.config) }
     {
         let queue = queue_of(alloc, self.config)?;
@@ -143,7 +143,7 @@ impl<'c, J: Live> Cluster<'c, J> {
 }
 
 /// So many open desks with no request on them.
-fn desks_of<J: Live>(alloc: Global, grv_proxies: u32) -> Result<Vec<Desk<J>>, AllocError>
+fn desks_of<S: Live>(alloc: Global, grv_proxies: u32) -> Result<Vec<Desk<S>>, AllocError>
     ensures { IfOk result (λ desks. vec_len desks ≡ grv_proxies) }
 {
     let mut desks = Vec::with_capacity(alloc, grv_proxies as usize)?;
@@ -169,7 +169,7 @@ fn queue_of<T>(alloc: Global, config: ClusterConfig<'_>) -> Result<GrvQueue<T>, 
 
 /// A cluster whose master was opened. Contracts see it as what the master was opened with, and the
 /// configuration of the cluster. [`OpenedCluster::parts`] gives the cluster and its tokens, under a
-/// type `J` that is the name of the service in their types, and stands for what contracts see.
+/// type `S` that is the name of the service in their types, and stands for what contracts see.
 #[derive(Drop)]
 pub struct OpenedCluster<'c> {
     config: ClusterConfig<'c>,
@@ -193,13 +193,13 @@ impl<'c> Model for OpenedCluster<'c> {
 
 /// A cluster that nobody has called yet, and its tokens, none of which has seen a change.
 #[derive(Drop)]
-pub struct ClusterParts<'c, J: Live> {
+pub struct ClusterParts<'c, S: Live> {
     /// The cluster, whose desks no proxy serves yet.
-    pub cluster: Cluster<'c, J>,
+    pub cluster: Cluster<'c, S>,
     /// A token of the live record: for the GRV proxies, and to settle with.
-    pub first: Seen<J>,
+    pub first: Seen<S>,
     /// The token of each client, at the place of its number.
-    pub tokens: Vec<Seen<J>>,
+    pub tokens: Vec<Seen<S>>,
 }
 
 impl<'c> ClusterConfig<'c> {
@@ -231,20 +231,20 @@ impl<'c> ClusterConfig<'c> {
 impl<'c> OpenedCluster<'c> {
     /// The cluster under a name that stands for it, with its tokens. It is refused for memory alone;
     /// the cluster is then given up.
-    pub fn parts<J: Live>(self, alloc: Global) -> Result<ClusterParts<'c, J>, AllocError>
-        requires chained { J.chained ≡ true }
+    pub fn parts<S: Live>(self, alloc: Global) -> Result<ClusterParts<'c, S>, AllocError>
+        requires chained { S.chained ≡ true }
         requires opened { self.founding
-            ≡ origin_of J.table J.start J.reporters J.chained J.epoch_end J.recovery }
+            ≡ origin_of S.table S.start S.reporters S.chained S.epoch_end S.recovery }
         ensures config { IfOk result (λ parts. parts.cluster.config ≡ self.entry.config) }
         ensures first { IfOk result
             (λ parts. parts.first ≡ record { reporter = None; changes = []; answers = [] }) }
-        ensures count { IfOk result (λ parts. vec_len parts.tokens ≡ J.reporters) }
-        ensures tokens { IfOk result (λ parts. (k : ℕ) → k < J.reporters
+        ensures count { IfOk result (λ parts. vec_len parts.tokens ≡ S.reporters) }
+        ensures tokens { IfOk result (λ parts. (k : ℕ) → k < S.reporters
             → slice_get parts.tokens.items k
             ≡ Some (record { reporter = Some k; changes = []; answers = [] })) }
     {
         let OpenedCluster { config, opened } = self;
-        let Ok((master, first, tokens)) = opened.master::<J>() else {
+        let Ok((master, first, tokens)) = opened.master::<S>() else {
             return Err(AllocError);
         };
         let cluster = Cluster::new(alloc, master, config)?;

@@ -48,7 +48,7 @@ pub(crate) struct RequestId {
 
 impl RequestId {
     /// The id of a client's next request: the number of the request is the length of its log.
-    pub(crate) fn next<J: Live>(client: u32, journal: &Journal, token: &Seen<J>) -> RequestId
+    pub(crate) fn next<S: Live>(client: u32, journal: &Journal, token: &Seen<S>) -> RequestId
         ensures client { result.client ≡ client }
         ensures serial { result.serial ≡ length journal.now.calls.items }
         ensures asked { result.asked ≡ length token.now.changes }
@@ -61,12 +61,12 @@ impl RequestId {
     }
 
     /// The request with this id: a token of what the client has seen, and where to send the answer.
-    pub(crate) fn request<J: Live>(
+    pub(crate) fn request<S: Live>(
         self,
-        seen: Seen<J>,
+        seen: Seen<S>,
         opts: GrvOpts,
-        reply: Sender<Answer<J>>,
-    ) -> Request<J>
+        reply: Sender<Answer<S>>,
+    ) -> Request<S>
         requires unnumbered { seen.reporter ≡ None }
         requires asked { self.asked ≡ length seen.changes }
         ensures client { result.client ≡ self.client }
@@ -90,17 +90,24 @@ impl RequestId {
 /// `ReadAnswered` is passed with the request's client.
 ///
 /// It is refused where the desk refuses the request, and as `ProxyClosed` where no answer comes.
-pub(crate) fn answer_to<J: Live, R: Wait, G: Gate>(
+pub(crate) fn answer_to<S: Live, R: Wait, G: Gate>(
     rt: &R,
     gate: &G,
-    desk: &Desk<J>,
-    request: Request<J>,
-    answers: Receiver<Answer<J>>,
-) -> Result<Answer<J>, ClientError>
+    desk: &Desk<S>,
+    request: Request<S>,
+    answers: Receiver<Answer<S>>,
+) -> Result<Answer<S>, ClientError>
     ensures { IfErr result IsOfRead }
 {
     let client = request.client;
-    submit(rt, desk, request)?;
+    let request = Req {
+        priority: request.opts.priority,
+        count: request.opts.count,
+        payload: request,
+    };
+    if let Err((cause, _)) = desk.submit(rt, request) {
+        return Err(ClientError::from(cause));
+    }
     let Ok(answer) = answers.recv(rt) else {
         return Err(ClientError::ProxyClosed);
     };
@@ -108,25 +115,8 @@ pub(crate) fn answer_to<J: Live, R: Wait, G: Gate>(
     Ok(answer)
 }
 
-fn submit<J: Live, R: Wait>(rt: &R, desk: &Desk<J>, request: Request<J>) -> Result<(), ClientError>
-    ensures { IfErr result IsOfRead }
-{
-    let submitted = desk.submit(
-        rt,
-        Req {
-            priority: request.opts.priority,
-            count: request.opts.count,
-            payload: request,
-        },
-    );
-    match submitted {
-        Ok(()) => Ok(()),
-        Err((cause, _)) => Err(ClientError::from(cause)),
-    }
-}
-
 /// What an answer comes to. Another's is a stranger's, whatever it says.
-pub(crate) fn reply_to<J: Live>(own: RequestId, answer: Answer<J>) -> Result<Reply<J>, ClientError>
+pub(crate) fn reply_to<S: Live>(own: RequestId, answer: Answer<S>) -> Result<Reply<S>, ClientError>
     ensures exact { result ≡ reply_to own answer }
     ensures client { IfOk result (λ reply. reply.client ≡ own.client) }
     ensures serial { IfOk result (λ reply. reply.serial ≡ own.serial) }
@@ -143,7 +133,7 @@ pub(crate) fn reply_to<J: Live>(own: RequestId, answer: Answer<J>) -> Result<Rep
 }
 
 /// The id of the request that an answer is to.
-fn id_of<J: Live>(answer: &Answer<J>) -> RequestId
+fn id_of<S: Live>(answer: &Answer<S>) -> RequestId
     ensures { result ≡ id_of answer.now }
 {
     match answer {
@@ -163,13 +153,13 @@ fn id_of<J: Live>(answer: &Answer<J>) -> RequestId
 /// Takes in the reply to a read, logs it, and gives what the read returns. Where memory is refused,
 /// nothing has changed.
 #[tactic(auto, using(crate::proofs::Reading::is_read, crate::proofs::Reading::not_behind_itself))]
-pub(crate) fn take_reply<J: Live, R: Wait>(
+pub(crate) fn take_reply<S: Live, R: Wait>(
     rt: &R,
-    master: &Master<J>,
-    token: &mut Seen<J>,
+    master: &Master<S>,
+    token: &mut Seen<S>,
     journal: &mut Journal,
     opts: GrvOpts,
-    reply: Reply<J>,
+    reply: Reply<S>,
 ) -> Result<ReadVersion, ClientError>
     requires capacity { vec_len journal.old.calls < vec_capacity journal.old.calls }
     requires asked { reply.asked ≡ length token.old.changes }
@@ -185,7 +175,7 @@ pub(crate) fn take_reply<J: Live, R: Wait>(
     ensures logged { result ≢ Err ClientError.Memory → (number begun : ℕ)
         → token.old.reporter ≡ Some number
         → position_after_calls begun journal.old.calls.items ≡ length token.old.changes
-        → Reads J.start opts
+        → Reads S.start opts
         (record {
           number = number;
           begun = begun;
@@ -201,10 +191,10 @@ pub(crate) fn take_reply<J: Live, R: Wait>(
           changes = token.new.changes;
         })
         result }
-    ensures read { IfOk result (IsReadOf J.start opts token.old.changes token.new.changes) }
+    ensures read { IfOk result (IsReadOf S.start opts token.old.changes token.new.changes) }
     ensures never_falls { IsNotBehind
-        (last_record J.start token.old.changes)
-        (last_record J.start token.new.changes) }
+        (last_record S.start token.old.changes)
+        (last_record S.start token.new.changes) }
     ensures least { least_above token.old.answers ≤ least_above token.new.answers }
     ensures come_to { result ≢ Err ClientError.Memory
         → (begun : ℕ) → position_after_calls begun journal.new.calls.items
@@ -241,7 +231,7 @@ pub(crate) fn take_reply<J: Live, R: Wait>(
 
 /// Learns what a reply has seen, which is no less.
 #[tactic(auto, using(crate::proofs::Longer::longer_of_no_less))]
-fn hear<J: Live, R: Wait>(rt: &R, master: &Master<J>, token: &mut Seen<J>, told: Seen<J>)
+fn hear<S: Live, R: Wait>(rt: &R, master: &Master<S>, token: &mut Seen<S>, told: Seen<S>)
     requires unnumbered { told.reporter ≡ None }
     requires no_less { length token.old.changes ≤ length told.changes }
     ensures number { token.new.reporter ≡ token.old.reporter }
@@ -253,18 +243,18 @@ fn hear<J: Live, R: Wait>(rt: &R, master: &Master<J>, token: &mut Seen<J>, told:
     ensures own_changes { own_positions token.new
         ≡ own_positions token.old }
     ensures never_falls { IsNotBehind
-        (last_record J.start token.old.changes)
-        (last_record J.start token.new.changes) }
+        (last_record S.start token.old.changes)
+        (last_record S.start token.new.changes) }
     ensures bounded { IsBounded
         (length token.new.changes)
-        (last_record J.start token.new.changes) }
+        (last_record S.start token.new.changes) }
 {
     master.record().learn(rt, token, told);
 }
 
 /// What a read returns for its reply. It takes memory for a copy of the limits alone.
-fn value_of<J: Live>(
-    reply: &Reply<J>,
+fn value_of<S: Live>(
+    reply: &Reply<S>,
     opts: &GrvOpts,
     locked_out: bool,
 ) -> Result<Result<ReadVersion, ClientError>, AllocError>

@@ -46,11 +46,11 @@ pub struct Served<O> {
 ///
 /// It is refused where memory runs out or a thread cannot be had. `body` has not run then, and
 /// what was started has ended.
-pub fn serve_while<J: Live + Send + Sync, R: Threads + Wait + Sync, O, F: FnOnce() -> O + Drop>(
+pub fn serve_while<S: Live + Send + Sync, R: Threads + Wait + Sync, O, F: FnOnce() -> O + Drop>(
     rt: &R,
     alloc: Global,
-    cluster: &Cluster<'_, J>,
-    first: &mut Seen<J>,
+    cluster: &Cluster<'_, S>,
+    first: &mut Seen<S>,
     body: F,
 ) -> Result<Served<O>, AllocError>
     requires { F.pre body }
@@ -85,11 +85,11 @@ pub fn serve_while<J: Live + Send + Sync, R: Threads + Wait + Sync, O, F: FnOnce
 }
 
 /// A GRV proxy for each desk, in order, each with a token that is split off this one.
-fn proxies_of<'a, J: Live>(
+fn proxies_of<'a, S: Live>(
     alloc: Global,
-    cluster: &'a Cluster<'_, J>,
-    mut first: Seen<J>,
-) -> Result<Vec<GrvProxy<'a, J>>, AllocError>
+    cluster: &'a Cluster<'_, S>,
+    mut first: Seen<S>,
+) -> Result<Vec<GrvProxy<'a, S>>, AllocError>
     ensures each { IfOk result (λ proxies. vec_len proxies ≡ cluster.now.config.grv_proxies) }
     ensures made { IfOk result
         (λ proxies. All (IsMadeFor cluster.now.config) proxies.items) }
@@ -103,10 +103,10 @@ fn proxies_of<'a, J: Live>(
 
 /// Has each proxy serve its desk in a thread of its own, in order, until one cannot be had. Answers
 /// whether there is one for each proxy.
-fn start_all<'s, E, J: Live + Send + Sync, R: Threads + Wait + Sync>(
+fn start_all<'s, E, S: Live + Send + Sync, R: Threads + Wait + Sync>(
     rt: &'s R,
     scope: &Scope<'s, E>,
-    proxies: Vec<GrvProxy<'s, J>>,
+    proxies: Vec<GrvProxy<'s, S>>,
     threads: &mut Vec<JoinHandle<bool>>,
 ) -> bool
     requires { threads.old.items ≡ [] }
@@ -126,9 +126,9 @@ fn start_all<'s, E, J: Live + Send + Sync, R: Threads + Wait + Sync>(
 
 /// Closes the desks and joins the proxies, and keeps for each whether it served until its desk was
 /// closed.
-fn end_all<J: Live, R: Threads + Wait>(
+fn end_all<S: Live, R: Threads + Wait>(
     rt: &R,
-    cluster: &Cluster<'_, J>,
+    cluster: &Cluster<'_, S>,
     threads: Vec<JoinHandle<bool>>,
     mut served: Vec<bool>,
 ) -> Ends

@@ -12,12 +12,11 @@ ghost use Rattle.fdb_history.specs.Laws.{HaveMinimaWithin};
 ghost use Rattle.fdb_history.specs.Linear.{IsLinear};
 ghost use Rattle.fdb_history.specs.Strays.{IsStray};
 ghost use Rattle.fdb_history.specs.Log.{answers_in};
-ghost use Rattle.fdb_live.specs.Gathering.{AreNumbered};
+ghost use Rattle.fdb_live.specs.Gathering.{AreNumbered, HasCaughtUp, IsSameHolder};
 ghost use Rattle.fdb_live.specs.Seen.{Sight};
 ghost use Rattle.fdb_live.specs.declared.opened.TheConstants.{MAX_REPORTERS};
-ghost use mathlib.Core.List.{IsPrefix};
 ghost use Rattle.fdb_client.specs.Merging.{chain_in, goes_on_once, all_placed, placed};
-ghost use Rattle.fdb_client.specs.Settling.{AllAgree, AllAgreeWithChain, IsToldAll};
+ghost use Rattle.fdb_client.specs.Settling.{AllAgree, AllAgreeWithChain, AreTokensOf, HaveNoFault};
 
 use crate::cluster::Cluster;
 use crate::workload::Finished;
@@ -82,7 +81,7 @@ impl SettledRun {
     }
 }
 
-impl<'c, J: Live> Cluster<'c, J> {
+impl<'c, S: Live> Cluster<'c, S> {
     /// Brings together what the clients of this cluster have seen, and so shows that no fault
     /// stands in their logs. No call was answered from before what its client had seen, each
     /// position has one change, and each read and report was answered as the record at its position
@@ -92,14 +91,13 @@ impl<'c, J: Live> Cluster<'c, J> {
     ///
     /// It refuses nothing, takes no memory, and waits as a read does. It takes time in proportion
     /// to the number of clients.
-    pub fn settle<R: Wait>(self, rt: &R, mut first: Seen<J>, finished: Finished<J>) -> SettledRun
-        ensures epoch_end { result.epoch_end ≡ J.epoch_end }
-        ensures recovery { result.start.version ≡ J.recovery }
-        ensures start { result.start ≡ J.start }
+    pub fn settle<R: Wait>(self, rt: &R, mut first: Seen<S>, finished: Finished<S>) -> SettledRun
+        ensures epoch { (result.epoch_end ≡ S.epoch_end) × (result.start.version ≡ S.recovery) }
+        ensures start { result.start ≡ S.start }
         ensures logs { result.logs.items ≡ finished }
-        ensures count { length result.logs.items ≡ J.reporters }
+        ensures count { length result.logs.items ≡ S.reporters }
         ensures minima { HaveMinimaWithin result.logs.items }
-        ensures one_chain { IsChain J.epoch_end J.recovery
+        ensures one_chain { IsChain S.epoch_end S.recovery
             (chain_in result.drawn result.logs.items) }
     {
         let Finished { logs, mut tokens } = finished;
@@ -128,29 +126,24 @@ impl<'c, J: Live> Cluster<'c, J> {
 ///
 /// It refuses nothing, takes no memory, and waits as a read does. It takes time in proportion to
 /// the number of clients.
-pub fn settle<J: Live, R: Wait>(
+pub fn settle<S: Live, R: Wait>(
     rt: &R,
-    master: &Master<J>,
-    first: &mut Seen<J>,
-    tokens: &mut [Seen<J>],
+    master: &Master<S>,
+    first: &mut Seen<S>,
+    tokens: &mut [Seen<S>],
     logs: &[ClientLog],
 ) -> u64
-    requires count { length tokens.old ≡ J.reporters }
+    requires count { length tokens.old ≡ S.reporters }
     requires numbered { AreNumbered tokens.old }
-    requires logs { length logs.now ≡ J.reporters }
-    requires agree { AllAgree J.start logs.now tokens.old }
+    requires logs { length logs.now ≡ S.reporters }
+    requires agree { AllAgree S.start logs.now tokens.old }
     ensures changes { result ≡ length (changes_in logs.now) }
-    ensures faultless { IsFaultless J.start logs.now }
-    ensures minima { HaveMinimaWithin logs.now }
-    ensures above { Nowhere (Low J.start logs.now) }
+    ensures settled { HaveNoFault S.start logs.now }
     ensures position { result ≡ length first.new.changes }
-    ensures extends { IsPrefix first.old.changes first.new.changes }
-    ensures reporter { first.new.reporter ≡ first.old.reporter }
-    ensures count { length tokens.new ≡ J.reporters }
+    ensures first { IsSameHolder first.old first.new }
     ensures each { (k : ℕ) (token : Sight) → slice_get tokens.old k ≡ Some token
-        → IsToldAll first.new.changes token k tokens.new }
-    ensures numbered { AreNumbered tokens.new }
-    ensures agree { AllAgree J.start logs.now tokens.new }
+        → HasCaughtUp first.new token k tokens.new }
+    ensures tokens { AreTokensOf S.start S.reporters logs.now tokens.new }
 {
     master.record().gather(rt, first, tokens)
 }
@@ -166,24 +159,24 @@ pub(crate) struct Closed {
 
 /// Settles the logs of all clients, and gives up the service: by the chain that these logs tell, no
 /// answer of theirs is stray.
-pub(crate) fn close<J: Live, R: Wait>(
+pub(crate) fn close<S: Live, R: Wait>(
     rt: &R,
-    master: Master<J>,
-    first: &mut Seen<J>,
-    tokens: &mut [Seen<J>],
+    master: Master<S>,
+    first: &mut Seen<S>,
+    tokens: &mut [Seen<S>],
     logs: &[ClientLog],
 ) -> Closed
-    requires count { length tokens.old ≡ J.reporters }
+    requires count { length tokens.old ≡ S.reporters }
     requires numbered { AreNumbered tokens.old }
-    requires logs { length logs.now ≡ J.reporters }
-    requires agree { AllAgree J.start logs.now tokens.old }
-    requires chained { AllAgreeWithChain J.epoch_end J.recovery logs.now tokens.old }
+    requires logs { length logs.now ≡ S.reporters }
+    requires agree { AllAgree S.start logs.now tokens.old }
+    requires chained { AllAgreeWithChain S.epoch_end S.recovery logs.now tokens.old }
     ensures changes { result.changes ≡ length (changes_in logs.now) }
-    ensures faultless { IsFaultless J.start logs.now }
+    ensures faultless { IsFaultless S.start logs.now }
     ensures minima { HaveMinimaWithin logs.now }
-    ensures above { Nowhere (Low J.start logs.now) }
+    ensures above { Nowhere (Low S.start logs.now) }
     ensures justified { Nowhere (IsStray (chain_in result.drawn logs.now) logs.now) }
-    ensures one_chain { IsChain J.epoch_end J.recovery (chain_in result.drawn logs.now) }
+    ensures one_chain { IsChain S.epoch_end S.recovery (chain_in result.drawn logs.now) }
 {
     // The check learns here that each answer of a chain stands at its ordinal, and is alike no other.
     laws::each_is_next();

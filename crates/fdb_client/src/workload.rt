@@ -35,13 +35,13 @@ pub trait Workload<R> {
     /// Has the clients call the cluster, in the thread that called `run_workload`. There are as
     /// many as the cluster was made for, each at the place of its number, where it is to be found
     /// at the end too. They have called nobody yet, and have seen nothing.
-    fn start<J: Live>(
+    fn start<S: Live>(
         self,
         rt: &R,
-        cluster: &Cluster<'_, J>,
-        clients: &mut [Client<'_, J>],
+        cluster: &Cluster<'_, S>,
+        clients: &mut [Client<'_, S>],
     ) -> Self::Output
-        requires { AreNew J.reporters clients.old }
+        requires { AreNew S.reporters clients.old }
         ensures { gives self cluster.now.config clients.new result };
 }
 
@@ -90,51 +90,51 @@ pub fn run_workload<R: Threads + Wait + Sync, W: Workload<R> + Drop>(
 }
 
 /// Runs it under a name that stands for the cluster.
-fn run_named<J: Live + Send + Sync, R: Threads + Wait + Sync, W: Workload<R> + Drop>(
+fn run_named<S: Live + Send + Sync, R: Threads + Wait + Sync, W: Workload<R> + Drop>(
     rt: &R,
     alloc: Global,
     opened: OpenedCluster<'_>,
     workload: W,
 ) -> Result<WorkloadOutcome<W::Output>, FinishError>
-    requires chained { J.chained ≡ true }
+    requires chained { S.chained ≡ true }
     requires opened { opened.founding
-        ≡ origin_of J.table J.start J.reporters J.chained J.epoch_end J.recovery }
+        ≡ origin_of S.table S.start S.reporters S.chained S.epoch_end S.recovery }
     ensures gives { IfOk result (λ ran. (left : List Account)
         × W.gives workload opened.entry.config left ran.output
-        × AreAllInPlace J.reporters left × (ran.run.logs.items ≡ logs_of left)) }
+        × AreAllInPlace S.reporters left × (ran.run.logs.items ≡ logs_of left)) }
     ensures ends { IfOk result
         (λ ran. vec_len ran.ends.served ≡ opened.entry.config.grv_proxies) }
     ensures astray { IfErr result (λ cause. cause ≡ FinishError.Astray
         → (left : List Account) × (output : W.Output)
         × W.gives workload opened.entry.config left output
-        × (AreAllInPlace J.reporters left → ⊥)) }
+        × (AreAllInPlace S.reporters left → ⊥)) }
     ensures epoch_end { IfOk result (λ ran. ran.run.epoch_end ≡ opened.entry.config.epoch_end) }
     ensures start { IfOk result (λ ran. ran.run.start ≡ opened.entry.founding.start) }
     ensures logs { IfOk result (λ ran. vec_len ran.run.logs ≡ opened.entry.founding.reporters) }
     ensures minima { IfOk result (λ ran. HaveMinimaWithin ran.run.logs.items) }
     ensures one_chain { IfOk result (λ ran.
-        IsChain J.epoch_end J.recovery (chain_in ran.run.drawn ran.run.logs.items)) }
+        IsChain S.epoch_end S.recovery (chain_in ran.run.drawn ran.run.logs.items)) }
 {
     let ClusterParts {
         cluster,
         mut first,
         tokens,
-    } = opened.parts::<J>(alloc)?;
+    } = opened.parts::<S>(alloc)?;
     let clients = clients_of(alloc, cluster.master(), tokens)?;
     let Served { output, ends } = serve_while(
         rt,
         alloc,
         &cluster,
         &mut first,
-        || -> Result<(W::Output, Finished<J>), FinishError>
-            requires { AreNew J.reporters clients.items }
+        || -> Result<(W::Output, Finished<S>), FinishError>
+            requires { AreNew S.reporters clients.items }
             ensures gives { IfOk result (λ ran. (left : List Account)
                 × W.gives workload cluster.entry.config left ran.0
-                × AreAllInPlace J.reporters left × (ran.1 ≡ logs_of left)) }
+                × AreAllInPlace S.reporters left × (ran.1 ≡ logs_of left)) }
             ensures astray { IfErr result (λ cause. cause ≡ FinishError.Astray
                 → (left : List Account) × (output : W.Output)
                 × W.gives workload cluster.entry.config left output
-                × (AreAllInPlace J.reporters left → ⊥)) }
+                × (AreAllInPlace S.reporters left → ⊥)) }
         { played(rt, alloc, &cluster, clients, workload) },
     )?;
     match output {
@@ -148,23 +148,23 @@ fn run_named<J: Live + Send + Sync, R: Threads + Wait + Sync, W: Workload<R> + D
 }
 
 /// Has the clients of a cluster play a workload. Answers what came of it, and what they left.
-fn played<J: Live, R, W: Workload<R>>(
+fn played<S: Live, R, W: Workload<R>>(
     rt: &R,
     alloc: Global,
-    cluster: &Cluster<'_, J>,
-    mut clients: Vec<Client<'_, J>>,
+    cluster: &Cluster<'_, S>,
+    mut clients: Vec<Client<'_, S>>,
     workload: W,
-) -> Result<(W::Output, Finished<J>), FinishError>
-    requires { AreNew J.reporters clients.items }
+) -> Result<(W::Output, Finished<S>), FinishError>
+    requires { AreNew S.reporters clients.items }
     ensures gives { IfOk result (λ ran. (left : List Account)
         × W.gives workload cluster.now.config left ran.0
-        × AreAllInPlace J.reporters left × (ran.1 ≡ logs_of left)) }
+        × AreAllInPlace S.reporters left × (ran.1 ≡ logs_of left)) }
     ensures astray { IfErr result (λ cause. cause ≡ FinishError.Astray
         → (left : List Account) × (output : W.Output)
         × W.gives workload cluster.now.config left output
-        × (AreAllInPlace J.reporters left → ⊥)) }
+        × (AreAllInPlace S.reporters left → ⊥)) }
 {
-    let output = workload.start::<J>(rt, cluster, clients.as_mut_slice());
+    let output = workload.start::<S>(rt, cluster, clients.as_mut_slice());
     match cluster.finish(alloc, clients) {
         Ok(finished) => Ok((output, finished)),
         Err(cause) => Err(cause),
@@ -174,11 +174,11 @@ fn played<J: Live, R, W: Workload<R>>(
 /// A client for each token, which has called nobody yet and has seen nothing. The one at a place has
 /// the token there, and the place for its number. It takes memory for the clients, in one piece, and
 /// is refused for that alone.
-pub fn clients_of<'a, J: Live>(
+pub fn clients_of<'a, S: Live>(
     alloc: Global,
-    master: &'a Master<J>,
-    tokens: Vec<Seen<J>>,
-) -> Result<Vec<Client<'a, J>>, AllocError>
+    master: &'a Master<S>,
+    tokens: Vec<Seen<S>>,
+) -> Result<Vec<Client<'a, S>>, AllocError>
     requires few { vec_len tokens ≤ MAX_REPORTERS }
     requires tokens { (k : ℕ) → k < vec_len tokens
         → slice_get tokens.items k
@@ -197,12 +197,12 @@ pub fn clients_of<'a, J: Live>(
 }
 
 /// The client of a token that has seen nothing.
-fn new_client<J: Live>(
+fn new_client<S: Live>(
     alloc: Global,
     number: u32,
-    master: &Master<J>,
-    token: Seen<J>,
-) -> Client<'_, J>
+    master: &Master<S>,
+    token: Seen<S>,
+) -> Client<'_, S>
     requires { token ≡ record { reporter = Some number; changes = []; answers = [] } }
     ensures { result ≡ new_account number [] [] }
 {
@@ -215,12 +215,12 @@ fn new_client<J: Live>(
 ///
 /// Contracts see it as the logs.
 #[derive(Drop)]
-pub struct Finished<J: Live> {
+pub struct Finished<S: Live> {
     pub(crate) logs: Vec<ClientLog>,
-    pub(crate) tokens: Vec<Seen<J>>,
+    pub(crate) tokens: Vec<Seen<S>>,
 }
 
-impl<J: Live> Model for Finished<J> {
+impl<S: Live> Model for Finished<S> {
     ghost use Rattle.std.specs.Prelude.{◌≡◌, List, length};
     ghost use Rattle.fdb_client.specs.Settling.{AllAgree, AllAgreeWithChain};
     ghost use Rattle.fdb_history.specs.declared.log.ClientLog.{ClientLog};
@@ -230,11 +230,11 @@ impl<J: Live> Model for Finished<J> {
 
     ghost view = { λ finished. finished.logs.items };
 
-    ghost invariant = { λ finished. (length finished.logs.items ≡ J.reporters)
-        × (length finished.tokens.items ≡ J.reporters)
+    ghost invariant = { λ finished. (length finished.logs.items ≡ S.reporters)
+        × (length finished.tokens.items ≡ S.reporters)
         × AreNumbered finished.tokens.items
-        × AllAgree J.start finished.logs.items finished.tokens.items
-        × AllAgreeWithChain J.epoch_end J.recovery finished.logs.items finished.tokens.items };
+        × AllAgree S.start finished.logs.items finished.tokens.items
+        × AllAgreeWithChain S.epoch_end S.recovery finished.logs.items finished.tokens.items };
 }
 
 /// Why the clients of a cluster, or a workload, have left nothing.
@@ -260,7 +260,7 @@ impl From<AllocError> for FinishError {
     }
 }
 
-impl<'c, J: Live> Cluster<'c, J> {
+impl<'c, S: Live> Cluster<'c, S> {
     /// What all clients of this cluster leave, from whichever positions they began.
     ///
     /// It is refused as `Astray` exactly where these are not the clients of the cluster, each at the
@@ -268,14 +268,14 @@ impl<'c, J: Live> Cluster<'c, J> {
     pub fn finish(
         &self,
         alloc: Global,
-        clients: Vec<Client<'_, J>>,
-    ) -> Result<Finished<J>, FinishError>
+        clients: Vec<Client<'_, S>>,
+    ) -> Result<Finished<S>, FinishError>
         ensures logs { IfOk result (λ finished. finished ≡ logs_of clients.entry.items) }
-        ensures in_place { IfOk result (λ _. AreAllInPlace J.reporters clients.entry.items) }
-        ensures memory { AreAllInPlace J.reporters clients.entry.items
+        ensures in_place { IfOk result (λ _. AreAllInPlace S.reporters clients.entry.items) }
+        ensures memory { AreAllInPlace S.reporters clients.entry.items
             → IfErr result (λ cause. cause ≡ FinishError.Memory) }
         ensures astray { IfErr result (λ cause. cause ≡ FinishError.Astray
-            → AreAllInPlace J.reporters clients.entry.items → ⊥) }
+            → AreAllInPlace S.reporters clients.entry.items → ⊥) }
     {
         if clients.len() != self.config.clients as usize || !are_in_place(&clients) {
             return Err(FinishError::Astray);
@@ -286,7 +286,7 @@ impl<'c, J: Live> Cluster<'c, J> {
 }
 
 /// Whether each client stands at the place of its number.
-fn are_in_place<J: Live>(clients: &[Client<'_, J>]) -> bool
+fn are_in_place<S: Live>(clients: &[Client<'_, S>]) -> bool
     ensures in_place { result ≡ true → HaveNumbers clients.now }
     ensures exact { HaveNumbers clients.now → result ≡ true }
 {
@@ -300,11 +300,11 @@ fn are_in_place<J: Live>(clients: &[Client<'_, J>]) -> bool
 }
 
 /// The logs of clients that stand each at the place of its number, and their tokens.
-fn finish_all<J: Live>(
+fn finish_all<S: Live>(
     alloc: Global,
-    clients: Vec<Client<'_, J>>,
-) -> Result<Finished<J>, AllocError>
-    requires count { vec_len clients ≡ J.reporters }
+    clients: Vec<Client<'_, S>>,
+) -> Result<Finished<S>, AllocError>
+    requires count { vec_len clients ≡ S.reporters }
     requires in_place { HaveNumbers clients.items }
     ensures { IfOk result (λ finished. finished ≡ logs_of clients.entry.items) }
 {

@@ -1,7 +1,8 @@
 -- What can be wrong with the logs of a run, and where. A call is named by its client, which is the
 -- place of its log, and by its place in the log. (all of this is this product's own)
-use Rattle.std.specs.Prelude.{◌≡◌, ◌≢◌, ◌⊎◌, ℕ, Bool, zero, suc, ◌-◌, ◌<◌, ◌≤◌, ◌==◌, true, false, IsTrue, List, [], ◌∷◌, length, take, filter, Some, slice_get}
+use Rattle.std.specs.Prelude.{◌≡◌, ◌≢◌, ◌⊎◌, ℕ, Bool, zero, suc, ◌-◌, ◌<◌, ◌≤◌, ◌==◌, true, false, IsTrue, List, [], ◌∷◌, fold, length, take, filter, Some, slice_get}
 use Rattle.std.specs.List.{flat_map}
+use Rattle.fdb_history.specs.Linear.{GoesForward}
 use Rattle.fdb_history.specs.Log.{calls_of, position_after_calls, answer_changes}
 use Rattle.fdb_history.specs.Register.{raises, changes, after_report}
 use Rattle.fdb_history.specs.declared.auditing.registers.PlacedChange.{PlacedChange}
@@ -38,8 +39,7 @@ changes_at logs position = at_position position (changes_in logs)
 
 -- The register after some changes in turn, as `after_report` takes them.
 abbrev pub after_changes : Record → List PlacedChange → Record
-after_changes current [] = current
-after_changes current (change ∷ changes) = after_changes (after_report current change.rec) changes
+after_changes start changes = fold (λ current change. after_report current change.rec) start changes
 
 -- The register at a position: the start, and each change up to there.
 abbrev pub register_at : Record → List ClientLog → ℕ → Record
@@ -49,13 +49,9 @@ register_at start logs (suc position) =
 
 -- ---- faults of the history: of calls, of positions and of answers
 
--- A call goes back behind what its client had seen. It is answered from before that, or is a change
--- that is not new to its client.
+-- A call goes back behind what its client had seen in the calls before it.
 abbrev pub IsOutOfOrder : List Call → Call → Type 0
-IsOutOfOrder before call =
-    (call.asked < position_after_calls 0 before)
-    ⊎ ((call.position < call.asked)
-    ⊎ (IsTrue (answer_changes call.answer) × (call.position ≡ call.asked)))
+IsOutOfOrder before call = GoesForward (position_after_calls 0 before) call → ⊥
 
 -- Two or more changes have this position, which only one can have.
 abbrev pub IsClash : List ClientLog → ℕ → Type 0

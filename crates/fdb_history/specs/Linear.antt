@@ -15,15 +15,18 @@ abbrev pub client_of : Event → ℕ
 client_of (Report client call rec raised changed) = client
 client_of (Read client call rec) = client
 
--- A client's calls never go back behind what it had seen. No call was answered from before that,
--- and a change is new to its client: from a position, each call begins at least where the one
--- before it ended, ends at least where it began, and beyond that where it changed the register.
+-- A call does not go back behind what its client had seen, which is a position: it begins at least
+-- there, ends at least where it began, and beyond that where it changed the register.
+abbrev pub GoesForward : ℕ → Call → Type 0
+GoesForward before call =
+    (before ≤ call.asked) × (call.asked ≤ call.position)
+    × (IsTrue (answer_changes call.answer) → call.asked < call.position)
+
+-- Nor does any call of a client's, each from where the one before it ended.
 abbrev pub NeverGoesBack : ℕ → List Call → Type 0
 NeverGoesBack before [] = Unit {0}
 NeverGoesBack before (call ∷ calls) =
-    (before ≤ call.asked) × (call.asked ≤ call.position)
-    × (IsTrue (answer_changes call.answer) → call.asked < call.position)
-    × NeverGoesBack call.position calls
+    GoesForward before call × NeverGoesBack call.position calls
 
 -- The history explains the logs from the start record. (linearizability of Herlihy and Wing, 1990,
 -- with 'none before what its asker had seen' in the place of real time; this product's own)

@@ -1,5 +1,5 @@
 -- What follows for the holder of a token that was asked with.
-use Rattle.std.proofs.Common.{◌≡◌, ◌≢◌, ℕ, zero, suc, ◌+◌, ◌<◌, Bool, true, false, List, [], ◌∷◌, ◌++◌, slice_get, take, cond, inl, inr, Option, None, Some, Result, Ok, Err, refl, sym, ap, ◌∙◌, subst, arith, append_assoc}
+use Rattle.std.proofs.Common.{◌≡◌, ◌≢◌, ℕ, zero, suc, ◌+◌, ◌<◌, ◌≤◌, Bool, true, false, List, [], ◌∷◌, ◌++◌, slice_get, take, cond, inl, inr, Option, None, Some, Result, Ok, Err, refl, sym, ap, ◌∙◌, subst, arith, append_assoc}
 use Rattle.std.specs.Prelude.{Contains, IfOk, nat_lt, nat_le, not}
 use Rattle.std.proofs.lemmas.Bool.{cond-false}
 use Rattle.std.proofs.lemmas.Bool.Decides.{nat_tests}
@@ -13,12 +13,13 @@ use Rattle.fdb_history.specs.declared.chain.Ask.{Ask}
 use Rattle.fdb_history.specs.declared.chain.Issued.{Issued}
 use Rattle.fdb_history.specs.declared.log.Refusal.{Refusal}
 use Rattle.fdb_history.specs.declared.log.Refusal.TheVariants.{Early, Exhausted, UnknownProxy}
+use Rattle.fdb_history.specs.declared.register.Record.{Record}
 use Rattle.fdb_history.specs.declared.register.TheConstants.{MAX_VERSION}
 use Rattle.fdb_chain.specs.declared.error.ChainError.{ChainError}
 use Rattle.fdb_chain.specs.declared.error.ChainError.TheVariants as chain_error
 use Rattle.fdb_chain.specs.ChainCore.{IsAnswer, IsFor}
-use Rattle.fdb_live.specs.Holding.{DrewNone, IsAsked, IsFreshUnlessOut, answers_among, answers_to, own_answers, versions}
-use Rattle.fdb_live.specs.Seen.{Sight}
+use Rattle.fdb_live.specs.Holding.{DrewNone, IsAboveRead, IsAsked, IsFreshUnlessOut, IsIssued, answers_among, answers_to, least_above, own_answers, versions}
+use Rattle.fdb_live.specs.Seen.{Sight, last_record}
 use Rattle.fdb_live.proofs.Drawn.{IsDrawn, answers_to-push_own}
 use Rattle.fdb_live.proofs.Prefixes.{prefix_trans}
 
@@ -197,3 +198,17 @@ version_at (y ∷ ys) (suc place) x e = Contains-append_right (y.version ∷ [])
 pub has_any : (result : Result Issued ChainError) (answers : List Issued) → IfOk result (λ issued. slice_get answers issued.ordinal ≡ Some (record issued { fresh = true })) → IfOk result (λ issued. Contains (versions answers) issued.version)
 has_any (Ok issued) answers at = version_at answers issued.ordinal (record issued { fresh = true }) at
 has_any (Err cause) answers at = tt
+
+-- what is said of a fresh answer, and of any
+pub issued_so : (start : Record) (ask : Ask) (old new : Sight) (result : Result Issued ChainError)
+    → IfOk result (IsFor ask) → IfOk result (λ issued. issued.version ≤ MAX_VERSION)
+    → IfOk result (λ issued. slice_get new.answers issued.ordinal ≡ Some (record issued { fresh = true }))
+    → IfOk result (λ issued. Contains (versions new.answers) issued.version)
+    → IfOk result (λ issued. issued.fresh ≡ true → (earlier : Issued) → Contains old.answers earlier → earlier.version < issued.version)
+    → IfOk result (λ issued. issued.fresh ≡ true → least_above old.answers ≤ issued.version)
+    → IfOk result (λ issued. issued.fresh ≡ true → IsAboveRead (last_record start old.changes).version issued)
+    → IfOk result (λ issued. issued.fresh ≡ true → least_above new.answers ≡ issued.version + 1)
+    → IfOk result (IsIssued start ask old new)
+issued_so start ask old new (Ok issued) request in_range stands has above above_old above_read least =
+    record { request = request; in_range = in_range; stands = stands; has = has; above = above; above_old = above_old; above_read = above_read; least = least }
+issued_so start ask old new (Err cause) request in_range stands has above above_old above_read least = tt

@@ -3,14 +3,14 @@ use Rattle.std.proofs.Common.{◌≡◌, ℕ, ◌<◌, Bool, true, false, List, 
 use Rattle.std.specs.Prelude.{IfOk, IsSome, OnErr}
 use Rattle.std.specs.Option.{ForSome}
 use Rattle.std.proofs.lemmas.List.Elements.{All-push}
-use Rattle.fdb_chain.specs.ChainCore.{IsAnswer, IsFor, new_chain}
+use Rattle.fdb_chain.specs.ChainCore.{IsAnswer, IsFor, chain_of, new_chain}
 use Rattle.fdb_chain.specs.Recent.{Recent, IsStateOf}
 use Rattle.fdb_chain.specs.declared.error.ChainError.{ChainError}
 use Rattle.fdb_history.specs.Chain.{IsChain}
 use Rattle.fdb_history.specs.Issuing.{Chain, answer_to, with_answer}
 use Rattle.fdb_history.specs.declared.chain.Ask.{Ask}
 use Rattle.fdb_history.specs.declared.chain.Issued.{Issued}
-use Rattle.fdb_live.specs.Holding.{IsAsked, chain_of}
+use Rattle.fdb_live.specs.Holding.{IsAsked}
 use Rattle.fdb_live.specs.declared.view.View.{View}
 use Rattle.fdb_live.specs.private.Token.{IsDrawer, IsServed, and_then, drawn_of}
 use Rattle.fdb_live.proofs.Serving.{asked_as}

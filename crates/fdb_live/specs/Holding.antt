@@ -1,14 +1,18 @@
 -- What a token proves that its holder has seen of the chain.
-use Rattle.std.specs.Prelude.{◌≡◌, ◌<◌, ◌≤◌, ⊤, ℕ, ◌+◌, ◌==◌, true, false, List, [], All, Contains, Option, None, Some, Result, Ok, Err, ◌⊎◌, IfOk, OnErr, filter, map, slice_get}
+use Rattle.std.specs.Prelude.{◌≡◌, ◌≢◌, ◌<◌, ◌≤◌, ⊤, ℕ, ◌+◌, ◌==◌, true, false, List, [], All, Contains, Option, None, Some, Result, Ok, Err, ◌⊎◌, IfOk, OnErr, filter, length, map, slice_get}
 use mathlib.Core.List.{IsPrefix}
-use Rattle.fdb_chain.specs.ChainCore.{IsAnswer}
+use Rattle.fdb_chain.specs.ChainCore.{IsAnswer, IsFor}
 use Rattle.fdb_chain.specs.declared.error.ChainError.{ChainError}
 use Rattle.fdb_chain.specs.declared.error.ChainError.TheVariants.{Exhausted, Memory}
-use Rattle.fdb_history.specs.Chain.{IsChain, last_answer}
+use Rattle.fdb_history.specs.Chain.{last_answer, latest}
 use Rattle.fdb_history.specs.Issuing.{Chain, answer_to, with_answer}
 use Rattle.fdb_history.specs.declared.chain.Ask.{Ask}
 use Rattle.fdb_history.specs.declared.chain.Issued.{Issued}
-use Rattle.fdb_live.specs.Seen.{Sight}
+use Rattle.fdb_history.specs.declared.register.Record.{Record}
+use Rattle.fdb_history.specs.declared.register.TheConstants.{MAX_VERSION}
+use Rattle.fdb_live.specs.Seen.{IsBounded, IsChangedBy, IsNotBehind, IsNotChangedBy, IsRecord}
+use Rattle.fdb_live.specs.Seen.{Sight, last_record, longer}
+use Rattle.fdb_live.specs.declared.live_record.Ack.{Ack}
 use Rattle.fdb_live.specs.declared.view.Change.{Change}
 
 -- The commit versions that some answers give, in their order.
@@ -56,11 +60,55 @@ pub record IsAsked
   pub err : OnErr result (new.answers ≡ before)
   pub read : IfOk result (λ issued. issued.fresh ≡ true → AreDrawn before old.changes)
 
+-- The holder of a token has seen more, and lost nothing: its number is as before, no answer became its
+-- own, and neither the record nor the least version above all answers has fallen.
+pub record HasSeenMore (start : Record) (old new : Sight) : Type 0 where
+  pub reporter : new.reporter ≡ old.reporter
+  pub extends : IsPrefix old.changes new.changes
+  pub answers : IsPrefix old.answers new.answers
+  pub own_answers : own_answers new ≡ own_answers old
+  pub never_falls : IsNotBehind (last_record start old.changes) (last_record start new.changes)
+  pub least : least_above old.answers ≤ least_above new.answers
+
+-- The holder of a token has learnt what another's has seen: of each two lists it has the longer one
+-- then, and so has seen no less than the other.
+pub record HasLearnt (start : Record) (other old new : Sight) : Type 0 where
+  pub told : IsPrefix other.changes new.changes
+  pub told_answers : IsPrefix other.answers new.answers
+  pub covers : IsNotBehind (last_record start other.changes) (last_record start new.changes)
+  pub least_told : least_above other.answers ≤ least_above new.answers
+  pub longer_answers : new.answers ≡ longer old.answers other.answers
+  pub longer : new.changes ≡ longer old.changes other.changes
+
+-- A report of a record was taken and acknowledged so.
+pub record IsAcked (start rec : Record) (old new : Sight) (ack : Ack) : Type 0 where
+  pub taken : IsRecord rec
+  pub position : ack.position ≡ length new.changes
+  pub bounded : IsBounded (length new.changes) (last_record start new.changes)
+  pub changed : ack.changed ≡ true → IsChangedBy start rec ack.raised old new
+  pub not_changed : ack.changed ≡ false → IsNotChangedBy start rec ack.raised old new
+
 -- A fresh answer is of no lower version than its asker had read; of a higher one, unless it is the
 -- first answer of all.
 pub record IsAboveRead (read : ℕ) (issued : Issued) : Type 0 where
   pub at_least : read ≤ issued.version
   pub above : 0 < issued.ordinal → read < issued.version
+
+-- What an answer is to who asked with a token: it is to the request, its version is in range, and it
+-- stands at its ordinal among the answers that the holder has then seen. A fresh version is the last
+-- of these, and above all that the holder had seen drawn, and above what it had read, which
+-- only the first of all may equal.
+pub record IsIssued (start : Record) (ask : Ask) (old new : Sight) (issued : Issued) : Type 0 where
+  pub request : IsFor ask issued
+  pub in_range : issued.version ≤ MAX_VERSION
+  pub stands : slice_get new.answers issued.ordinal ≡ Some (record issued { fresh = true })
+  pub has : Contains (versions new.answers) issued.version
+  pub above : issued.fresh ≡ true → (earlier : Issued) → Contains old.answers earlier
+      → earlier.version < issued.version
+  pub above_old : issued.fresh ≡ true → least_above old.answers ≤ issued.version
+  pub above_read : issued.fresh ≡ true
+      → IsAboveRead (last_record start old.changes).version issued
+  pub least : issued.fresh ≡ true → least_above new.answers ≡ issued.version + 1
 
 -- A request drew no version: it was answered again, or refused.
 abbrev pub DrewNone : Result Issued ChainError → Type 0
@@ -72,25 +120,11 @@ abbrev pub IsFreshUnlessOut : Result Issued ChainError → Type 0
 IsFreshUnlessOut (Ok issued) = issued.fresh ≡ true
 IsFreshUnlessOut (Err cause) = (cause ≡ Exhausted) ⊎ (cause ≡ Memory)
 
--- The chain of a service with these answers.
-abbrev pub chain_of : ℕ → ℕ → ℕ → List Issued → Chain
-chain_of epoch_end recovery proxies answers =
-    record { epoch_end = epoch_end; recovery = recovery; proxies = proxies; answers = answers }
-
--- What stands at a place among some tokens is what this one has become once its holder has seen all
--- of these answers: its own ones are as before.
-pub record IsClosedWith (answers : List Issued) (old : Sight) (k : ℕ) (tokens : List Sight)
-    : Type 0 where
-  pub at : slice_get tokens k
-      ≡ Some (record { reporter = old.reporter; changes = old.changes; answers = answers })
-  pub seen : IsPrefix old.answers answers
-  pub own : answers_among old.reporter answers ≡ own_answers old
-
--- These are all answers of a service: one chain, of answers to its own commit proxies, which the
--- holder of each token has seen whole.
-pub record IsClosedAfter (epoch_end recovery proxies : ℕ) (answers : List Issued)
-    (old new : List Sight) : Type 0 where
-  pub one_chain : IsChain epoch_end recovery answers
-  pub asked : All (λ answer. answer.proxy < proxies) answers
-  pub each : (k : ℕ) (token : Sight) → slice_get old k ≡ Some token
-      → IsClosedWith answers token k new
+-- What a result owes to the proxy's own answers alone. Under the next number a version is drawn, unless
+-- versions or memory are out, and under any other these decide the answer. Where none is drawn they stay.
+pub record IsDue (begun : Chain) (ask : Ask) (old : Sight) (result : Result Issued ChainError)
+    (new : Sight) : Type 0 where
+  pub next : ask.num ≡ latest ask.proxy old.answers + 1 → IsFreshUnlessOut result
+  pub decided : ask.num ≢ latest ask.proxy old.answers + 1
+      → IsAnswer (answer_to (record begun { answers = old.answers }) ask) result
+  pub own : DrewNone result → own_answers new ≡ own_answers old

@@ -1,14 +1,15 @@
 //! The live record, which reports replace under a lock and reads load without it.
 
 ghost use Rattle.std.specs.Prelude.{◌≡◌, ◌≢◌, ◌<◌, ◌≤◌, ◌⊎◌, [], length, None, Contains, IsSome};
-ghost use Rattle.std.specs.Prelude.{IfErr, IfOk, OnOk, OnErr, Some, slice_get, true, false, ℕ};
+ghost use Rattle.std.specs.Prelude.{IfErr, IfOk, OnErr, Some, slice_get, true, false, ℕ};
 ghost use mathlib.Core.List.{IsPrefix};
 ghost use Rattle.fdb_history.specs.declared.chain.Issued.{Issued};
-ghost use Rattle.fdb_live.specs.Holding.{AreDrawn, least_above, own_answers, versions};
-ghost use Rattle.fdb_live.specs.Seen.{IsBounded, IsChangedBy, IsLog, IsNotBehind, IsNotChangedBy};
-ghost use Rattle.fdb_live.specs.Seen.{IsRecord, IsRefusedFor, last_record, longer, own_positions};
-ghost use Rattle.fdb_live.specs.Seen.{Sight};
-ghost use Rattle.fdb_live.specs.Gathering.{AreNumbered, IsOwnKept, IsOwnedOnce, IsSeenBy};
+ghost use Rattle.fdb_live.specs.Holding.{AreDrawn, HasLearnt, HasSeenMore, IsAcked, least_above};
+ghost use Rattle.fdb_live.specs.Holding.{own_answers, versions};
+ghost use Rattle.fdb_live.specs.Seen.{IsBounded, IsLog, IsNotBehind, IsRefusedFor, Sight};
+ghost use Rattle.fdb_live.specs.Seen.{last_record, own_positions};
+ghost use Rattle.fdb_live.specs.Gathering.{AreNumbered, AreTogether, HasCaughtUp, IsOwnKept};
+ghost use Rattle.fdb_live.specs.Gathering.{IsOwnedOnce, IsSameHolder, IsSeenBy};
 
 use crate::held::Fetched;
 use crate::passes;
@@ -61,7 +62,7 @@ pub struct Ack {
     pub position: u64,
 }
 
-/// The live committed version of the service `J`, in one register that threads share
+/// The live committed version of the service `S`, in one register that threads share
 /// (`liveCommittedVersion` and its companions in masterserver, FoundationDB 7.1).
 ///
 /// Reports take turns under a lock that only they take. A read does not take it: it loads the six
@@ -72,13 +73,13 @@ pub struct Ack {
 /// record, and only versions that the chain has drawn are reported. Where it has no chain, other
 /// versions may be reported too, and no token has seen an answer to a request for a commit version.
 #[derive(Drop)]
-pub struct LiveRecord<J: Live> {
+pub struct LiveRecord<S: Live> {
     pub(crate) cell: Cell,
-    pub(crate) reports: Mutex<Right<J>>,
-    pub(crate) ghost named: { cell.table.shared.table_id ≡ J.table },
+    pub(crate) reports: Mutex<Right<S>>,
+    pub(crate) ghost named: { cell.table.shared.table_id ≡ S.table },
 }
 
-impl<J: Live> LiveRecord<J> {
+impl<S: Live> LiveRecord<S> {
     /// The record and its position (`getLiveCommittedVersion` of masterserver): version, lock,
     /// metadata version and minimum known committed version are those of one moment. The holder of
     /// the token has then seen each change up to that position, and the answers by which the versions
@@ -88,20 +89,20 @@ impl<J: Live> LiveRecord<J> {
     /// says that a read sees a report of which its caller had seen nothing.
     #[tactic(auto, using(crate::proofs::Rising::never_behind))]
     #[inline]
-    pub fn read<R: Wait>(&self, rt: &R, seen: &mut Seen<J>) -> Fetched
+    pub fn read<R: Wait>(&self, rt: &R, seen: &mut Seen<S>) -> Fetched
         ensures reporter { seen.new.reporter ≡ seen.old.reporter }
         ensures extends { IsPrefix seen.old.changes seen.new.changes }
         ensures own { own_positions seen.new ≡ own_positions seen.old }
-        ensures rec { result.rec ≡ last_record J.start seen.new.changes }
+        ensures rec { result.rec ≡ last_record S.start seen.new.changes }
         ensures position { result.position ≡ length seen.new.changes }
-        ensures never_falls { IsNotBehind (last_record J.start seen.old.changes) result.rec }
+        ensures never_falls { IsNotBehind (last_record S.start seen.old.changes) result.rec }
         ensures bounded { IsBounded result.position result.rec }
-        ensures log { IsLog J.start J.reporters seen.new.changes }
+        ensures log { IsLog S.start S.reporters seen.new.changes }
         ensures answers { IsPrefix seen.old.answers seen.new.answers }
         ensures own_answers { own_answers seen.new ≡ own_answers seen.old }
         ensures least { least_above seen.old.answers ≤ least_above seen.new.answers }
-        ensures drawn { J.chained ≡ true → AreDrawn seen.new.answers seen.new.changes }
-        ensures no_chain { J.chained ≡ false → seen.new.answers ≡ [] }
+        ensures drawn { S.chained ≡ true → AreDrawn seen.new.answers seen.new.changes }
+        ensures no_chain { S.chained ≡ false → seen.new.answers ≡ [] }
     {
         // The check learns here that the versions of a chain rise.
         laws::versions_rise();
@@ -130,29 +131,15 @@ impl<J: Live> LiveRecord<J> {
         rt: &R,
         gate: &G,
         who: u32,
-        seen: &mut Seen<J>,
+        seen: &mut Seen<S>,
         rec: Record,
     ) -> Result<Ack, LiveError>
         requires numbered { IsSome seen.old.reporter }
-        requires drawn { J.chained ≡ true → Contains (versions seen.old.answers) rec.version }
-        ensures taken { OnOk result (IsRecord rec) }
-        ensures refused { IfErr result (IsRefusedFor J.chained rec) }
+        requires drawn { S.chained ≡ true → Contains (versions seen.old.answers) rec.version }
+        ensures acked { IfOk result (IsAcked S.start rec seen.old seen.new) }
+        ensures refused { IfErr result (IsRefusedFor S.chained rec) }
         ensures err { OnErr result (seen.new ≡ seen.old) }
-        ensures reporter { seen.new.reporter ≡ seen.old.reporter }
-        ensures extends { IsPrefix seen.old.changes seen.new.changes }
-        ensures position { IfOk result (λ ack. ack.position ≡ length seen.new.changes) }
-        ensures never_falls { IsNotBehind
-            (last_record J.start seen.old.changes)
-            (last_record J.start seen.new.changes) }
-        ensures bounded { OnOk result
-            (IsBounded (length seen.new.changes) (last_record J.start seen.new.changes)) }
-        ensures changed { IfOk result (λ ack. ack.changed ≡ true →
-            IsChangedBy J.start rec ack.raised seen.old seen.new) }
-        ensures not_changed { IfOk result (λ ack. ack.changed ≡ false →
-            IsNotChangedBy J.start rec ack.raised seen.old seen.new) }
-        ensures answers { IsPrefix seen.old.answers seen.new.answers }
-        ensures own_answers { own_answers seen.new ≡ own_answers seen.old }
-        ensures least { least_above seen.old.answers ≤ least_above seen.new.answers }
+        ensures seen { HasSeenMore S.start seen.old seen.new }
     {
         // The check learns here that the versions of a chain rise.
         laws::versions_rise();
@@ -171,7 +158,7 @@ impl<J: Live> LiveRecord<J> {
 
     /// A second token that has seen the same, with no number. It waits for nobody.
     #[inline]
-    pub fn split(&self, seen: &mut Seen<J>) -> Seen<J>
+    pub fn split(&self, seen: &mut Seen<S>) -> Seen<S>
         ensures same { seen.new ≡ seen.old }
         ensures given { result ≡ record seen.old { reporter = None } }
     {
@@ -186,28 +173,14 @@ impl<J: Live> LiveRecord<J> {
     /// The holder of the first token learns what that of the second has seen. It keeps its number.
     #[tactic(auto, using(crate::proofs::Rising::never_behind))]
     #[inline]
-    pub fn learn<R: Wait>(&self, rt: &R, seen: &mut Seen<J>, told: Seen<J>)
+    pub fn learn<R: Wait>(&self, rt: &R, seen: &mut Seen<S>, told: Seen<S>)
         requires { told.reporter ≡ None }
-        ensures reporter { seen.new.reporter ≡ seen.old.reporter }
-        ensures longer { seen.new.changes ≡ longer seen.old.changes told.changes }
-        ensures extends { IsPrefix seen.old.changes seen.new.changes }
-        ensures told { IsPrefix told.changes seen.new.changes }
-        ensures never_falls { IsNotBehind
-            (last_record J.start seen.old.changes)
-            (last_record J.start seen.new.changes) }
-        ensures covers { IsNotBehind
-            (last_record J.start told.changes)
-            (last_record J.start seen.new.changes) }
+        ensures seen { HasSeenMore S.start seen.old seen.new }
+        ensures learnt { HasLearnt S.start told seen.old seen.new }
         ensures bounded { IsBounded
             (length seen.new.changes)
-            (last_record J.start seen.new.changes) }
+            (last_record S.start seen.new.changes) }
         ensures own { own_positions seen.new ≡ own_positions seen.old }
-        ensures longer_answers { seen.new.answers ≡ longer seen.old.answers told.answers }
-        ensures answers { IsPrefix seen.old.answers seen.new.answers }
-        ensures told_answers { IsPrefix told.answers seen.new.answers }
-        ensures own_answers { own_answers seen.new ≡ own_answers seen.old }
-        ensures least { least_above seen.old.answers ≤ least_above seen.new.answers }
-        ensures least_told { least_above told.answers ≤ least_above seen.new.answers }
     {
         // The check learns here that the versions of a chain rise.
         laws::versions_rise();
@@ -229,13 +202,13 @@ impl<J: Live> LiveRecord<J> {
     /// and that no two answers that they have seen are of one version. Both tokens stay as they
     /// are.
     #[inline]
-    pub fn meet<R: Wait>(&self, rt: &R, first: &mut Seen<J>, second: &mut Seen<J>)
+    pub fn meet<R: Wait>(&self, rt: &R, first: &mut Seen<S>, second: &mut Seen<S>)
         ensures first { first.new ≡ first.old }
         ensures second { second.new ≡ second.old }
         ensures one { IsPrefix first.old.changes second.old.changes
             ⊎ IsPrefix second.old.changes first.old.changes }
-        ensures log { IsLog J.start J.reporters first.new.changes
-            × IsLog J.start J.reporters second.new.changes }
+        ensures log { IsLog S.start S.reporters first.new.changes
+            × IsLog S.start S.reporters second.new.changes }
         ensures answers { IsPrefix first.old.answers second.old.answers
             ⊎ IsPrefix second.old.answers first.old.answers }
         ensures unique { (one other : Issued) → Contains first.old.answers one
@@ -254,9 +227,9 @@ impl<J: Live> LiveRecord<J> {
     pub fn distinct<R: Wait>(
         &self,
         rt: &R,
-        first: &mut Seen<J>,
+        first: &mut Seen<S>,
         one: Issued,
-        second: &mut Seen<J>,
+        second: &mut Seen<S>,
         other: Issued,
     )
         requires one { slice_get first.old.answers one.ordinal
@@ -273,37 +246,24 @@ impl<J: Live> LiveRecord<J> {
     }
 }
 
-impl<J: Live> LiveRecord<J> {
+impl<S: Live> LiveRecord<S> {
     /// Brings together what the holders of all reporters' tokens, in order, and of another token
     /// have seen. All of them have then seen the same, up to the position that is answered, and each
     /// position is owned by exactly one of the reporters. What each owns is as before.
     ///
     /// It refuses nothing, takes no memory, and waits as a read does. It takes time in proportion to
     /// the number of reporters.
-    pub fn gather<R: Wait>(&self, rt: &R, first: &mut Seen<J>, others: &mut [Seen<J>]) -> u64
-        requires count { length others.old ≡ J.reporters }
+    pub fn gather<R: Wait>(&self, rt: &R, first: &mut Seen<S>, others: &mut [Seen<S>]) -> u64
+        requires count { length others.old ≡ S.reporters }
         requires numbered { AreNumbered others.old }
         ensures position { result ≡ length first.new.changes }
-        ensures count { length others.new ≡ J.reporters }
-        ensures one_list { (k : ℕ) → k < J.reporters → slice_get others.new k
-            ≡ Some (record first.new { reporter = Some k }) }
-        ensures extends { IsPrefix first.old.changes first.new.changes }
-        ensures answers { IsPrefix first.old.answers first.new.answers }
-        ensures extends_each { (k : ℕ) (token : Sight) → slice_get others.old k ≡ Some token
-            → IsPrefix token.changes first.new.changes }
-        ensures answers_each { (k : ℕ) (token : Sight) → slice_get others.old k ≡ Some token
-            → IsPrefix token.answers first.new.answers }
-        ensures reporter { first.new.reporter ≡ first.old.reporter }
-        ensures own { own_positions first.new ≡ own_positions first.old }
-        ensures own_answers { own_answers first.new ≡ own_answers first.old }
-        ensures own_each { (k : ℕ) (token other : Sight) → slice_get others.old k ≡ Some token
-            → slice_get others.new k ≡ Some other → own_positions other ≡ own_positions token }
-        ensures own_answers_each { (k : ℕ) (token other : Sight)
-            → slice_get others.old k ≡ Some token → slice_get others.new k ≡ Some other
-            → own_answers other ≡ own_answers token }
+        ensures together { AreTogether S.reporters first.new others.new }
+        ensures first { IsSameHolder first.old first.new }
+        ensures each { (k : ℕ) (token : Sight) → slice_get others.old k ≡ Some token
+            → HasCaughtUp first.new token k others.new }
         ensures one_owner { (position : ℕ) → 1 ≤ position → position ≤ result
             → IsOwnedOnce others.new position }
-        ensures log { IsLog J.start J.reporters first.new.changes }
+        ensures log { IsLog S.start S.reporters first.new.changes }
     {
         self.learn_from(rt, first, others);
         let position = self.read(rt, first).position;
@@ -312,7 +272,7 @@ impl<J: Live> LiveRecord<J> {
     }
 
     /// The holder of the first token learns what those of the others have seen.
-    fn learn_from<R: Wait>(&self, rt: &R, first: &mut Seen<J>, others: &mut [Seen<J>])
+    fn learn_from<R: Wait>(&self, rt: &R, first: &mut Seen<S>, others: &mut [Seen<S>])
         ensures others { others.new ≡ others.old }
         ensures reporter { first.new.reporter ≡ first.old.reporter }
         ensures extends { IsPrefix first.old.changes first.new.changes }
@@ -329,7 +289,7 @@ impl<J: Live> LiveRecord<J> {
     }
 
     /// The holders of the others learn what that of the first token has seen, which is no less.
-    fn teach<R: Wait>(&self, rt: &R, first: &mut Seen<J>, others: &mut [Seen<J>])
+    fn teach<R: Wait>(&self, rt: &R, first: &mut Seen<S>, others: &mut [Seen<S>])
         requires { (k : ℕ) (token : Sight) → slice_get others.old k ≡ Some token
             → IsSeenBy first.old token }
         ensures first { first.new ≡ first.old }

@@ -29,7 +29,7 @@ pub const MAX_REPORTERS: u32 = 64;
 
 /// A service that was opened. Contracts see it as what it was opened with, and where its live
 /// record is. [`Opened::parts`] or [`Opened::master`] gives the record, or the master, and its
-/// tokens, under a type `J` that is the name of the service in their types, and stands for what
+/// tokens, under a type `S` that is the name of the service in their types, and stands for what
 /// contracts see.
 #[derive(Drop)]
 pub struct Opened {
@@ -133,35 +133,35 @@ impl Opened {
     /// reporter, in order. None of them has seen anything. Where there is a chain, it is given up.
     ///
     /// It is refused where memory runs out, and for nothing else; the service is then given up.
-    pub fn parts<J: Live>(self) -> Result<(LiveRecord<J>, Seen<J>, Vec<Seen<J>>), LiveError>
-        requires { self ≡ origin_of J.table J.start J.reporters J.chained J.epoch_end J.recovery }
+    pub fn parts<S: Live>(self) -> Result<(LiveRecord<S>, Seen<S>, Vec<Seen<S>>), LiveError>
+        requires { self ≡ origin_of S.table S.start S.reporters S.chained S.epoch_end S.recovery }
         ensures memory { IfErr result (λ cause. cause ≡ LiveError.Memory) }
         ensures first { IfOk result (λ parts.
             parts.1 ≡ record { reporter = None; changes = []; answers = [] }) }
-        ensures count { IfOk result (λ parts. vec_len parts.2 ≡ J.reporters) }
-        ensures tokens { IfOk result (λ parts. (k : ℕ) → k < J.reporters →
+        ensures count { IfOk result (λ parts. vec_len parts.2 ≡ S.reporters) }
+        ensures tokens { IfOk result (λ parts. (k : ℕ) → k < S.reporters →
             slice_get parts.2.items k
             ≡ Some (record { reporter = Some k; changes = []; answers = [] })) }
     {
-        let (record, _, first, tokens) = self.share::<J>()?;
+        let (record, _, first, tokens) = self.share::<S>()?;
         Ok((record, first, tokens))
     }
 
     /// The master of a service with a chain, and its tokens, as [`Opened::parts`] gives those of a
     /// live record.
-    pub fn master<J: Live>(self) -> Result<(Master<J>, Seen<J>, Vec<Seen<J>>), LiveError>
-        requires chained { J.chained ≡ true }
+    pub fn master<S: Live>(self) -> Result<(Master<S>, Seen<S>, Vec<Seen<S>>), LiveError>
+        requires chained { S.chained ≡ true }
         requires opened { self
-            ≡ origin_of J.table J.start J.reporters J.chained J.epoch_end J.recovery }
+            ≡ origin_of S.table S.start S.reporters S.chained S.epoch_end S.recovery }
         ensures memory { IfErr result (λ cause. cause ≡ LiveError.Memory) }
         ensures first { IfOk result (λ parts.
             parts.1 ≡ record { reporter = None; changes = []; answers = [] }) }
-        ensures count { IfOk result (λ parts. vec_len parts.2 ≡ J.reporters) }
-        ensures tokens { IfOk result (λ parts. (k : ℕ) → k < J.reporters →
+        ensures count { IfOk result (λ parts. vec_len parts.2 ≡ S.reporters) }
+        ensures tokens { IfOk result (λ parts. (k : ℕ) → k < S.reporters →
             slice_get parts.2.items k
             ≡ Some (record { reporter = Some k; changes = []; answers = [] })) }
     {
-        let (live, drawer, first, tokens) = self.share::<J>()?;
+        let (live, drawer, first, tokens) = self.share::<S>()?;
         let Some(drawer) = drawer else { unreachable!() };
         let master = Master {
             live,
@@ -171,13 +171,13 @@ impl Opened {
     }
 
     /// The live record, the right to draw if there is a chain, and the tokens.
-    fn share<J: Live>(self) -> Result<Shared<J>, AllocError>
-        requires { self ≡ origin_of J.table J.start J.reporters J.chained J.epoch_end J.recovery }
-        ensures drawer { IfOk result (λ parts. J.chained ≡ true → IsSome parts.1) }
+    fn share<S: Live>(self) -> Result<Shared<S>, AllocError>
+        requires { self ≡ origin_of S.table S.start S.reporters S.chained S.epoch_end S.recovery }
+        ensures drawer { IfOk result (λ parts. S.chained ≡ true → IsSome parts.1) }
         ensures first { IfOk result (λ parts.
             parts.2 ≡ record { reporter = None; changes = []; answers = [] }) }
-        ensures count { IfOk result (λ parts. vec_len parts.3 ≡ J.reporters) }
-        ensures tokens { IfOk result (λ parts. (k : ℕ) → k < J.reporters →
+        ensures count { IfOk result (λ parts. vec_len parts.3 ≡ S.reporters) }
+        ensures tokens { IfOk result (λ parts. (k : ℕ) → k < S.reporters →
             slice_get parts.3.items k
             ≡ Some (record { reporter = Some k; changes = []; answers = [] })) }
     {
@@ -188,14 +188,14 @@ impl Opened {
             reporters,
             alloc,
         } = self;
-        let tokens = numbered::<J>(alloc, &cell, &mut pass, reporters)?;
+        let tokens = numbered::<S>(alloc, &cell, &mut pass, reporters)?;
         let first = Seen {
             number: None,
             position: 0,
             pass: passes::copy(&cell, &mut pass),
             of: PhantomData,
         };
-        let drawer = drawing::<J>(&cell, &mut pass, core);
+        let drawer = drawing::<S>(&cell, &mut pass, core);
         let right = Right {
             pass,
             of: PhantomData,
@@ -209,36 +209,36 @@ impl Opened {
 }
 
 /// What is shared out of a service that was opened.
-type Shared<J> = (LiveRecord<J>, Option<Drawer<J>>, Seen<J>, Vec<Seen<J>>);
+type Shared<S> = (LiveRecord<S>, Option<Drawer<S>>, Seen<S>, Vec<Seen<S>>);
 
 /// The right to draw, split off the first pass for the chain, if there is one.
-fn drawing<J: Live>(cell: &Cell, pass: &mut Pass, core: Option<RecentChain>) -> Option<Drawer<J>>
-    requires cell { cell.now.table.shared.table_id ≡ J.table }
-    requires pass { pass.old.table_id ≡ J.table }
+fn drawing<S: Live>(cell: &Cell, pass: &mut Pass, core: Option<RecentChain>) -> Option<Drawer<S>>
+    requires cell { cell.now.table.shared.table_id ≡ S.table }
+    requires pass { pass.old.table_id ≡ S.table }
     requires left { cell_view pass.old
-        ≡ left_from J.reporters J.start (epoch_of J.chained J.epoch_end J.recovery) J.reporters }
-    requires core { IsMadeFor J.start J.reporters (epoch_of J.chained J.epoch_end J.recovery) core }
-    ensures cell { pass.new.table_id ≡ J.table }
-    ensures right { IsRight J.start J.reporters (cell_view pass.new) }
-    ensures drawer { J.chained ≡ true → IsSome result }
+        ≡ left_from S.reporters S.start (epoch_of S.chained S.epoch_end S.recovery) S.reporters }
+    requires core { IsMadeFor S.start S.reporters (epoch_of S.chained S.epoch_end S.recovery) core }
+    ensures cell { pass.new.table_id ≡ S.table }
+    ensures right { IsRight S.start S.reporters (cell_view pass.new) }
+    ensures drawer { S.chained ≡ true → IsSome result }
 {
     match core {
         None => None,
-        Some(core) => Some(drawing_for::<J>(cell, pass, core)),
+        Some(core) => Some(drawing_for::<S>(cell, pass, core)),
     }
 }
 
 /// The right to draw for this chain.
-fn drawing_for<J: Live>(cell: &Cell, pass: &mut Pass, core: RecentChain) -> Drawer<J>
-    requires cell { cell.now.table.shared.table_id ≡ J.table }
-    requires pass { pass.old.table_id ≡ J.table }
+fn drawing_for<S: Live>(cell: &Cell, pass: &mut Pass, core: RecentChain) -> Drawer<S>
+    requires cell { cell.now.table.shared.table_id ≡ S.table }
+    requires pass { pass.old.table_id ≡ S.table }
     requires left { cell_view pass.old
-        ≡ left_from J.reporters J.start (epoch_of J.chained J.epoch_end J.recovery) J.reporters }
-    requires chained { J.chained ≡ true }
-    requires core { IsStateOf core (new_chain J.epoch_end J.recovery J.reporters) }
-    requires begins { J.start.version ≤ J.recovery }
-    ensures cell { pass.new.table_id ≡ J.table }
-    ensures right { IsRight J.start J.reporters (cell_view pass.new) }
+        ≡ left_from S.reporters S.start (epoch_of S.chained S.epoch_end S.recovery) S.reporters }
+    requires chained { S.chained ≡ true }
+    requires core { IsStateOf core (new_chain S.epoch_end S.recovery S.reporters) }
+    requires begins { S.start.version ≤ S.recovery }
+    ensures cell { pass.new.table_id ≡ S.table }
+    ensures right { IsRight S.start S.reporters (cell_view pass.new) }
 {
     Drawer {
         core,
@@ -248,43 +248,43 @@ fn drawing_for<J: Live>(cell: &Cell, pass: &mut Pass, core: RecentChain) -> Draw
 }
 
 /// A token for each reporter, split off the first pass.
-fn numbered<J: Live>(
+fn numbered<S: Live>(
     alloc: Global,
     cell: &Cell,
     pass: &mut Pass,
     reporters: u32,
-) -> Result<Vec<Seen<J>>, AllocError>
-    requires cell { cell.now.table.shared.table_id ≡ J.table }
-    requires pass { pass.old.table_id ≡ J.table }
-    requires named { reporters ≡ J.reporters }
+) -> Result<Vec<Seen<S>>, AllocError>
+    requires cell { cell.now.table.shared.table_id ≡ S.table }
+    requires pass { pass.old.table_id ≡ S.table }
+    requires named { reporters ≡ S.reporters }
     requires opened { cell_view pass.old
-        ≡ opened J.start (epoch_of J.chained J.epoch_end J.recovery) reporters }
-    requires taken { IsRecord J.start }
-    ensures cell { pass.new.table_id ≡ J.table }
+        ≡ opened S.start (epoch_of S.chained S.epoch_end S.recovery) reporters }
+    requires taken { IsRecord S.start }
+    ensures cell { pass.new.table_id ≡ S.table }
     ensures left { IfOk result (λ _. cell_view pass.new
-        ≡ left_from reporters J.start (epoch_of J.chained J.epoch_end J.recovery) reporters) }
+        ≡ left_from reporters S.start (epoch_of S.chained S.epoch_end S.recovery) reporters) }
     ensures count { IfOk result (λ tokens. vec_len tokens ≡ reporters) }
     ensures tokens { IfOk result (λ tokens. (k : ℕ) → k < reporters → slice_get tokens.items k
         ≡ Some (record { reporter = Some k; changes = []; answers = [] })) }
 {
     let mut tokens = Vec::with_capacity(alloc, reporters as usize)?;
     for number in 0..reporters {
-        tokens.push_reserved(token::<J>(cell, pass, number));
+        tokens.push_reserved(token::<S>(cell, pass, number));
     }
     Ok(tokens)
 }
 
 /// The token of the reporter with the lowest number that the first pass has left.
-fn token<J: Live>(cell: &Cell, pass: &mut Pass, number: u32) -> Seen<J>
-    requires cell { cell.now.table.shared.table_id ≡ J.table }
-    requires pass { pass.old.table_id ≡ J.table }
-    requires below { number < J.reporters }
-    requires taken { IsRecord J.start }
+fn token<S: Live>(cell: &Cell, pass: &mut Pass, number: u32) -> Seen<S>
+    requires cell { cell.now.table.shared.table_id ≡ S.table }
+    requires pass { pass.old.table_id ≡ S.table }
+    requires below { number < S.reporters }
+    requires taken { IsRecord S.start }
     requires left { cell_view pass.old
-        ≡ left_from number J.start (epoch_of J.chained J.epoch_end J.recovery) J.reporters }
-    ensures cell { pass.new.table_id ≡ J.table }
+        ≡ left_from number S.start (epoch_of S.chained S.epoch_end S.recovery) S.reporters }
+    ensures cell { pass.new.table_id ≡ S.table }
     ensures left { cell_view pass.new
-        ≡ left_from (number + 1) J.start (epoch_of J.chained J.epoch_end J.recovery) J.reporters }
+        ≡ left_from (number + 1) S.start (epoch_of S.chained S.epoch_end S.recovery) S.reporters }
     ensures token { result ≡ record { reporter = Some number; changes = []; answers = [] } }
 {
     Seen {
@@ -307,11 +307,11 @@ pub trait UnderName<R> {
     ghost gives: { Self → Origin → Self.Output → Type 0 } = { λ _ _ _. ⊤ };
 
     /// Does the work, with what was opened for the service.
-    fn run<J: Live + Send + Sync>(self, rt: &R, opened: Opened) -> Self::Output
+    fn run<S: Live + Send + Sync>(self, rt: &R, opened: Opened) -> Self::Output
         requires takes { takes self opened }
-        requires chained { J.chained ≡ is_some opened.epoch }
+        requires chained { S.chained ≡ is_some opened.epoch }
         requires opened { opened
-            ≡ origin_of J.table J.start J.reporters J.chained J.epoch_end J.recovery }
+            ≡ origin_of S.table S.start S.reporters S.chained S.epoch_end S.recovery }
         ensures gives { gives self opened result };
 }
 
@@ -327,16 +327,16 @@ impl Opened {
 }
 
 /// Does it under a name that the caller picks.
-fn run_under<J: Live + Send + Sync, R, U: UnderName<R>>(
+fn run_under<S: Live + Send + Sync, R, U: UnderName<R>>(
     rt: &R,
     opened: Opened,
     uses: U,
 ) -> U::Output
     requires takes { U.takes uses opened }
-    requires chained { J.chained ≡ is_some opened.epoch }
+    requires chained { S.chained ≡ is_some opened.epoch }
     requires opened { opened
-        ≡ origin_of J.table J.start J.reporters J.chained J.epoch_end J.recovery }
+        ≡ origin_of S.table S.start S.reporters S.chained S.epoch_end S.recovery }
     ensures gives { U.gives uses opened result }
 {
-    uses.run::<J>(rt, opened)
+    uses.run::<S>(rt, opened)
 }

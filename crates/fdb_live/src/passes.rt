@@ -275,7 +275,7 @@ fn serve(cell: &Cell, pass: &mut Pass, other: Pass)
 
 /// Draws an answer by the pass with the right to draw, under its lowest number.
 #[inline(always)]
-fn draw<P: AnswerKind, J: Live, R: Wait>(
+fn draw<P: AnswerKind, S: Live, R: Wait>(
     rt: &R,
     cell: &Cell,
     pass: &mut Pass,
@@ -286,8 +286,8 @@ fn draw<P: AnswerKind, J: Live, R: Wait>(
     requires right { (cell_view pass.old).chain.draws ≡ true }
     requires numbered { (cell_view pass.old).low ≡ answer.proxy }
     requires numbers { (cell_view pass.old).low < (cell_view pass.old).high }
-    requires epoch { (cell_view pass.old).epoch ≡ Some (epoch_from J.epoch_end J.recovery) }
-    requires legal { IsChain J.epoch_end J.recovery
+    requires epoch { (cell_view pass.old).epoch ≡ Some (epoch_from S.epoch_end S.recovery) }
+    requires legal { IsChain S.epoch_end S.recovery
         ((cell_view pass.old).chain.seen ++ answer ∷ []) }
     ensures cell { IsSamePass pass.old pass.new }
     ensures draws { Draws answer (cell_view pass.old) result result (cell_view pass.new) }
@@ -299,21 +299,21 @@ fn draw<P: AnswerKind, J: Live, R: Wait>(
 /// Ends a join of the pass with the right to draw, and draws an answer if there is one.
 #[tactic(auto, using(crate::proofs::Serving::draws_some, crate::proofs::Serving::draws_none))]
 #[inline(always)]
-fn draw_any<J: Live, R: Wait>(rt: &R, cell: &Cell, pass: &mut Pass, drawn: Option<Issued>)
+fn draw_any<S: Live, R: Wait>(rt: &R, cell: &Cell, pass: &mut Pass, drawn: Option<Issued>)
     requires cell { pass.old.table_id ≡ cell.now.table.shared.table_id }
     requires right { (cell_view pass.old).chain.draws ≡ true }
     requires may_settle { Turns Keeps pass.old.id (cell_view pass.old) (λ x. x) (InWords Settles) }
     requires numbers { (cell_view pass.old).low < (cell_view pass.old).high }
-    requires epoch { (cell_view pass.old).epoch ≡ Some (epoch_from J.epoch_end J.recovery) }
+    requires epoch { (cell_view pass.old).epoch ≡ Some (epoch_from S.epoch_end S.recovery) }
     requires numbered { ForSome drawn (λ answer. (cell_view pass.old).low ≡ answer.proxy) }
-    requires legal { ForSome drawn (λ answer. IsChain J.epoch_end J.recovery
+    requires legal { ForSome drawn (λ answer. IsChain S.epoch_end S.recovery
         ((cell_view pass.old).chain.seen ++ answer ∷ [])) }
     ensures cell { IsSamePass pass.old pass.new }
     ensures draws { DrawsAny drawn (cell_view pass.old) (cell_view pass.new) }
 {
     match drawn {
         Some(answer) => {
-            draw::<Brand, J, R>(rt, cell, pass, answer);
+            draw::<Brand, S, R>(rt, cell, pass, answer);
         }
         None => {
             settle(rt, cell, pass);
@@ -324,7 +324,7 @@ fn draw_any<J: Live, R: Wait>(rt: &R, cell: &Cell, pass: &mut Pass, drawn: Optio
 /// The pass with the right to draw draws an answer for a token, if there is one. For that, the
 /// token's pass is taken in, and its number is split off again.
 #[inline(always)]
-pub(crate) fn answer<J: Live, R: Wait>(
+pub(crate) fn answer<S: Live, R: Wait>(
     rt: &R,
     cell: &Cell,
     right: &mut Pass,
@@ -335,9 +335,9 @@ pub(crate) fn answer<J: Live, R: Wait>(
     requires token { token.old.table_id ≡ cell.now.table.shared.table_id }
     requires right { (cell_view right.old).chain.draws ≡ true }
     requires numbers { (cell_view token.old).high ≡ (cell_view token.old).low + 1 }
-    requires epoch { (cell_view token.old).epoch ≡ Some (epoch_from J.epoch_end J.recovery) }
+    requires epoch { (cell_view token.old).epoch ≡ Some (epoch_from S.epoch_end S.recovery) }
     requires numbered { ForSome drawn (λ answer. (cell_view token.old).low ≡ answer.proxy) }
-    requires legal { ForSome drawn (λ answer. IsChain J.epoch_end J.recovery
+    requires legal { ForSome drawn (λ answer. IsChain S.epoch_end S.recovery
         ((cell_view right.old).chain.seen ++ answer ∷ [])) }
     ensures cell { (right.new.table_id ≡ right.old.table_id)
         × (token.new.table_id ≡ token.old.table_id) }
@@ -346,6 +346,6 @@ pub(crate) fn answer<J: Live, R: Wait>(
 {
     let mine = give_all(cell, token);
     serve(cell, right, mine);
-    draw_any::<J, R>(rt, cell, right, drawn);
+    draw_any::<S, R>(rt, cell, right, drawn);
     *token = give_lowest(cell, right);
 }

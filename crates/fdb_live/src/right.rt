@@ -20,15 +20,15 @@ use fdb_history::{Ask, Issued, MAX_VERSION, Record};
 use std::marker::{Model, PhantomData};
 use std::sync::Wait;
 
-/// The one pass that may replace the record of the service `J`. It lies behind the lock of the
+/// The one pass that may replace the record of the service `S`. It lies behind the lock of the
 /// reports.
 #[derive(Drop)]
-pub(crate) struct Right<J: Live> {
+pub(crate) struct Right<S: Live> {
     pub(crate) pass: Pass,
-    pub(crate) of: PhantomData<J>,
+    pub(crate) of: PhantomData<S>,
 }
 
-impl<J: Live> Model for Right<J> {
+impl<S: Live> Model for Right<S> {
     ghost use Rattle.std.specs.Prelude.{◌≡◌};
     ghost use Rattle.crossbeam_utils.specs.Seq.{cell_view};
     ghost use Rattle.fdb_live.specs.private.Token.{IsRight};
@@ -37,11 +37,11 @@ impl<J: Live> Model for Right<J> {
 
     ghost view = { λ _. tt };
 
-    ghost invariant = { λ r. (r.pass.table_id ≡ J.table)
-        × IsRight J.start J.reporters (cell_view r.pass) };
+    ghost invariant = { λ r. (r.pass.table_id ≡ S.table)
+        × IsRight S.start S.reporters (cell_view r.pass) };
 }
 
-impl<J: Live> Right<J> {
+impl<S: Live> Right<S> {
     /// Reports a record for the holder of a token. For that, the token's pass is taken in, and its
     /// number is split off again.
     #[inline]
@@ -49,24 +49,24 @@ impl<J: Live> Right<J> {
         &mut self,
         rt: &R,
         cell: &Cell,
-        seen: &mut Seen<J>,
+        seen: &mut Seen<S>,
         rec: Record,
     ) -> Ack
-        requires cell { cell.now.table.shared.table_id ≡ J.table }
+        requires cell { cell.now.table.shared.table_id ≡ S.table }
         requires numbered { IsSome seen.old.reporter }
         requires taken { IsRecord rec }
-        requires drawn { J.chained ≡ true → Contains (versions seen.old.answers) rec.version }
+        requires drawn { S.chained ≡ true → Contains (versions seen.old.answers) rec.version }
         ensures reporter { seen.new.reporter ≡ seen.old.reporter }
         ensures seen { IsPrefix seen.old.changes seen.new.changes }
         ensures answers { IsPrefix seen.old.answers seen.new.answers }
         ensures own { own_answers seen.new ≡ own_answers seen.old }
         ensures position { result.position ≡ length seen.new.changes }
-        ensures chain { IsChain J.epoch_end J.recovery seen.new.answers }
-        ensures log { IsLog J.start J.reporters seen.new.changes }
+        ensures chain { IsChain S.epoch_end S.recovery seen.new.answers }
+        ensures log { IsLog S.start S.reporters seen.new.changes }
         ensures changed { result.changed ≡ true
-            → IsChangedBy J.start rec result.raised seen.old seen.new }
+            → IsChangedBy S.start rec result.raised seen.old seen.new }
         ensures not_changed { result.changed ≡ false
-            → IsNotChangedBy J.start rec result.raised seen.old seen.new }
+            → IsNotChangedBy S.start rec result.raised seen.old seen.new }
     {
         let token = passes::give_all(cell, &mut seen.pass);
         passes::take(cell, &mut self.pass, token);
@@ -77,67 +77,67 @@ impl<J: Live> Right<J> {
     }
 }
 
-/// What the lock of the asks holds: the chain of the service `J`, and the one pass that may draw for
+/// What the lock of the asks holds: the chain of the service `S`, and the one pass that may draw for
 /// it, which has seen just the chain's answers. Contracts see it as that chain.
 #[derive(Drop)]
-pub(crate) struct Drawer<J: Live> {
+pub(crate) struct Drawer<S: Live> {
     pub(crate) core: RecentChain,
     pub(crate) pass: Pass,
-    pub(crate) of: PhantomData<J>,
+    pub(crate) of: PhantomData<S>,
 }
 
-impl<J: Live> Model for Drawer<J> {
+impl<S: Live> Model for Drawer<S> {
     ghost use Rattle.std.specs.Prelude.{◌≡◌, ◌≤◌, true};
     ghost use Rattle.crossbeam_utils.specs.Seq.{cell_view};
     ghost use Rattle.fdb_history.specs.Issuing.{Chain};
-    ghost use Rattle.fdb_live.specs.Holding.{chain_of};
+    ghost use Rattle.fdb_chain.specs.ChainCore.{chain_of};
     ghost use Rattle.fdb_live.specs.private.Token.{IsDrawer};
 
     ghost Value = { Chain };
 
-    ghost view = { λ drawer. chain_of J.epoch_end J.recovery J.reporters
+    ghost view = { λ drawer. chain_of S.epoch_end S.recovery S.reporters
         (cell_view drawer.pass).chain.seen };
 
-    ghost invariant = { λ drawer. (J.start.version ≤ J.recovery)
-        × (J.chained ≡ true)
-        × (drawer.pass.table_id ≡ J.table)
-        × IsDrawer J.epoch_end J.recovery J.reporters drawer.core (cell_view drawer.pass) };
+    ghost invariant = { λ drawer. (S.start.version ≤ S.recovery)
+        × (S.chained ≡ true)
+        × (drawer.pass.table_id ≡ S.table)
+        × IsDrawer S.epoch_end S.recovery S.reporters drawer.core (cell_view drawer.pass) };
 }
 
-impl<J: Live> Drawer<J> {
+impl<S: Live> Drawer<S> {
     /// Answers a request for the holder of its proxy's token.
     #[inline]
     pub(crate) fn ask<R: Wait>(
         &mut self,
         rt: &R,
         cell: &Cell,
-        token: &mut Seen<J>,
+        token: &mut Seen<S>,
         ask: Ask,
     ) -> Result<Issued, ChainError>
-        requires cell { cell.now.table.shared.table_id ≡ J.table }
+        requires cell { cell.now.table.shared.table_id ≡ S.table }
         requires numbered { token.old.reporter ≡ Some ask.proxy }
         ensures reporter { token.new.reporter ≡ token.old.reporter }
         ensures changes { token.new.changes ≡ token.old.changes }
-        ensures asked { IsAsked (new_chain J.epoch_end J.recovery J.reporters)
+        ensures asked { IsAsked (new_chain S.epoch_end S.recovery S.reporters)
             ask token.old result token.new }
         ensures request { IfOk result (IsFor ask) }
         ensures in_range { IfOk result (λ issued. issued.version ≤ MAX_VERSION) }
         ensures cause { IfErr result (MayRefuse ask) }
-        ensures member { ask.proxy < J.reporters }
-        ensures epoch { IsEpoch J.epoch_end J.recovery }
-        ensures log { IsChain J.epoch_end J.recovery token.new.answers }
-        ensures start { J.start.version ≤ J.recovery }
+        ensures member { ask.proxy < S.reporters }
+        ensures epoch { IsEpoch S.epoch_end S.recovery }
+        ensures log { IsChain S.epoch_end S.recovery token.new.answers }
+        ensures start { S.start.version ≤ S.recovery }
     {
         let result = self.core.ask(ask);
         self.core.stands_for();
         let drawn = drawn(&result);
-        passes::answer::<J, R>(rt, cell, &mut self.pass, &mut token.pass, drawn);
+        passes::answer::<S, R>(rt, cell, &mut self.pass, &mut token.pass, drawn);
         result
     }
 
     /// The holder of a token sees all answers so far.
-    pub(crate) fn look<R: Wait>(&mut self, rt: &R, cell: &Cell, token: &mut Seen<J>)
-        requires cell { cell.now.table.shared.table_id ≡ J.table }
+    pub(crate) fn look<R: Wait>(&mut self, rt: &R, cell: &Cell, token: &mut Seen<S>)
+        requires cell { cell.now.table.shared.table_id ≡ S.table }
         requires numbered { IsSome token.old.reporter }
         ensures chain { self.new ≡ self.old }
         ensures reporter { token.new.reporter ≡ token.old.reporter }
@@ -146,14 +146,14 @@ impl<J: Live> Drawer<J> {
         ensures extends { IsPrefix token.old.answers token.new.answers }
         ensures own { own_answers token.new ≡ own_answers token.old }
     {
-        passes::answer::<J, R>(rt, cell, &mut self.pass, &mut token.pass, None);
+        passes::answer::<S, R>(rt, cell, &mut self.pass, &mut token.pass, None);
     }
 
     /// How many commit versions were drawn.
     pub(crate) fn count(&self) -> u64
         ensures count { result ≡ length self.now.answers }
-        ensures one_chain { IsChain J.epoch_end J.recovery self.now.answers }
-        ensures asked { All (λ answer. answer.proxy < J.reporters) self.now.answers }
+        ensures one_chain { IsChain S.epoch_end S.recovery self.now.answers }
+        ensures asked { All (λ answer. answer.proxy < S.reporters) self.now.answers }
     {
         self.core.drawn()
     }

@@ -32,7 +32,7 @@ impl Live for Brand {
     ghost chained = { false };
 }
 
-/// A token of what its holder has seen of the live record of the service `J`: a list of reports
+/// A token of what its holder has seen of the live record of the service `S`: a list of reports
 /// that have changed the record, and, where the service has a chain of commit versions, a list of
 /// answers that drew versions, each from the first on. Whoever has the token proves by it that
 /// these reports and answers took place, one after another. At run time it is a position and a
@@ -43,14 +43,14 @@ impl Live for Brand {
 /// cloned: [`LiveRecord::split`](crate::LiveRecord::split) makes another that has seen the same. It
 /// may be dropped.
 #[derive(Drop)]
-pub struct Seen<J: Live> {
+pub struct Seen<S: Live> {
     pub(crate) number: Option<u32>,
     pub(crate) position: u64,
     pub(crate) pass: Pass,
-    pub(crate) of: PhantomData<J>,
+    pub(crate) of: PhantomData<S>,
 }
 
-impl<J: Live> Model for Seen<J> {
+impl<S: Live> Model for Seen<S> {
     ghost use Rattle.std.specs.Prelude.{◌≡◌, length};
     ghost use Rattle.crossbeam_utils.specs.Seq.{cell_view};
     ghost use Rattle.fdb_live.specs.Seen.{Sight};
@@ -64,20 +64,20 @@ impl<J: Live> Model for Seen<J> {
       answers = (cell_view s.pass).chain.seen;
     } };
 
-    ghost invariant = { λ s. (s.pass.table_id ≡ J.table)
+    ghost invariant = { λ s. (s.pass.table_id ≡ S.table)
         × (s.position ≡ length (cell_view s.pass).seen)
-        × IsHolder J.start J.reporters s.number (cell_view s.pass)
-        × IsMember J.chained J.epoch_end J.recovery J.reporters s.number (cell_view s.pass) };
+        × IsHolder S.start S.reporters s.number (cell_view s.pass)
+        × IsMember S.chained S.epoch_end S.recovery S.reporters s.number (cell_view s.pass) };
 }
 
-impl<J: Live> Seen<J> {
+impl<S: Live> Seen<S> {
     /// The number of changes that the token's holder has seen. The clauses say besides, of any
     /// token, that each of these changes did change the record, one after another.
     #[inline]
     pub fn position(&self) -> u64
         ensures position { result ≡ length self.now.changes }
-        ensures log { IsLog J.start J.reporters self.now.changes }
-        ensures chain { IsChain J.epoch_end J.recovery self.now.answers }
+        ensures log { IsLog S.start S.reporters self.now.changes }
+        ensures chain { IsChain S.epoch_end S.recovery self.now.answers }
     {
         self.position
     }

@@ -6,7 +6,7 @@ use Rattle.fdb_history.specs.declared.service.Service.{Ghosts as ServiceGhosts}
 use Rattle.fdb_live.specs.declared.seen.Live.{Ghosts as LiveGhosts}
 use Rattle.fdb_live.specs.declared.view.Change.{Change}
 use Rattle.fdb_proxy.specs.declared.request.Request.{Request}
-use Rattle.fdb_queue.specs.declared.request.Req.{Req}
+use Rattle.fdb_queue.specs.declared.waiting.Req.{Req}
 
 module _ {A : Type 0} where
   pub prefix_trans : (xs ys zs : List A) → IsPrefix xs ys → IsPrefix ys zs → IsPrefix xs zs
@@ -19,10 +19,10 @@ module _ {A : Type 0} where
   pub same_head : {x y : A} {xs ys : List A} → x ∷ xs ≡ y ∷ ys → x ≡ y
   same_head h = cc (h)
 
-module _ {J : Type 0} {live : LiveGhosts J} {service : ServiceGhosts J} where
+module _ {S : Type 0} {live : LiveGhosts S} {service : ServiceGhosts S} where
   -- what each of some askers had seen begins what was seen
-  abbrev pub AreTold : List Change → List (Req (Request J live service)) → Type 0
+  abbrev pub AreTold : List Change → List (Req (Request S live service)) → Type 0
   AreTold changes requests = All (λ request. IsPrefix request.payload.seen.changes changes) requests
 
-  pub told_more : (changes more : List Change) (requests : List (Req (Request J live service))) → IsPrefix changes more → AreTold changes requests → AreTold more requests
+  pub told_more : (changes more : List Change) (requests : List (Req (Request S live service))) → IsPrefix changes more → AreTold changes requests → AreTold more requests
   told_more changes more requests grown told = λ k d less. prefix_trans _ changes more (told k d less) grown

@@ -10,7 +10,7 @@ use Rattle.fdb_queue.specs.Waiting.{nothing}
 use Rattle.fdb_queue.specs.declared.config.QueueConfig.{QueueConfig}
 use Rattle.fdb_queue.specs.declared.error.QueueError.{QueueError}
 use Rattle.fdb_queue.specs.declared.error.QueueError.TheVariants.{BadCount, BatchThrottled, Full}
-use Rattle.fdb_queue.specs.declared.request.Req.{Req}
+use Rattle.fdb_queue.specs.declared.waiting.Req.{Req}
 
 -- what an offer is refused for
 pub of_an_offer : (valid throttled full : Bool) (cause : QueueError) → IsCause (if not valid then Some BadCount else if throttled then Some BatchThrottled else if full then Some Full else None) cause → is_of_an_offer cause ≡ true

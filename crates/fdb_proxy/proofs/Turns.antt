@@ -1,6 +1,6 @@
 -- A queue in which nobody waits.
 use Rattle.std.proofs.Common.{◌≡◌, List, [], ◌∷◌, ◌++◌, length, ap, refl, arith}
-use Rattle.fdb_queue.specs.declared.request.Req.{Req}
+use Rattle.fdb_queue.specs.declared.waiting.Req.{Req}
 use Rattle.fdb_queue.specs.Waiting.{Requests, nothing, row}
 
 module _ {T : Type 0} where

@@ -1,7 +1,7 @@
 -- For which causes an offer or a request may be refused.
 use Rattle.std.specs.Prelude.{Bool, true, false}
-use Rattle.fdb_proxy.specs.declared.cause.Cause.{Cause}
-use Rattle.fdb_proxy.specs.declared.cause.Cause.TheVariants.{Queue, Closed}
+use Rattle.fdb_proxy.specs.declared.error.Cause.{Cause}
+use Rattle.fdb_proxy.specs.declared.error.Cause.TheVariants.{Queue, Closed}
 use Rattle.fdb_queue.specs.declared.error.QueueError.{QueueError}
 use Rattle.fdb_queue.specs.declared.error.QueueError.TheVariants.{BadConfig, BadCount, BatchThrottled, Full, TagTooLong, Memory}
 

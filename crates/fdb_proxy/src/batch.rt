@@ -1,17 +1,15 @@
 //! The requests that start together, and the one read that serves them.
 
-ghost use Rattle.std.specs.Prelude.{◌≡◌, ◌≤◌, [], All, List, IfOk, IfErr};
-ghost use Rattle.std.specs.Prelude.{OnErr};
-ghost use Rattle.std.specs.Prelude.{length, map, vec_len, vec_capacity};
+ghost use Rattle.std.specs.Prelude.{◌≡◌, ◌≤◌, [], All, List, IfOk, IfErr, OnErr, length, map};
+ghost use Rattle.std.specs.Prelude.{vec_len, vec_capacity};
 ghost use Rattle.std.specs.List.{AllZip};
 ghost use mathlib.Core.List.{IsPrefix};
 ghost use Rattle.fdb_live.specs.Seen.{last_record, own_positions};
-ghost use Rattle.fdb_proxy.specs.Batch.{Replies, own_limits};
 ghost use Rattle.fdb_queue.specs.declared.throttles.Throttle.{Throttle};
+ghost use Rattle.fdb_proxy.specs.Batch.{Replies, own_limits};
 
-use crate::answer::{Addressed, Reply};
 use crate::error::ProxyError;
-use crate::request::Request;
+use crate::request::{Addressed, Reply, Request};
 use fdb_history::{Sequence, TagLimit};
 use fdb_live::{Fetched, Live, LiveRecord, Seen};
 use fdb_queue::{GrvQueue, QueueError, Req};
@@ -28,14 +26,14 @@ use std::sync::Wait;
 /// It is refused as `Memory` alone, before anything has happened; the requests are then handed
 /// back. It waits as a read does, and takes constant time for each request, the limits of its tags
 /// aside.
-pub fn serve_batch<J: Live, R: Wait>(
+pub fn serve_batch<S: Live, R: Wait>(
     rt: &R,
     alloc: Global,
-    live: &LiveRecord<J>,
-    seen: &mut Seen<J>,
-    queue: &GrvQueue<Request<J>>,
-    mut requests: Vec<Req<Request<J>>>,
-) -> Result<Vec<Addressed<J>>, (ProxyError, Vec<Req<Request<J>>>)>
+    live: &LiveRecord<S>,
+    seen: &mut Seen<S>,
+    queue: &GrvQueue<Request<S>>,
+    mut requests: Vec<Req<Request<S>>>,
+) -> Result<Vec<Addressed<S>>, (ProxyError, Vec<Req<Request<S>>>)>
     ensures replies { IfOk result (λ replies.
         AllZip (Replies queue.now.throttles seen.new.changes) requests.items replies.items) }
     ensures reporter { seen.new.reporter ≡ seen.old.reporter }
@@ -59,19 +57,19 @@ pub fn serve_batch<J: Live, R: Wait>(
 
 /// All that a batch takes memory for.
 #[derive(Drop)]
-struct Room<J: Live> {
+struct Room<S: Live> {
     /// The limits of each request's tags, in the order of the requests.
     limits: Vec<Sequence<TagLimit>>,
     /// No reply yet, with room for all.
-    replies: Vec<Addressed<J>>,
+    replies: Vec<Addressed<S>>,
 }
 
 /// Takes all memory for a batch before anything of it happens, so that the rest cannot fail.
-fn room_for<J: Live>(
+fn room_for<S: Live>(
     alloc: Global,
-    queue: &GrvQueue<Request<J>>,
-    requests: &[Req<Request<J>>],
-) -> Result<Room<J>, QueueError>
+    queue: &GrvQueue<Request<S>>,
+    requests: &[Req<Request<S>>],
+) -> Result<Room<S>, QueueError>
     ensures limits { IfOk result (λ room.
         room.limits.items ≡ map (own_limits queue.now.throttles) requests.now) }
     ensures replies { IfOk result (λ room. room.replies.items ≡ []) }
@@ -89,12 +87,12 @@ fn room_for<J: Live>(
     Ok(Room { limits, replies })
 }
 
-/// Learns what each asker has seen. The requests stay as they are.
-fn learn_all<J: Live, R: Wait>(
+/// Learns what each asker has seen, whose own token stays as it is.
+fn learn_all<S: Live, R: Wait>(
     rt: &R,
-    live: &LiveRecord<J>,
-    seen: &mut Seen<J>,
-    requests: &mut [Req<Request<J>>],
+    live: &LiveRecord<S>,
+    seen: &mut Seen<S>,
+    requests: &mut [Req<Request<S>>],
 )
     ensures same { requests.new ≡ requests.old }
     ensures reporter { seen.new.reporter ≡ seen.old.reporter }
@@ -104,36 +102,20 @@ fn learn_all<J: Live, R: Wait>(
         (λ request. IsPrefix request.payload.seen.changes seen.new.changes) requests.old }
 {
     for request in requests.iter_mut() {
-        learn_from(rt, live, seen, &mut request.payload);
+        let told = live.split(&mut request.payload.seen);
+        live.learn(rt, seen, told);
     }
 }
 
-/// Learns what one asker has seen, whose own token stays as it is.
-fn learn_from<J: Live, R: Wait>(
-    rt: &R,
-    live: &LiveRecord<J>,
-    seen: &mut Seen<J>,
-    request: &mut Request<J>,
-)
-    ensures same { request.new ≡ request.old }
-    ensures reporter { seen.new.reporter ≡ seen.old.reporter }
-    ensures extends { IsPrefix seen.old.changes seen.new.changes }
-    ensures own { own_positions seen.new ≡ own_positions seen.old }
-    ensures told { IsPrefix request.old.seen.changes seen.new.changes }
-{
-    let told = live.split(&mut request.seen);
-    live.learn(rt, seen, told);
-}
-
 /// Answers all requests with what a read saw.
-fn reply_all<J: Live>(
-    live: &LiveRecord<J>,
-    seen: &mut Seen<J>,
+fn reply_all<S: Live>(
+    live: &LiveRecord<S>,
+    seen: &mut Seen<S>,
     fetched: Fetched,
-    requests: Vec<Req<Request<J>>>,
-    room: Room<J>,
-) -> Vec<Addressed<J>>
-    requires rec { fetched.rec ≡ last_record J.start seen.old.changes }
+    requests: Vec<Req<Request<S>>>,
+    room: Room<S>,
+) -> Vec<Addressed<S>>
+    requires rec { fetched.rec ≡ last_record S.start seen.old.changes }
     requires position { fetched.position ≡ length seen.old.changes }
     requires told { All
         (λ request. IsPrefix request.payload.seen.changes seen.old.changes) requests.items }
@@ -162,14 +144,14 @@ fn reply_all<J: Live>(
 }
 
 /// Answers a request with what a read saw.
-fn reply_of<J: Live>(
-    live: &LiveRecord<J>,
-    seen: &mut Seen<J>,
+fn reply_of<S: Live>(
+    live: &LiveRecord<S>,
+    seen: &mut Seen<S>,
     fetched: Fetched,
-    request: Request<J>,
+    request: Request<S>,
     limits: Sequence<TagLimit>,
-) -> Addressed<J>
-    requires rec { fetched.rec ≡ last_record J.start seen.old.changes }
+) -> Addressed<S>
+    requires rec { fetched.rec ≡ last_record S.start seen.old.changes }
     requires position { fetched.position ≡ length seen.old.changes }
     requires told { IsPrefix request.seen.changes seen.old.changes }
     ensures same { seen.new ≡ seen.old }

@@ -6,8 +6,7 @@ ghost use Rattle.std.specs.List.{list_all};
 ghost use Rattle.fdb_proxy.specs.Options.{has_own_options};
 
 use crate::error::ProxyError;
-use crate::rates::Rates;
-use crate::request::Request;
+use crate::request::{Rates, Request};
 use fdb_live::Live;
 use fdb_queue::Req;
 use std::alloc::Global;
@@ -19,16 +18,16 @@ use std::sync::{Condvar, Mutex, Wait};
 ///
 /// Each request on it has in the queue the priority and the count of its own options.
 #[derive(Drop)]
-pub struct Desk<J: Live> {
-    inbox: Mutex<Inbox<J>>,
+pub struct Desk<S: Live> {
+    inbox: Mutex<Inbox<S>>,
     came: Condvar,
 }
 
 /// What was taken from a desk in one step, and whether more may come.
 #[derive(Drop)]
-pub struct Taken<J: Live> {
+pub struct Taken<S: Live> {
     /// All requests that waited there, in the order in which they were submitted.
-    pub requests: Vec<Req<Request<J>>>,
+    pub requests: Vec<Req<Request<S>>>,
     /// Whether the desk is closed, so that none will come after these.
     pub closed: bool,
     /// The rates that were left there last, if any were since it was taken from before: they hold
@@ -37,7 +36,7 @@ pub struct Taken<J: Live> {
     pub ghost own_options: { list_all has_own_options requests.items ≡ true },
 }
 
-impl<J: Live> Desk<J> {
+impl<S: Live> Desk<S> {
     /// An open desk with no request on it. Takes no memory.
     pub fn new(alloc: Global) -> Self {
         Desk {
@@ -54,8 +53,8 @@ impl<J: Live> Desk<J> {
     pub fn submit<R: Wait>(
         &self,
         rt: &R,
-        request: Req<Request<J>>,
-    ) -> Result<(), (ProxyError, Req<Request<J>>)>
+        request: Req<Request<S>>,
+    ) -> Result<(), (ProxyError, Req<Request<S>>)>
         requires priority { request.priority ≡ request.payload.opts.priority }
         requires count { request.count ≡ request.payload.opts.count }
         ensures handed_back { IfErr result (λ refused. refused.1 ≡ request) }
@@ -67,12 +66,12 @@ impl<J: Live> Desk<J> {
 
     /// Takes all requests that wait on the desk, in the order in which they were submitted. Where
     /// it is told to wait, it waits until there is one or the desk is closed. Takes no memory.
-    pub fn take<R: Wait>(&self, rt: &R, wait: bool) -> Taken<J>
+    pub fn take<R: Wait>(&self, rt: &R, wait: bool) -> Taken<S>
         ensures { wait ≡ true → result.closed ≡ false → 0 < vec_len result.requests }
     {
-        let mut inbox = self
-            .came
-            .wait_while(rt, self.inbox.lock(rt), |inbox| wait && inbox.is_bare());
+        let mut inbox = self.came.wait_while(rt, self.inbox.lock(rt), |inbox| {
+            wait && !inbox.closed && inbox.waiting.is_empty()
+        });
         inbox.take()
     }
 
@@ -92,7 +91,7 @@ impl<J: Live> Desk<J> {
 
     /// Closes the desk and takes all requests that wait there, in one step: none comes in between.
     /// Takes no memory.
-    pub(crate) fn close_and_take<R: Wait>(&self, rt: &R) -> Taken<J>
+    pub(crate) fn close_and_take<R: Wait>(&self, rt: &R) -> Taken<S>
         ensures { result.closed ≡ true }
     {
         let taken = self.inbox.lock(rt).close_and_take();
@@ -103,15 +102,15 @@ impl<J: Live> Desk<J> {
 
 /// What the lock of a desk holds: the requests that wait there, whether it is closed, and new rates.
 #[derive(Drop)]
-struct Inbox<J: Live> {
+struct Inbox<S: Live> {
     alloc: Global,
-    waiting: Vec<Req<Request<J>>>,
+    waiting: Vec<Req<Request<S>>>,
     closed: bool,
     rates: Option<Rates>,
     ghost own_options: { list_all has_own_options waiting.items ≡ true },
 }
 
-impl<J: Live> Inbox<J> {
+impl<S: Live> Inbox<S> {
     /// An open one with nothing on it.
     fn new(alloc: Global) -> Self
         ensures waiting { result.waiting.items ≡ [] }
@@ -127,7 +126,7 @@ impl<J: Live> Inbox<J> {
     }
 
     /// Adds a request behind those that wait, unless the desk is closed.
-    fn add(&mut self, request: Req<Request<J>>) -> Result<(), (ProxyError, Req<Request<J>>)>
+    fn add(&mut self, request: Req<Request<S>>) -> Result<(), (ProxyError, Req<Request<S>>)>
         requires { has_own_options request ≡ true }
         ensures added { OnOk result
             (self.new.waiting.items ≡ self.old.waiting.items ++ request ∷ []) }
@@ -150,13 +149,6 @@ impl<J: Live> Inbox<J> {
         }
     }
 
-    /// Whether it is open with nothing on it.
-    fn is_bare(&self) -> bool
-        ensures { result ≡ (not self.now.closed && (vec_len self.now.waiting == 0)) }
-    {
-        !self.closed && self.waiting.is_empty()
-    }
-
     /// Takes new rates, in the place of those that it has.
     fn set_rates(&mut self, rates: Rates)
         ensures set { self.new.rates ≡ Some rates }
@@ -167,7 +159,7 @@ impl<J: Live> Inbox<J> {
     }
 
     /// Takes all that is on it. An open one stays open.
-    fn take(&mut self) -> Taken<J>
+    fn take(&mut self) -> Taken<S>
         ensures requests { result.requests ≡ self.old.waiting }
         ensures closed { result.closed ≡ self.old.closed }
         ensures rates { result.rates ≡ self.old.rates }
@@ -194,7 +186,7 @@ impl<J: Live> Inbox<J> {
     }
 
     /// Closes it and takes all that is on it.
-    fn close_and_take(&mut self) -> Taken<J>
+    fn close_and_take(&mut self) -> Taken<S>
         ensures requests { result.requests ≡ self.old.waiting }
         ensures last { result.closed ≡ true }
         ensures rates { result.rates ≡ self.old.rates }

@@ -1,5 +1,6 @@
-//! Why a proxy or its desk refuses.
+//! Why a proxy or its desk refuses, and why a request is not started, as its refusal says it.
 
+use fdb_queue::QueueError;
 use std::alloc::AllocError;
 use thiserror::Error;
 
@@ -23,4 +24,13 @@ impl From<AllocError> for ProxyError {
     fn from(_refused: AllocError) -> Self {
         ProxyError::Memory
     }
+}
+
+/// Why a proxy does not start a request.
+#[derive(Clone, Copy, Debug, PartialEq, Eq)]
+pub enum Cause {
+    /// The proxy's queue did not let the request in, or pushed it out as `Full`.
+    Queue(QueueError),
+    /// The proxy's desk was closed before the request started.
+    Closed,
 }

@@ -8,22 +8,15 @@
 //! has to do with its request, and `Turn` what a turn of a proxy is by its queue's definitions.
 #![tactic(auto)]
 
-mod answer;
 mod batch;
-mod cause;
 mod desk;
 mod error;
-mod outbox;
 mod proxy;
-mod rates;
 mod request;
 mod turn;
 
-pub use answer::{Addressed, Answer, Refused, Reply};
 pub use batch::serve_batch;
-pub use cause::Cause;
 pub use desk::{Desk, Taken};
-pub use error::ProxyError;
+pub use error::{Cause, ProxyError};
 pub use proxy::GrvProxy;
-pub use rates::Rates;
-pub use request::Request;
+pub use request::{Addressed, Answer, Rates, Refused, Reply, Request};

@@ -2,26 +2,21 @@
 
 ghost use Rattle.std.specs.Prelude.{◌≡◌, [], All, IfOk, IfErr, OnOk, true};
 ghost use mathlib.Core.List.{IsPrefix};
+ghost use Rattle.fdb_queue.specs.Config.{IsElapsed};
+ghost use Rattle.fdb_queue.specs.Waiting.{row};
 ghost use Rattle.fdb_proxy.specs.Cause.{is_of_an_offer, may_be_refused_for};
 ghost use Rattle.fdb_proxy.specs.private.Sent.{AreClosed, AreReplied, AreTurnedAway, IsRefused};
 ghost use Rattle.fdb_proxy.specs.private.Sent.{IsRerated, IsServed, IsTakenServed};
 ghost use Rattle.fdb_proxy.specs.private.Turn.{emptied};
-ghost use Rattle.fdb_queue.specs.Config.{IsElapsed};
-ghost use Rattle.fdb_queue.specs.Waiting.{row};
 
-use crate::answer::{Addressed, Answer};
 use crate::batch;
-use crate::cause::Cause;
 use crate::desk::{Desk, Taken};
-use crate::error::ProxyError;
-use crate::outbox::{Channels, Outbox};
-use crate::rates::Rates;
-use crate::request::Request;
+use crate::error::{Cause, ProxyError};
+use crate::request::{Addressed, Answer, Channels, Outbox, Rates, Request};
 use crate::turn::{TimedQueue, Turn};
 use fdb_live::{Live, LiveRecord, Seen};
 use fdb_queue::{GrvQueue, Req, TurnedAway};
 use std::alloc::Global;
-use std::collections::VecDeque;
 use std::marker::Model;
 use std::sync::Wait;
 
@@ -32,12 +27,12 @@ use std::sync::Wait;
 /// Contracts see it as what it has seen, what its queue was made with, the throttles that were set
 /// there, and the time between two of its windows.
 #[derive(Drop)]
-pub struct GrvProxy<'a, J: Live> {
-    desk: &'a Desk<J>,
-    server: Server<'a, J>,
+pub struct GrvProxy<'a, S: Live> {
+    desk: &'a Desk<S>,
+    server: Server<'a, S>,
 }
 
-impl<'a, J: Live> Model for GrvProxy<'a, J> {
+impl<'a, S: Live> Model for GrvProxy<'a, S> {
     ghost use Rattle.fdb_proxy.specs.Proxy.{Proxy};
 
     ghost Value = { Proxy };
@@ -51,16 +46,16 @@ impl<'a, J: Live> Model for GrvProxy<'a, J> {
         } };
 }
 
-impl<'a, J: Live> GrvProxy<'a, J> {
+impl<'a, S: Live> GrvProxy<'a, S> {
     /// A proxy between a desk and the live record, with its queue, the time between two of its
     /// windows in microseconds, and a token. Takes no memory.
     pub fn new(
         alloc: Global,
-        live: &'a LiveRecord<J>,
-        desk: &'a Desk<J>,
-        queue: GrvQueue<Request<J>>,
+        live: &'a LiveRecord<S>,
+        desk: &'a Desk<S>,
+        queue: GrvQueue<Request<S>>,
         elapsed: u64,
-        seen: Seen<J>,
+        seen: Seen<S>,
     ) -> Self
         requires { IsElapsed elapsed }
         ensures { result ≡ record {
@@ -91,7 +86,7 @@ impl<'a, J: Live> GrvProxy<'a, J> {
     /// Where memory is refused to itself, or to the sending of an answer, it closes the desk, drops
     /// what it holds and what waits there, and ends with `Memory`. In an offer it is the request
     /// that is refused so, and the proxy goes on.
-    pub fn run<R: Wait>(self, rt: &R) -> Result<Seen<J>, (ProxyError, Seen<J>)>
+    pub fn run<R: Wait>(self, rt: &R) -> Result<Seen<S>, (ProxyError, Seen<S>)>
         ensures reporter { IfOk result (λ seen. seen.reporter ≡ self.entry.seen.reporter) }
         ensures extends { IfOk result (λ seen. IsPrefix self.entry.seen.changes seen.changes) }
         ensures memory { IfErr result (λ ended. ended.0 ≡ ProxyError.Memory) }
@@ -113,7 +108,7 @@ impl<'a, J: Live> GrvProxy<'a, J> {
 }
 
 /// Drops what a desk gave last, unanswered. None comes after it.
-fn drop_last<J: Live>(taken: Taken<J>)
+fn drop_last<S: Live>(taken: Taken<S>)
     requires { taken.closed ≡ true }
 {
     drop(taken);
@@ -121,19 +116,19 @@ fn drop_last<J: Live>(taken: Taken<J>)
 
 /// What a GRV proxy serves its desk with: its queue, the live record, and what it has seen of that.
 #[derive(Drop)]
-struct Server<'a, J: Live> {
+struct Server<'a, S: Live> {
     alloc: Global,
-    live: &'a LiveRecord<J>,
-    line: TimedQueue<Request<J>>,
-    seen: Seen<J>,
+    live: &'a LiveRecord<S>,
+    line: TimedQueue<Request<S>>,
+    seen: Seen<S>,
 }
 
-impl<J: Live> Server<'_, J> {
+impl<S: Live> Server<'_, S> {
     /// Has turn after turn with what comes to a desk, until that is closed and nobody is left.
-    fn serve_desk<R: Wait, O: Outbox<Answer<J>>>(
+    fn serve_desk<R: Wait, O: Outbox<Answer<S>>>(
         &mut self,
         rt: &R,
-        desk: &Desk<J>,
+        desk: &Desk<S>,
         out: &mut O,
     ) -> Result<(), ProxyError>
         ensures left { OnOk result (row self.new.line.queue.waiting ≡ []) }
@@ -155,11 +150,11 @@ impl<J: Live> Server<'_, J> {
     /// Has one turn with what was taken from a desk, under the new rates if there are some. Where the
     /// desk is closed the turn is the last one, as is answered, and all that are left are answered
     /// too.
-    fn serve_taken<R: Wait, O: Outbox<Answer<J>>>(
+    fn serve_taken<R: Wait, O: Outbox<Answer<S>>>(
         &mut self,
         rt: &R,
         out: &mut O,
-        taken: Taken<J>,
+        taken: Taken<S>,
     ) -> Result<bool, ProxyError>
         ensures last { IfOk result (λ last. last ≡ taken.closed) }
         ensures served { OnOk result (IsTakenServed O.sends taken.rates taken.closed
@@ -185,7 +180,7 @@ impl<J: Live> Server<'_, J> {
     }
 
     /// Takes on new rates, if there are some, and refuses all that may not wait under them.
-    fn take_rates<R: Wait, O: Outbox<Answer<J>>>(
+    fn take_rates<R: Wait, O: Outbox<Answer<S>>>(
         &mut self,
         rt: &R,
         out: &mut O,
@@ -205,11 +200,11 @@ impl<J: Live> Server<'_, J> {
     }
 
     /// Has one turn with some requests, and answers all that it decides.
-    fn serve_turn<R: Wait, O: Outbox<Answer<J>>>(
+    fn serve_turn<R: Wait, O: Outbox<Answer<S>>>(
         &mut self,
         rt: &R,
         out: &mut O,
-        requests: Vec<Req<Request<J>>>,
+        requests: Vec<Req<Request<S>>>,
     ) -> Result<(), ProxyError>
         ensures served { OnOk result
             (IsServed O.sends self.old.line.elapsed self.old.line.queue requests.items
@@ -234,17 +229,16 @@ impl<J: Live> Server<'_, J> {
 }
 
 /// Sends their refusals to those that a turn turned away, in the order in which it did.
-fn turn_away<J: Live, R: Wait, O: Outbox<Answer<J>>>(
+fn turn_away<S: Live, R: Wait, O: Outbox<Answer<S>>>(
     rt: &R,
     out: &mut O,
-    turned_away: Vec<TurnedAway<Request<J>>>,
+    turned_away: Vec<TurnedAway<Request<S>>>,
 ) -> Result<(), ProxyError>
     requires { All (λ gone. is_of_an_offer gone.cause ≡ true) turned_away.items }
     ensures sent { OnOk result (AreTurnedAway O.sends out.old turned_away.items out.new) }
     ensures memory { IfErr result (λ cause. cause ≡ ProxyError.Memory) }
 {
-    let mut turned_away = VecDeque::from(turned_away);
-    while let Some(gone) = turned_away.pop_front() {
+    for gone in turned_away {
         refuse(rt, out, gone.request.payload, Cause::Queue(gone.cause))?;
     }
     Ok(())
@@ -252,10 +246,10 @@ fn turn_away<J: Live, R: Wait, O: Outbox<Answer<J>>>(
 
 /// Answers all requests that are left `Closed`, in the order of the row. None waits after that.
 #[tactic(auto, using(crate::proofs::Turns::nothing_waits))]
-fn close<J: Live, R: Wait, O: Outbox<Answer<J>>>(
+fn close<S: Live, R: Wait, O: Outbox<Answer<S>>>(
     rt: &R,
     out: &mut O,
-    line: &mut TimedQueue<Request<J>>,
+    line: &mut TimedQueue<Request<S>>,
 ) -> Result<(), ProxyError>
     ensures sent { OnOk result (AreClosed O.sends out.old (row line.old.queue.waiting) out.new) }
     ensures left { OnOk result (line.new.queue ≡ emptied line.old.queue) }
@@ -269,10 +263,10 @@ fn close<J: Live, R: Wait, O: Outbox<Answer<J>>>(
 }
 
 /// Sends a request its refusal, with this cause, on its own channel.
-fn refuse<J: Live, R: Wait, O: Outbox<Answer<J>>>(
+fn refuse<S: Live, R: Wait, O: Outbox<Answer<S>>>(
     rt: &R,
     out: &mut O,
-    request: Request<J>,
+    request: Request<S>,
     cause: Cause,
 ) -> Result<(), ProxyError>
     requires { may_be_refused_for cause ≡ true }
@@ -284,16 +278,15 @@ fn refuse<J: Live, R: Wait, O: Outbox<Answer<J>>>(
 }
 
 /// Sends each reply to where it goes, in order.
-fn send_replies<J: Live, R: Wait, O: Outbox<Answer<J>>>(
+fn send_replies<S: Live, R: Wait, O: Outbox<Answer<S>>>(
     rt: &R,
     out: &mut O,
-    replies: Vec<Addressed<J>>,
+    replies: Vec<Addressed<S>>,
 ) -> Result<(), ProxyError>
     ensures sent { OnOk result (AreReplied O.sends out.old replies.items out.new) }
     ensures memory { IfErr result (λ cause. cause ≡ ProxyError.Memory) }
 {
-    let mut replies = VecDeque::from(replies);
-    while let Some(Addressed { to, reply }) = replies.pop_front() {
+    for Addressed { to, reply } in replies {
         out.send(rt, &to, Answer::Reply(reply))?;
     }
     Ok(())

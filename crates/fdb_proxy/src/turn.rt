@@ -1,20 +1,18 @@
 //! The queue of a proxy and its turns.
 
 ghost use Rattle.std.specs.Prelude.{◌≡◌, ◌==◌, ◌+◌, ◌<◌, ◌≤◌, ◌++◌, [], All, IfOk, IfErr, OnErr};
-ghost use Rattle.std.specs.Prelude.{length, true, OnOk};
-ghost use Rattle.std.specs.Prelude.{option_to_list, vec_len, vec_capacity};
-ghost use Rattle.fdb_proxy.specs.Cause.{is_of_an_offer};
-ghost use Rattle.fdb_proxy.specs.private.Turn.{AreOffered, HasReady, IsReady, IsTurn, Offers};
-ghost use Rattle.fdb_proxy.specs.private.Turn.{StartsSome};
+ghost use Rattle.std.specs.Prelude.{length, true, OnOk, option_to_list, vec_len, vec_capacity};
 ghost use Rattle.fdb_queue.specs.Config.{IsElapsed};
 ghost use Rattle.fdb_queue.specs.NewRates.{turned_away, under_rates, with_rates};
 ghost use Rattle.fdb_queue.specs.Waiting.{first, row, without_first};
 ghost use Rattle.fdb_queue.specs.Window.{window, after_window};
+ghost use Rattle.fdb_proxy.specs.Cause.{is_of_an_offer};
+ghost use Rattle.fdb_proxy.specs.private.Turn.{AreOffered, HasReady, IsReady, IsTurn, Offers};
+ghost use Rattle.fdb_proxy.specs.private.Turn.{StartsSome};
 
 use crate::error::ProxyError;
-use crate::rates::Rates;
+use crate::request::Rates;
 use fdb_queue::{GrvQueue, QueueError, Req, TurnedAway};
-use std::collections::VecDeque;
 
 /// What a turn came to: who starts, and who waits no more without a start.
 #[derive(Drop)]
@@ -88,11 +86,13 @@ impl<T: Drop> TimedQueue<T> {
             StartsSome self.old.queue offered.items (length turn.started.items)) }
     {
         self.make_ready(offered, &mut turned_away);
-        let started = self.start()?;
-        Ok(Turn {
-            started,
-            turned_away,
-        })
+        match self.queue.window(self.elapsed) {
+            Ok(started) => Ok(Turn {
+                started,
+                turned_away,
+            }),
+            Err(_) => Err(ProxyError::Memory),
+        }
     }
 
     /// Offers all, or where there is none holds the windows that start nothing.
@@ -122,8 +122,7 @@ impl<T: Drop> TimedQueue<T> {
         ensures due { All (λ gone. is_of_an_offer gone.cause ≡ true) turned_away.new.items }
         ensures elapsed { self.new.elapsed ≡ self.old.elapsed }
     {
-        let mut offered = VecDeque::from(offered);
-        while let Some(request) = offered.pop_front() {
+        for request in offered {
             self.offer(request, turned_away);
         }
     }
@@ -149,22 +148,6 @@ impl<T: Drop> TimedQueue<T> {
             Err((cause, request)) => TurnedAway { cause, request },
         };
         turned_away.push_reserved(gone);
-    }
-
-    /// Holds one window. It is refused for memory alone, and the queue is then as it was.
-    fn start(&mut self) -> Result<Vec<Req<T>>, ProxyError>
-        ensures started { IfOk result (λ started. started.items ≡ window self.old.queue) }
-        ensures after { IfOk result
-            (λ _. self.new.queue ≡ after_window self.old.elapsed self.old.queue) }
-        ensures elapsed { self.new.elapsed ≡ self.old.elapsed }
-        ensures memory { IfErr result (λ cause. cause ≡ ProxyError.Memory) }
-        ensures due { OnErr result (0 < length (window self.old.queue)) }
-        ensures unchanged { OnErr result (self.new.queue ≡ self.old.queue) }
-    {
-        match self.queue.window(self.elapsed) {
-            Ok(started) => Ok(started),
-            Err(_) => Err(ProxyError::Memory),
-        }
     }
 
     /// Whether nobody waits at any priority, so that the proxy may wait at its desk.

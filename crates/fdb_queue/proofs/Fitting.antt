@@ -7,10 +7,10 @@ use Rattle.std.proofs.lemmas.Bool.{and_parts, and_cases}
 use Rattle.std.proofs.lemmas.Bool.Decides.{nat_tests}
 use Rattle.std.proofs.lemmas.List.Folds.{list_all-map, list_all-append}
 use Rattle.std.proofs.lemmas.List.Sums.{sum_by-cons}
-use Rattle.fdb_queue.specs.declared.budgets.Budgets.{Budgets}
+use Rattle.fdb_queue.specs.declared.window.Budgets.{Budgets}
 use Rattle.fdb_queue.specs.declared.config.QueueConfig.{QueueConfig}
 use Rattle.fdb_queue.specs.declared.config.TheConstants.{MAX_STARTED}
-use Rattle.fdb_queue.specs.declared.request.Req.{Req}
+use Rattle.fdb_queue.specs.declared.waiting.Req.{Req}
 use Rattle.fdb_queue.specs.Queue.{Queue}
 use Rattle.fdb_queue.specs.Waiting.{total}
 use Rattle.fdb_queue.specs.Window.{may_start, last_may_start, prefixes, fits}

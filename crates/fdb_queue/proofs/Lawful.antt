@@ -10,7 +10,7 @@ use Rattle.fdb_history.specs.declared.log.Priority.{Priority}
 use Rattle.fdb_history.specs.declared.log.Priority.TheVariants.{System, Default, Batch}
 use Rattle.fdb_queue.specs.declared.config.QueueConfig.{QueueConfig}
 use Rattle.fdb_queue.specs.declared.config.TheConstants.{MAX_STARTED, MAX_COUNT}
-use Rattle.fdb_queue.specs.declared.request.Req.{Req}
+use Rattle.fdb_queue.specs.declared.waiting.Req.{Req}
 use Rattle.fdb_queue.specs.Admission.{is_count}
 use Rattle.fdb_queue.specs.Kept.{IsQueue, IsAdmitted}
 use Rattle.fdb_queue.specs.Queue.{Queue}

@@ -12,8 +12,8 @@ use Rattle.fdb_history.specs.declared.log.Priority.TheVariants.{System, Default,
 use Rattle.fdb_queue.specs.declared.config.QueueConfig.{QueueConfig}
 use Rattle.fdb_queue.specs.declared.error.QueueError.{QueueError}
 use Rattle.fdb_queue.specs.declared.error.QueueError.TheVariants.{BadCount, BatchThrottled}
-use Rattle.fdb_queue.specs.declared.request.Req.{Req}
-use Rattle.fdb_queue.specs.declared.request.TurnedAway.{TurnedAway}
+use Rattle.fdb_queue.specs.declared.waiting.Req.{Req}
+use Rattle.fdb_queue.specs.declared.waiting.TurnedAway.{TurnedAway}
 use Rattle.fdb_queue.specs.Admission.{is_count, is_throttled}
 use Rattle.fdb_queue.specs.Config.{IsConfig}
 use Rattle.fdb_queue.specs.Kept.{IsAdmitted, IsQueue}

@@ -9,10 +9,10 @@ use Rattle.std.proofs.lemmas.Bool.Decides.{nat_tests}
 use Rattle.std.proofs.lemmas.Grind.{div_ceil_times}
 use Rattle.std.proofs.lemmas.List.Elements.{All-head}
 use Rattle.fdb_history.specs.declared.log.Priority.TheVariants.{System, Default, Batch}
-use Rattle.fdb_queue.specs.declared.budgets.Budgets.{Budgets}
+use Rattle.fdb_queue.specs.declared.window.Budgets.{Budgets}
 use Rattle.fdb_queue.specs.declared.config.QueueConfig.{QueueConfig}
 use Rattle.fdb_queue.specs.declared.config.TheConstants.{MAX_COUNT, MAX_BURST, IDLE_BURST}
-use Rattle.fdb_queue.specs.declared.request.Req.{Req}
+use Rattle.fdb_queue.specs.declared.waiting.Req.{Req}
 use Rattle.fdb_queue.specs.declared.throttles.Throttle.{Throttle}
 use Rattle.fdb_queue.specs.Admission.{is_count}
 use Rattle.fdb_queue.specs.Budgets.{budget_after, cut}

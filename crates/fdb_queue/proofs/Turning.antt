@@ -11,10 +11,10 @@ use Rattle.std.proofs.lemmas.List.Elements.{All-head}
 use Rattle.std.proofs.lemmas.Grind.{div_ceil_times}
 use Rattle.fdb_history.specs.declared.log.Priority.{Priority}
 use Rattle.fdb_history.specs.declared.log.Priority.TheVariants.{System, Default, Batch}
-use Rattle.fdb_queue.specs.declared.budgets.Budgets.{Budgets}
+use Rattle.fdb_queue.specs.declared.window.Budgets.{Budgets}
 use Rattle.fdb_queue.specs.declared.config.QueueConfig.{QueueConfig}
 use Rattle.fdb_queue.specs.declared.config.TheConstants.{MAX_COUNT, MAX_BURST, RATE_WINDOW}
-use Rattle.fdb_queue.specs.declared.request.Req.{Req}
+use Rattle.fdb_queue.specs.declared.waiting.Req.{Req}
 use Rattle.fdb_queue.specs.Budgets.{can_start, budget_after, cut}
 use Rattle.fdb_queue.specs.Config.{IsConfig}
 use Rattle.fdb_queue.specs.Kept.{IsQueue, IsAdmitted}

@@ -6,7 +6,7 @@ use Rattle.fdb_queue.specs.declared.config.QueueConfig.{QueueConfig}
 use Rattle.fdb_queue.specs.declared.config.TheConstants.{MAX_COUNT, IDLE_BURST}
 use Rattle.fdb_queue.specs.declared.error.QueueError.{QueueError}
 use Rattle.fdb_queue.specs.declared.error.QueueError.TheVariants.{BadCount, BatchThrottled, Full, Memory}
-use Rattle.fdb_queue.specs.declared.request.Req.{Req}
+use Rattle.fdb_queue.specs.declared.waiting.Req.{Req}
 use Rattle.fdb_queue.specs.Queue.{Queue}
 use Rattle.fdb_queue.specs.Waiting.{Requests, row, first, with_last}
 

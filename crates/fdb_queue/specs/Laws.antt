@@ -2,7 +2,7 @@
 use Rattle.std.specs.Prelude.{ℕ, List}
 use Rattle.fdb_history.specs.declared.log.Priority.{Priority}
 use Rattle.fdb_history.specs.declared.log.Priority.TheVariants.{System, Default, Batch}
-use Rattle.fdb_queue.specs.declared.request.Req.{Req}
+use Rattle.fdb_queue.specs.declared.waiting.Req.{Req}
 use Rattle.fdb_queue.specs.Waiting.{Requests}
 
 -- The requests that wait at a priority, the oldest first.

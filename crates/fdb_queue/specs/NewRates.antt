@@ -5,8 +5,8 @@ use Rattle.std.specs.List.{filter_map}
 use Rattle.std.specs.Option.{is_none}
 use Rattle.fdb_queue.specs.declared.config.QueueConfig.{QueueConfig}
 use Rattle.fdb_queue.specs.declared.error.QueueError.{QueueError}
-use Rattle.fdb_queue.specs.declared.request.Req.{Req}
-use Rattle.fdb_queue.specs.declared.request.TurnedAway.{TurnedAway}
+use Rattle.fdb_queue.specs.declared.waiting.Req.{Req}
+use Rattle.fdb_queue.specs.declared.waiting.TurnedAway.{TurnedAway}
 use Rattle.fdb_queue.specs.Admission.{refusal_of}
 use Rattle.fdb_queue.specs.Queue.{Queue, new_queue}
 

@@ -1,7 +1,7 @@
 -- The queue of a GRV proxy, as contracts see it. (this product's own)
 use Rattle.std.specs.Prelude.{List, []}
 use Rattle.fdb_queue.specs.Waiting.{Requests, nothing}
-use Rattle.fdb_queue.specs.declared.budgets.Budgets.{Budgets}
+use Rattle.fdb_queue.specs.declared.window.Budgets.{Budgets}
 use Rattle.fdb_queue.specs.declared.config.QueueConfig.{QueueConfig}
 use Rattle.fdb_queue.specs.declared.throttles.Throttle.{Throttle}
 

@@ -6,9 +6,9 @@ use Rattle.std.specs.Option.{option_map_or}
 use Rattle.fdb_history.specs.declared.log.Priority.{Priority}
 use Rattle.fdb_history.specs.declared.log.Priority.TheVariants.{System, Default, Batch}
 use Rattle.fdb_queue.specs.declared.config.TheConstants.{MAX_STARTED}
-use Rattle.fdb_queue.specs.declared.budgets.Budgets.{Budgets}
+use Rattle.fdb_queue.specs.declared.window.Budgets.{Budgets}
 use Rattle.fdb_queue.specs.declared.config.QueueConfig.{QueueConfig}
-use Rattle.fdb_queue.specs.declared.request.Req.{Req}
+use Rattle.fdb_queue.specs.declared.waiting.Req.{Req}
 use Rattle.fdb_queue.specs.Budgets.{can_start, budget_after, cut}
 use Rattle.fdb_queue.specs.Queue.{Queue}
 use Rattle.fdb_queue.specs.Waiting.{Requests, row, total, of_priority}

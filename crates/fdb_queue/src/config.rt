@@ -7,7 +7,7 @@ ghost use Rattle.fdb_queue.specs.Config.{IsConfig, IsElapsed};
 ghost use Rattle.fdb_queue.specs.NewRates.{refusal_under};
 
 use crate::error::QueueError;
-use crate::request::Req;
+use crate::waiting::Req;
 use fdb_history::Priority;
 
 /// The microseconds over which a rate counts. A budget counts parts of a transaction, of which

@@ -18,11 +18,11 @@ ghost use Rattle.fdb_history.specs.declared.log.Priority.{Priority};
 ghost use Rattle.fdb_queue.specs.Waiting.{row, total};
 ghost use Rattle.std.specs.Int.{div_ceil};
 ghost use Rattle.fdb_queue.specs.Waits.{after_windows, IsSure, limit_of};
-ghost use Rattle.fdb_queue.specs.declared.budgets.Budgets.{Budgets};
+ghost use Rattle.fdb_queue.specs.declared.window.Budgets.{Budgets};
 ghost use Rattle.fdb_queue.specs.Window.{may_start, fits, window, after_window};
 ghost use Rattle.fdb_queue.specs.Config.{IsConfig};
 ghost use Rattle.fdb_queue.specs.declared.config.TheConstants.{MAX_STARTED, RATE_WINDOW};
-ghost use Rattle.fdb_queue.specs.declared.request.Req.{Req};
+ghost use Rattle.fdb_queue.specs.declared.waiting.Req.{Req};
 ghost use Rattle.fdb_history.specs.declared.log.Priority.TheVariants.{Batch, Default};
 
 /// A window starts a prefix of the row, and so passes over nobody. Each request of it may start,

@@ -7,23 +7,20 @@
 //! requests a window starts and what is left of the budgets after it.
 #![tactic(auto)]
 
-mod budgets;
 mod config;
 mod error;
 pub mod laws;
 mod queue;
-mod request;
 mod throttles;
 mod waiting;
 mod window;
 
-pub use budgets::Budgets;
 pub use config::{
     IDLE_BURST, MAX_BURST, MAX_COUNT, MAX_ELAPSED, MAX_RATE, MAX_ROOM, MAX_STARTED, MAX_TAG,
     QueueConfig, RATE_WINDOW,
 };
 pub use error::QueueError;
 pub use queue::GrvQueue;
-pub use request::{Req, TurnedAway};
 pub use throttles::Throttle;
-pub use waiting::Lengths;
+pub use waiting::{Lengths, Req, TurnedAway};
+pub use window::Budgets;

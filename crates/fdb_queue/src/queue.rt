@@ -2,8 +2,8 @@
 
 ghost use Rattle.std.specs.Prelude.{◌≡◌, ℕ, ◌+◌, ◌*◌, ◌<◌, ◌≤◌, ◌⊎◌, ◌↔◌, ◌∷◌, ◌++◌, ◌^◌, ◌==◌, []};
 ghost use Rattle.std.specs.Prelude.{false, length, drop, reverse, if◌then◌else◌, Err, OnOk, OnErr};
-ghost use Rattle.std.specs.Prelude.{All, IfOk, IfErr, IsTrue, IsSome};
-ghost use Rattle.std.specs.Prelude.{IfSome, IsSomeAnd, option_to_list};
+ghost use Rattle.std.specs.Prelude.{All, IfOk, IfErr, IsTrue, IsSome, IfSome, IsSomeAnd};
+ghost use Rattle.std.specs.Prelude.{option_to_list};
 ghost use Rattle.std.specs.List.{list_all};
 ghost use Rattle.std.specs.Int.{div_ceil};
 ghost use Rattle.fdb_queue.specs.Admission.{refusal_of, admitted, pushed_out, is_full, IsCause};
@@ -15,15 +15,14 @@ ghost use Rattle.fdb_queue.specs.Throttles.{is_throttle, limits_of, IsLeftAt, Sa
 ghost use Rattle.fdb_queue.specs.Throttles.{SameThrottles};
 ghost use Rattle.fdb_queue.specs.Waiting.{first, row, total, without_first};
 ghost use Rattle.fdb_queue.specs.Waits.{IsSure, limit_of, StartsAfter, after_windows};
-ghost use Rattle.fdb_queue.specs.declared.config.TheConstants.{MAX_COUNT, MAX_ELAPSED};
 ghost use Rattle.fdb_queue.specs.Window.{window, after_window};
+ghost use Rattle.fdb_queue.specs.declared.config.TheConstants.{MAX_COUNT, MAX_ELAPSED};
 
-use crate::budgets::{self, Budgets};
 use crate::config::{self, MAX_TAG, QueueConfig, RATE_WINDOW};
 use crate::error::QueueError;
-use crate::request::{Req, TurnedAway};
 use crate::throttles::{self, Throttle, Throttles};
-use crate::waiting::{Lengths, Waiting};
+use crate::waiting::{Lengths, Req, TurnedAway, Waiting};
+use crate::window::{self, Budgets};
 use fdb_history::{Priority, Tag, TagLimit};
 use std::alloc::Global;
 use std::marker::Model;
@@ -181,14 +180,14 @@ impl<T> GrvQueue<T> {
         let left = self.waiting.lengths();
         let unbatched = left.system + left.default_;
         self.budgets = Budgets {
-            normal: budgets::after(
+            normal: window::after(
                 elapsed,
                 self.config.normal,
                 reach.unbatched,
                 self.budgets.normal,
                 unbatched == 0,
             ),
-            batch: budgets::after(
+            batch: window::after(
                 elapsed,
                 self.config.batch,
                 reach.all,
@@ -300,14 +299,14 @@ impl<T> GrvQueue<T> {
         let lengths = self.waiting.lengths();
         let unbatched = lengths.system + lengths.default_;
         self.budgets = Budgets {
-            normal: budgets::after_idle(
+            normal: window::after_idle(
                 windows,
                 elapsed,
                 self.config.normal,
                 self.budgets.normal,
                 unbatched == 0,
             ),
-            batch: budgets::after_idle(
+            batch: window::after_idle(
                 windows,
                 elapsed,
                 self.config.batch,
@@ -332,12 +331,12 @@ impl<T> GrvQueue<T> {
             return 0;
         };
         let (config, budgets) = (self.config, self.budgets);
-        let normal = budgets::windows_held(elapsed, config.normal, budgets.normal, head.count);
+        let normal = window::windows_held(elapsed, config.normal, budgets.normal, head.count);
         match head.priority {
             Priority::System => 0,
             Priority::Default => normal,
             Priority::Batch => {
-                let batch = budgets::windows_held(elapsed, config.batch, budgets.batch, head.count);
+                let batch = window::windows_held(elapsed, config.batch, budgets.batch, head.count);
                 normal.max(batch)
             }
         }

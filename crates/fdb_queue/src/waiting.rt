@@ -1,4 +1,5 @@
-//! The requests that wait: a list for each priority, and the row that the three make up.
+//! The requests that wait: a list for each priority, and the row that the three make up; and those
+//! that wait no more.
 
 ghost use Rattle.std.specs.Prelude.{◌≡◌, [], ◌+◌, ◌<◌, ◌^◌, ◌==◌, ◌++◌, not, length, take, drop};
 ghost use Rattle.std.specs.Prelude.{vec_len, vec_capacity, IsOk, IfOk, ◌≤◌, if◌then◌else◌, OnOk};
@@ -11,10 +12,9 @@ ghost use Rattle.fdb_queue.specs.NewRates.{staying, turned_away};
 ghost use Rattle.fdb_queue.specs.private.Reach.{IsReach};
 ghost use Rattle.fdb_queue.specs.Waiting.{nothing, row, first, with_last, without_first};
 
-use crate::budgets::Budgets;
 use crate::config::QueueConfig;
-use crate::request::{Req, TurnedAway};
-use crate::window::Walk;
+use crate::error::QueueError;
+use crate::window::{Budgets, Walk};
 use fdb_history::Priority;
 use std::alloc::{AllocError, AllocFailed, Global};
 use std::collections::VecDeque;
@@ -292,4 +292,21 @@ fn move_front<T>(list: &mut VecDeque<Req<T>>, count: usize, taken: &mut Vec<Req<
             taken.push_reserved(request);
         }
     }
+}
+
+/// A request for a read version, as the queue sees it. Its payload comes out as it went in.
+#[derive(Debug, PartialEq, Eq, Drop)]
+pub struct Req<T> {
+    /// Decides in which list the request waits, and which rates hold it back.
+    pub priority: Priority,
+    /// How many transactions start with it, which is what the rates count.
+    pub count: u64,
+    pub payload: T,
+}
+
+/// A request that waits no more and does not start, and why.
+#[derive(Debug, PartialEq, Eq, Drop)]
+pub struct TurnedAway<T> {
+    pub cause: QueueError,
+    pub request: Req<T>,
 }

@@ -1,15 +1,17 @@
-//! How far a window comes in the row.
+//! How far a window comes in the row, the budgets of the two rates, and what windows leave of them.
 
-ghost use Rattle.std.specs.Prelude.{◌≡◌, ◌≤◌, ◌^◌, All, fold};
-ghost use Rattle.fdb_queue.specs.Config.{IsConfig};
-ghost use Rattle.fdb_queue.specs.Kept.{AreBudgets};
+ghost use Rattle.std.specs.Prelude.{◌≡◌, ◌≤◌, ◌^◌, All, fold, ◌*◌};
+ghost use Rattle.std.specs.Int.{div_ceil};
+ghost use Rattle.fdb_queue.specs.Config.{IsConfig, IsElapsed};
+ghost use Rattle.fdb_queue.specs.Kept.{AreBudgets, IsBudget};
 ghost use Rattle.fdb_queue.specs.private.Walk.{walk_after, IsWithinLimits};
 ghost use Rattle.fdb_queue.specs.Window.{may_start};
-ghost use Rattle.fdb_queue.specs.declared.config.TheConstants.{MAX_COUNT};
+ghost use Rattle.fdb_queue.specs.Budgets.{can_start, budget_after, cut};
+ghost use Rattle.fdb_queue.specs.private.Rates.{idle_budget, lacking};
+ghost use Rattle.fdb_queue.specs.declared.config.TheConstants.{MAX_COUNT, MAX_RATE};
 
-use crate::budgets::{self, Budgets};
-use crate::config::{MAX_STARTED, QueueConfig};
-use crate::request::Req;
+use crate::config::{IDLE_BURST, MAX_BURST, MAX_STARTED, QueueConfig, RATE_WINDOW};
+use crate::waiting::Req;
 use fdb_history::Priority;
 use std::collections::VecDeque;
 
@@ -92,10 +94,79 @@ fn may_start(config: &QueueConfig, budgets: &Budgets, priority: Priority, transa
 {
     match priority {
         Priority::System => true,
-        Priority::Default => budgets::can_start(config.normal, budgets.normal, transactions),
+        Priority::Default => can_start(config.normal, budgets.normal, transactions),
         Priority::Batch => {
-            budgets::can_start(config.batch, budgets.batch, transactions)
-                && budgets::can_start(config.normal, budgets.normal, transactions)
+            can_start(config.batch, budgets.batch, transactions)
+                && can_start(config.normal, budgets.normal, transactions)
         }
     }
+}
+
+/// The budgets of a queue's rates: what each may start beyond its limit, in transactions times
+/// `RATE_WINDOW`.
+#[derive(Clone, Copy, Debug, Default, PartialEq, Eq)]
+pub struct Budgets {
+    /// The budget of the rate that holds back default and batch requests.
+    pub normal: u64,
+    /// The budget of the rate that holds back batch requests too.
+    pub batch: u64,
+}
+
+/// Whether a rate lets so many transactions start in one window.
+pub(crate) fn can_start(limit: u64, budget: u64, transactions: u64) -> bool
+    requires limit { limit ≤ MAX_RATE }
+    requires budget { IsBudget budget }
+    requires transactions { transactions ≤ 2 ^ 40 }
+    ensures { result ≡ can_start limit budget transactions }
+{
+    transactions * RATE_WINDOW <= (limit * RATE_WINDOW + budget).min(MAX_BURST * RATE_WINDOW)
+}
+
+/// The budget of a rate after a window that started so many transactions, and after which something
+/// waits for the rate or nothing does.
+pub(crate) fn after(elapsed: u64, limit: u64, started: u64, budget: u64, idle: bool) -> u64
+    requires elapsed { IsElapsed elapsed }
+    requires limit { limit ≤ MAX_RATE }
+    requires budget { IsBudget budget }
+    requires started { started ≤ 1000000000 }
+    ensures value { result ≡ cut idle (budget_after elapsed limit started budget) }
+    ensures in_range { IsBudget result }
+{
+    let burst = if idle { IDLE_BURST } else { MAX_BURST };
+    (budget + elapsed * limit)
+        .saturating_sub(elapsed * started)
+        .min(burst * RATE_WINDOW)
+}
+
+/// The budget of a rate after so many windows that started nothing, while something waits for the
+/// rate or nothing does.
+pub(crate) fn after_idle(windows: u64, elapsed: u64, limit: u64, budget: u64, idle: bool) -> u64
+    requires elapsed { IsElapsed elapsed }
+    requires limit { limit ≤ MAX_RATE }
+    requires budget { IsBudget budget }
+    ensures value { result ≡ idle_budget windows elapsed limit budget idle }
+    ensures in_range { IsBudget result }
+{
+    if windows == 0 {
+        return budget;
+    }
+    let burst = if idle { IDLE_BURST } else { MAX_BURST };
+    windows
+        .saturating_mul(elapsed * limit)
+        .saturating_add(budget)
+        .min(burst * RATE_WINDOW)
+}
+
+/// How many windows a rate holds so many transactions back, if they start nothing and do not cut
+/// its budget.
+pub(crate) fn windows_held(elapsed: u64, limit: u64, budget: u64, transactions: u64) -> u64
+    requires elapsed { IsElapsed elapsed }
+    requires grants { 1 ≤ limit }
+    requires limit { limit ≤ MAX_RATE }
+    requires budget { IsBudget budget }
+    requires transactions { transactions ≤ MAX_COUNT }
+    ensures { result ≡ div_ceil (lacking limit budget transactions) (elapsed * limit) }
+{
+    let lacking = (transactions * RATE_WINDOW).saturating_sub(limit * RATE_WINDOW + budget);
+    lacking.div_ceil(elapsed * limit)
 }

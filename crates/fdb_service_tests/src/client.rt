@@ -58,10 +58,10 @@ fn reads_at_a_desk(rt: HostRuntime) -> Result<(), Fail> {
 }
 
 /// The client whose number is the next word.
-pub(crate) fn client_at<'s, 'a, J: Live>(
-    clients: &'s mut [Client<'a, J>],
+pub(crate) fn client_at<'s, 'a, S: Live>(
+    clients: &'s mut [Client<'a, S>],
     line: &mut TableLine<'_>,
-) -> Option<&'s mut Client<'a, J>> {
+) -> Option<&'s mut Client<'a, S>> {
     let client = clients.get_mut(line.who() as usize);
     line.holds(client.is_some(), "no client");
     client
@@ -76,8 +76,8 @@ pub(crate) fn say_cause(line: &mut TableLine<'_>, cause: ClientError) {
 }
 
 /// A request for a commit version, under the next number or under one that the line has.
-pub(crate) fn ask<J: Live, R: Wait>(
-    stand: &mut Stand<'_, J, R>,
+pub(crate) fn ask<S: Live, R: Wait>(
+    stand: &mut Stand<'_, S, R>,
     again: bool,
     line: &mut TableLine<'_>,
 ) {
@@ -101,7 +101,7 @@ pub(crate) fn ask<J: Live, R: Wait>(
 }
 
 /// A report of the version under a number.
-pub(crate) fn report<J: Live, R: Wait>(stand: &mut Stand<'_, J, R>, line: &mut TableLine<'_>) {
+pub(crate) fn report<S: Live, R: Wait>(stand: &mut Stand<'_, S, R>, line: &mut TableLine<'_>) {
     let Some(client) = client_at(&mut stand.clients, line) else {
         return;
     };
@@ -123,7 +123,7 @@ pub(crate) fn report<J: Live, R: Wait>(stand: &mut Stand<'_, J, R>, line: &mut T
 }
 
 /// A client tells another, which is the next word.
-pub(crate) fn tell<J: Live, R: Wait>(stand: &mut Stand<'_, J, R>, line: &mut TableLine<'_>) {
+pub(crate) fn tell<S: Live, R: Wait>(stand: &mut Stand<'_, S, R>, line: &mut TableLine<'_>) {
     if let Some(client) = client_at(&mut stand.clients, line) {
         match client.tell(line.who()) {
             Ok(token) => {
@@ -137,7 +137,7 @@ pub(crate) fn tell<J: Live, R: Wait>(stand: &mut Stand<'_, J, R>, line: &mut Tab
 
 /// A client learns what was told last, by another, which is the next word. A token that comes back
 /// is kept.
-pub(crate) fn learn<J: Live, R: Wait>(stand: &mut Stand<'_, J, R>, line: &mut TableLine<'_>) {
+pub(crate) fn learn<S: Live, R: Wait>(stand: &mut Stand<'_, S, R>, line: &mut TableLine<'_>) {
     let Some(token) = stand.told.take() else {
         line.fails("nothing was told");
         return;
@@ -152,12 +152,12 @@ pub(crate) fn learn<J: Live, R: Wait>(stand: &mut Stand<'_, J, R>, line: &mut Ta
 }
 
 /// Has a client learn what a token has seen. Answers a token that comes back.
-fn learn_token<J: Live, R: Wait>(
+fn learn_token<S: Live, R: Wait>(
     rt: &R,
-    client: &mut Client<'_, J>,
-    token: Seen<J>,
+    client: &mut Client<'_, S>,
+    token: Seen<S>,
     line: &mut TableLine<'_>,
-) -> Option<Seen<J>>
+) -> Option<Seen<S>>
     requires { token.reporter ≡ None }
 {
     match client.learn(rt, line.who(), token) {
@@ -174,7 +174,7 @@ fn learn_token<J: Live, R: Wait>(
 
 /// How many calls a client has logged, and the position that it has come to, by its last call and
 /// by its token.
-pub(crate) fn log<J: Live, R: Wait>(stand: &mut Stand<'_, J, R>, line: &mut TableLine<'_>) {
+pub(crate) fn log<S: Live, R: Wait>(stand: &mut Stand<'_, S, R>, line: &mut TableLine<'_>) {
     if let Some(client) = client_at(&mut stand.clients, line) {
         let (calls, position) = (client.calls(), client.position());
         let last = calls.last().map_or(client.begun(), |call| call.position);

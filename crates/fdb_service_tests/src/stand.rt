@@ -52,44 +52,44 @@ pub(crate) struct Told<'t> {
 
 /// What clients call: the master, and the desk of a GRV proxy.
 #[derive(Drop)]
-pub(crate) struct Service<J: Live> {
+pub(crate) struct Service<S: Live> {
     pub(crate) alloc: Global,
-    pub(crate) master: Master<J>,
-    pub(crate) desk: Desk<J>,
+    pub(crate) master: Master<S>,
+    pub(crate) desk: Desk<S>,
 }
 
 /// The clients of a service, and what else calls it.
 #[derive(Drop)]
-pub(crate) struct Stand<'a, J: Live, R> {
+pub(crate) struct Stand<'a, S: Live, R> {
     pub(crate) rt: &'a R,
-    pub(crate) service: &'a Service<J>,
-    pub(crate) clients: Vec<Client<'a, J>>,
+    pub(crate) service: &'a Service<S>,
+    pub(crate) clients: Vec<Client<'a, S>>,
     /// What was told and not learnt yet.
-    pub(crate) told: Option<Seen<J>>,
+    pub(crate) told: Option<Seen<S>>,
     /// What those have seen who leave requests on the desk: nothing, or what they read last.
-    pub(crate) seen: Seen<J>,
-    pub(crate) ahead: Seen<J>,
+    pub(crate) seen: Seen<S>,
+    pub(crate) ahead: Seen<S>,
     /// What a proxy has seen, or who serves a desk in its place.
-    pub(crate) served: Seen<J>,
-    witness: Seen<J>,
+    pub(crate) served: Seen<S>,
+    witness: Seen<S>,
     /// Who waits for answers, in the order of the requests.
-    pub(crate) waiters: Vec<Waiter<J>>,
+    pub(crate) waiters: Vec<Waiter<S>>,
     /// A request that is left on the desk while a proxy runs.
-    pub(crate) later: Option<Request<J>>,
+    pub(crate) later: Option<Request<S>>,
     /// A batch that was refused memory.
-    pub(crate) back: Option<Vec<Req<Request<J>>>>,
+    pub(crate) back: Option<Vec<Req<Request<S>>>>,
     /// Whether memory is refused at most once.
     pub(crate) once: bool,
     /// The number of the request that alone was refused memory in its offer, counted from 1, or 0.
     pub(crate) alone: u64,
 }
 
-impl<'a, J: Live, R: Wait> Stand<'a, J, R> {
+impl<'a, S: Live, R: Wait> Stand<'a, S, R> {
     /// The last of some clients gives the tokens of those who are none.
     fn new(
         rt: &'a R,
-        service: &'a Service<J>,
-        mut clients: Vec<Client<'a, J>>,
+        service: &'a Service<S>,
+        mut clients: Vec<Client<'a, S>>,
         once: bool,
     ) -> Option<Self> {
         let (_, mut token) = clients.pop()?.finish();
@@ -125,16 +125,16 @@ impl<'a, J: Live, R: Wait> Stand<'a, J, R> {
 }
 
 /// Plays a text under the name of the service.
-fn play_named<J: Live + Send + Sync, R: Threads + Wait + Sync>(
+fn play_named<S: Live + Send + Sync, R: Threads + Wait + Sync>(
     rt: &R,
     alloc: Global,
     opened: Opened,
     told: Told<'_>,
 ) -> Result<u64, CaseError>
-    requires opened { opened ≡ origin_of J.table J.start J.reporters J.chained J.epoch_end J.recovery }
-    requires chained { J.chained ≡ true }
+    requires opened { opened ≡ origin_of S.table S.start S.reporters S.chained S.epoch_end S.recovery }
+    requires chained { S.chained ≡ true }
 {
-    let Ok((master, _, tokens)) = opened.master::<J>() else {
+    let Ok((master, _, tokens)) = opened.master::<S>() else {
         return Err(CaseError::Memory);
     };
     if tokens.len() > 64 {
@@ -150,10 +150,10 @@ fn play_named<J: Live + Send + Sync, R: Threads + Wait + Sync>(
 }
 
 /// Plays the lines of a text at a service with these clients.
-fn play_at<'a, J: Live + Send + Sync, R: Threads + Wait + Sync>(
+fn play_at<'a, S: Live + Send + Sync, R: Threads + Wait + Sync>(
     rt: &'a R,
-    service: &'a Service<J>,
-    clients: Vec<Client<'a, J>>,
+    service: &'a Service<S>,
+    clients: Vec<Client<'a, S>>,
     told: Told<'_>,
 ) -> Result<u64, CaseError> {
     let Some(mut stand) = Stand::new(rt, service, clients, told.once) else {
@@ -212,8 +212,8 @@ pub(crate) fn play_texts<R: Threads + Wait + Sync>(
 
 /// Makes a call, once more where it is refused memory, which has then changed nothing. What comes of
 /// it is compared where the line has an arrow.
-fn play_line<J: Live + Send + Sync, R: Threads + Wait + Sync>(
-    stand: &mut Stand<'_, J, R>,
+fn play_line<S: Live + Send + Sync, R: Threads + Wait + Sync>(
+    stand: &mut Stand<'_, S, R>,
     line: &mut TableLine<'_>,
 ) {
     let before = stand.state();
@@ -228,8 +228,8 @@ fn play_line<J: Live + Send + Sync, R: Threads + Wait + Sync>(
 }
 
 /// Makes a call once more that was refused memory.
-fn make_again<J: Live + Send + Sync, R: Threads + Wait + Sync>(
-    stand: &mut Stand<'_, J, R>,
+fn make_again<S: Live + Send + Sync, R: Threads + Wait + Sync>(
+    stand: &mut Stand<'_, S, R>,
     before: (usize, u64, Fetched),
     line: &mut TableLine<'_>,
 ) {
@@ -241,8 +241,8 @@ fn make_again<J: Live + Send + Sync, R: Threads + Wait + Sync>(
 }
 
 /// Makes a call, and says what comes of it.
-fn make<J: Live + Send + Sync, R: Threads + Wait + Sync>(
-    stand: &mut Stand<'_, J, R>,
+fn make<S: Live + Send + Sync, R: Threads + Wait + Sync>(
+    stand: &mut Stand<'_, S, R>,
     call: &str,
     line: &mut TableLine<'_>,
 ) {

@@ -66,11 +66,11 @@ type Visited = (Result<bool, ClientError>, u32);
 impl<R: Wait> Workload<R> for Visits {
     type Output = Visited;
 
-    fn start<J: Live>(
+    fn start<S: Live>(
         self,
         rt: &R,
-        cluster: &Cluster<'_, J>,
-        clients: &mut [Client<'_, J>],
+        cluster: &Cluster<'_, S>,
+        clients: &mut [Client<'_, S>],
     ) -> Visited {
         if let Some(number) = self.closed {
             cluster.desk(number.min(15) as u32).close(rt);
@@ -91,11 +91,11 @@ impl<R: Wait> Workload<R> for Visits {
 
 impl Visits {
     /// The calls of one client.
-    fn visits<J: Live, R: Wait>(
+    fn visits<S: Live, R: Wait>(
         &self,
         rt: &R,
-        cluster: &Cluster<'_, J>,
-        client: &mut Client<'_, J>,
+        cluster: &Cluster<'_, S>,
+        client: &mut Client<'_, S>,
         last: &mut u32,
     ) -> Result<bool, ClientError> {
         for _ in 0..self.asks {
@@ -115,11 +115,11 @@ impl Visits {
 
     /// A read at the desk of a GRV proxy by a number, of which the one after the last is the first.
     /// Later reads have numbers further beyond the last.
-    fn read_at<J: Live, R: Wait>(
+    fn read_at<S: Live, R: Wait>(
         &self,
         rt: &R,
-        cluster: &Cluster<'_, J>,
-        client: &mut Client<'_, J>,
+        cluster: &Cluster<'_, S>,
+        client: &mut Client<'_, S>,
         (proxy, number): (u32, u32),
         place: u64,
     ) -> Result<bool, ClientError> {

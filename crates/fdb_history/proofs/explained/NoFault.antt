@@ -10,7 +10,7 @@ use Rattle.std.proofs.lemmas.Option.{same_Some, none-some}
 use Rattle.fdb_history.specs.Event.{stamped, change_count, is_change}
 use Rattle.fdb_history.specs.Explained.{placed_in}
 use Rattle.fdb_history.specs.Faults.{changes_at, register_at, IsOutOfOrder, IsWrongAnswer, IsFaultless}
-use Rattle.fdb_history.specs.Linear.{IsLinear, NeverGoesBack, client_of}
+use Rattle.fdb_history.specs.Linear.{GoesForward, IsLinear, NeverGoesBack, client_of}
 use Rattle.fdb_history.specs.Log.{placed_from, calls_of, position_after_calls, answer_changes}
 use Rattle.fdb_history.specs.private.Explaining.{changes_of}
 use Rattle.fdb_history.specs.declared.register.Event.{Event}
@@ -104,18 +104,10 @@ changes_in_history start logs history linear position =
 
 -- where calls never go back, each begins where the one before it ended or later, ends no earlier, and later where it changes
 in_order : (before : ℕ) (calls : List Call) (place : ℕ) (call : Call) → NeverGoesBack before calls → slice_get calls place ≡ Some call
-    → (position_after_calls before (take place calls) ≤ call.asked) × (call.asked ≤ call.position) × (IsTrue (answer_changes call.answer) → call.asked < call.position)
+    → GoesForward (position_after_calls before (take place calls)) call
 in_order before [] place call forward at = absurd (none-some call at)
-in_order before (first ∷ calls) zero call forward at =
-    subst (λ (c : Call). (before ≤ c.asked) × (c.asked ≤ c.position) × (IsTrue (answer_changes c.answer) → c.asked < c.position)) (same_Some first call at) (forward.0, forward.1, forward.2)
-in_order before (first ∷ calls) (suc place) call forward at = in_order first.position calls place call forward.3 at
-
--- such a call is not out of order
-not_out_of_order : (before : List Call) (call : Call)
-    → (position_after_calls 0 before ≤ call.asked) × (call.asked ≤ call.position) × (IsTrue (answer_changes call.answer) → call.asked < call.position) → IsOutOfOrder before call → ⊥
-not_out_of_order before call right (inl early) = absurd (omega arith)
-not_out_of_order before call right (inr (inl short)) = absurd (omega arith)
-not_out_of_order before call right (inr (inr (up, stays))) = let rises = right.2 up in absurd (omega arith)
+in_order before (first ∷ calls) zero call forward at = subst (GoesForward before) (same_Some first call at) forward.0
+in_order before (first ∷ calls) (suc place) call forward at = in_order first.position calls place call forward.1 at
 
 -- ---- answers
 
@@ -158,8 +150,7 @@ pub faultless : (start : Record) (logs : List ClientLog) (history : List Event) 
 faultless start logs history linear =
     record {
       order = λ client place stands.
-          not_out_of_order (take place (calls_of logs client)) stands.0
-          (in_order 0 (calls_of logs client) place stands.0 (of_client (NeverGoesBack 0) tt logs client linear.ordered) stands.1) stands.2;
+          stands.2 (in_order 0 (calls_of logs client) place stands.0 (of_client (NeverGoesBack 0) tt logs client linear.ordered) stands.1);
       clash = λ position clash.
           not_two (changes_to position (stamped 0 history)) (at_most_one position history) (rw (← same_count start logs history linear position) clash);
       gap = λ position gap.

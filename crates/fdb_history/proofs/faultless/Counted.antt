@@ -81,8 +81,8 @@ none-at-zero logs order =
     filter-flat_none (λ log. flat_map changes log.calls) logs (every_log (λ calls. at_position 0 (flat_map changes calls) ≡ []) logs (λ client.
     filter-flat_none changes (calls_of logs client) (every_in (λ call. at_position 0 (changes call) ≡ []) (calls_of logs client) (λ place call at.
     zero-call call.position call.answer (λ up. elim (cases_order call.position call.asked) [
-      | inl same ↦ absurd (order client place (call, at, inr (inr (up, same))))
-      | inr (inl below) ↦ absurd (order client place (call, at, inr (inl below)))
+      | inl same ↦ absurd (order client place (call, at, λ forward. omega (arith, forward.2 up)))
+      | inr (inl below) ↦ absurd (order client place (call, at, λ forward. omega (arith, forward.1)))
       | inr (inr above) ↦ omega arith
     ])))))
 

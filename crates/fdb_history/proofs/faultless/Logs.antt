@@ -10,7 +10,7 @@ use Rattle.std.proofs.lemmas.List.Concat.{flat_map-append}
 use Rattle.fdb_history.specs.Event.{is_change}
 use Rattle.fdb_history.specs.Explained.{placed_in}
 use Rattle.fdb_history.specs.Faults.{at_position, change_in, changes_in, changes_at, IsOutOfOrder, StandsAt, Nowhere}
-use Rattle.fdb_history.specs.Linear.{NeverGoesBack, client_of}
+use Rattle.fdb_history.specs.Linear.{GoesForward, NeverGoesBack, client_of}
 use Rattle.fdb_history.specs.Log.{event_of_answer, placed_from, calls_of, answer_changes, position_after_calls}
 use Rattle.fdb_history.specs.private.Explaining.{change_of_event, changes_of}
 use Rattle.fdb_history.specs.declared.auditing.registers.PlacedChange.{PlacedChange}
@@ -127,16 +127,14 @@ filter-events client (p ∷ all) =
 -- no call is out of order, counted from a position
 never_back : (before : ℕ) (calls : List Call)
     → ((place : ℕ) (call : Call) → slice_get calls place ≡ Some call
-    → (call.asked < position_after_calls before (take place calls)) ⊎ ((call.position < call.asked) ⊎ (IsTrue (answer_changes call.answer) × (call.position ≡ call.asked))) → ⊥)
+    → (GoesForward (position_after_calls before (take place calls)) call → ⊥) → ⊥)
     → NeverGoesBack before calls
 never_back before [] none = tt
 never_back before (call ∷ calls) none =
     let no = none 0 call refl in
-    let from : before ≤ call.asked = elim (cases_lt call.asked before) [ inl below ↦ absurd (no (inl below)) | inr least ↦ least ] in
-    let to : call.asked ≤ call.position = elim (cases_lt call.position call.asked) [ inl below ↦ absurd (no (inr (inl below))) | inr least ↦ least ] in (
-      from,
-      to,
-      λ up. elim (cases_eq call.position call.asked) [ inl same ↦ absurd (no (inr (inr (up, same)))) | inr apart ↦ omega arith ],
+    let from : before ≤ call.asked = elim (cases_lt call.asked before) [ inl below ↦ absurd (no (λ forward. omega (arith, forward.0))) | inr least ↦ least ] in
+    let to : call.asked ≤ call.position = elim (cases_lt call.position call.asked) [ inl below ↦ absurd (no (λ forward. omega (arith, forward.1))) | inr least ↦ least ] in (
+      (from, to, λ up. elim (cases_eq call.position call.asked) [ inl same ↦ absurd (no (λ forward. omega (arith, forward.2 up))) | inr apart ↦ omega arith ]),
       never_back call.position calls (λ place. none (suc place)),
     )
 
@@ -160,8 +158,8 @@ climbing_call client place before position _ all least up climbs = climbs_below 
 pub climbing : (client place before : ℕ) (calls : List Call) → NeverGoesBack before calls → Climbing before (placed_from client place calls)
 climbing client place before [] order = tt
 climbing client place before (call ∷ calls) order =
-    climbing_call client place before call.position call.answer (placed_from client (place + 1) calls) (le_trans order.0 order.1) (λ up. omega (arith, order.0, order.2 up))
-    (climbing client (place + 1) call.position calls order.3)
+    climbing_call client place before call.position call.answer (placed_from client (place + 1) calls) (le_trans order.0.0 order.0.1) (λ up. omega (arith, order.0.0, order.0.2 up))
+    (climbing client (place + 1) call.position calls order.1)
 
 -- ---- the changes
 

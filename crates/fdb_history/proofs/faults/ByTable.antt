@@ -69,6 +69,6 @@ first_low start logs registers order right =
     asked_within : (client place : ℕ) (call : Call) → slice_get (calls_of logs client) place ≡ Some call → call.asked ≤ call.position
     asked_within client place call at =
         elim (cases_lt call.position call.asked) [
-          | inl below ↦ absurd (order client place (call, at, inr (inl below)))
+          | inl below ↦ absurd (order client place (call, at, λ forward. omega (arith, forward.1)))
           | inr least ↦ least
         ]

@@ -104,9 +104,9 @@ below_register start logs (suc position) least = each_at_most (register_at start
 -- a call of a log begins at least where the log did
 begins : (before : ℕ) (calls : List Call) (place : ℕ) (call : Call) → NeverGoesBack before calls → slice_get calls place ≡ Some call → before ≤ call.asked
 begins before [] place call forward at = absurd (none-some call at)
-begins before (first ∷ calls) zero call forward at = subst (λ (c : Call). before ≤ c.asked) (same_Some first call at) forward.0
+begins before (first ∷ calls) zero call forward at = subst (λ (c : Call). before ≤ c.asked) (same_Some first call at) forward.0.0
 begins before (first ∷ calls) (suc place) call forward at =
-    let rest = begins first.position calls place call forward.3 at in let least = forward.0 in let most = forward.1 in omega arith
+    let rest = begins first.position calls place call forward.1 at in let least = forward.0.0 in let most = forward.0.1 in omega arith
 
 -- a call begins at least where each earlier one ended
 follows : (before : ℕ) (calls : List Call) (earlier later : ℕ) (one other : Call) → NeverGoesBack before calls
@@ -114,10 +114,10 @@ follows : (before : ℕ) (calls : List Call) (earlier later : ℕ) (one other : 
 follows before [] earlier later one other forward at_one at_other order = absurd (none-some one at_one)
 follows before (first ∷ calls) zero zero one other forward at_one at_other order = absurd (omega arith)
 follows before (first ∷ calls) zero (suc later) one other forward at_one at_other order =
-    subst (λ (c : Call). c.position ≤ other.asked) (same_Some first one at_one) (begins first.position calls later other forward.3 at_other)
+    subst (λ (c : Call). c.position ≤ other.asked) (same_Some first one at_one) (begins first.position calls later other forward.1 at_other)
 follows before (first ∷ calls) (suc earlier) zero one other forward at_one at_other order = absurd (omega arith)
 follows before (first ∷ calls) (suc earlier) (suc later) one other forward at_one at_other order =
-    follows first.position calls earlier later one other forward.3 at_one at_other (omega arith)
+    follows first.position calls earlier later one other forward.1 at_one at_other (omega arith)
 
 -- the same of a client's calls, where a history explains the logs
 pub follows_in : (start : Record) (logs : List ClientLog) (history : List Event) → IsLinear start logs history → (client earlier later : ℕ) (one other : Call)
@@ -131,7 +131,7 @@ follows_in start logs history linear client earlier later one other =
 ends_later : (start : Record) (logs : List ClientLog) → IsFaultless start logs → (client place : ℕ) (call : Call) → slice_get (calls_of logs client) place ≡ Some call → call.asked ≤ call.position
 ends_later start logs fine client place call at =
     elim (cases_lt call.position call.asked) [
-      | inl short ↦ absurd (fine.order client place (call, at, inr (inl short)))
+      | inl short ↦ absurd (fine.order client place (call, at, λ forward. omega (arith, forward.1)))
       | inr enough ↦ enough
     ]
 
@@ -148,7 +148,7 @@ acknowledged start logs fine client place call rec raised true at is =
     elim (cases_lt 0 call.position) [
       | inl beyond ↦
           of_change (λ change. AtMost change.rec (register_at start logs call.position)) logs client place call rec raised (below_register start logs call.position beyond) at is
-      | inr none ↦ absurd (fine.order client place (call, at, inr (inr (changes, omega arith))))
+      | inr none ↦ absurd (fine.order client place (call, at, λ forward. omega (arith, forward.2 changes)))
     ]
 acknowledged start logs fine client place call rec raised false at is =
     let register = register_at start logs call.position in

@@ -5,6 +5,7 @@
 ghost use Rattle.std.specs.Prelude.{◌≡◌, ◌<◌, ◌≤◌, ◌^◌, ◌↔◌, List, length, IsTrue};
 ghost use Rattle.fdb_history.specs.private.Auditing.{IsFirstCall, IsFirstOf, AreRegisters};
 ghost use Rattle.fdb_history.specs.Faults.{StandsAt, OutOfOrder, Nowhere, WronglyAnswered};
+ghost use Rattle.fdb_history.specs.Linear.{GoesForward};
 ghost use Rattle.fdb_history.specs.Log.{answer_changes, position_after_calls};
 ghost use Rattle.fdb_history.specs.Audit.{Low};
 ghost use Rattle.fdb_history.specs.declared.log.Call.{Call};
@@ -73,11 +74,17 @@ impl CallFault for Order {
     ghost Stands = { λ fault before call. IsOutOfOrder before call };
 
     fn stands_at(&self, before: &[Call], call: &Call) -> bool {
-        if call.asked < position_after_calls(before) || call.position < call.asked {
-            return true;
-        }
-        answer_changes(&call.answer) && call.position == call.asked
+        !goes_forward(position_after_calls(before), call)
     }
+}
+
+/// Whether a call does not go back behind a position.
+fn goes_forward(before: u64, call: &Call) -> bool
+    ensures { IsTrue result ↔ GoesForward before call.now }
+{
+    before <= call.asked
+        && call.asked <= call.position
+        && (call.asked < call.position || !answer_changes(&call.answer))
 }
 
 /// The position that a client has come to after some calls.

@@ -3,7 +3,7 @@
 use Rattle.std.specs.Prelude.{◌≡◌, ℕ, ◌+◌, ◌<◌, ◌≤◌, Bool, true, false, IsSome, Option, None, Some, List, [], ◌∷◌, ◌++◌, length, All, MatchBool, Result, Ok, Err, if◌then◌else◌}
 use Rattle.atomic_table.specs.Seated.{TableId}
 use mathlib.Core.List.{IsPrefix}
-use Rattle.fdb_chain.specs.ChainCore.{new_chain}
+use Rattle.fdb_chain.specs.ChainCore.{chain_of, new_chain}
 use Rattle.fdb_chain.specs.Recent.{Recent, IsStateOf}
 use Rattle.fdb_chain.specs.declared.error.ChainError.{ChainError}
 use Rattle.fdb_history.specs.Chain.{IsChain}
@@ -11,7 +11,7 @@ use Rattle.fdb_history.specs.declared.chain.Issued.{Issued}
 use Rattle.fdb_history.specs.declared.register.Record.{Record}
 use Rattle.fdb_history.specs.Register.{raises, changes}
 use Rattle.fdb_live.specs.Seen.{IsLog, epoch_of, last_record}
-use Rattle.fdb_live.specs.Holding.{AreDrawn, answers_to, chain_of}
+use Rattle.fdb_live.specs.Holding.{AreDrawn, answers_to}
 use Rattle.fdb_live.specs.private.Rule.{Tells, TellsChain, chain_view, having_seen, view}
 use Rattle.fdb_live.specs.declared.view.Change.{Change}
 use Rattle.fdb_live.specs.declared.view.Epoch.{Epoch}

@@ -3,8 +3,8 @@ use Rattle.std.specs.Prelude.{◌≡◌, ◌⊎◌, ℕ, List, [], ◌∷◌, �
 use Rattle.std.specs.List.{FoldsTo}
 use Rattle.fdb_queue.specs.declared.error.QueueError.{QueueError}
 use Rattle.fdb_queue.specs.declared.error.QueueError.TheVariants.{Full, Memory}
-use Rattle.fdb_queue.specs.declared.request.Req.{Req}
-use Rattle.fdb_queue.specs.declared.request.TurnedAway.{TurnedAway}
+use Rattle.fdb_queue.specs.declared.waiting.Req.{Req}
+use Rattle.fdb_queue.specs.declared.waiting.TurnedAway.{TurnedAway}
 use Rattle.fdb_queue.specs.Admission.{refusal_of, admitted, pushed_out}
 use Rattle.fdb_queue.specs.Queue.{Queue}
 use Rattle.fdb_queue.specs.Waiting.{first, nothing, row}

@@ -3,7 +3,7 @@ use Rattle.std.specs.Prelude.{ℕ, ◌+◌, ◌-◌, ◌*◌, ◌==◌, Bool, if
 use Rattle.fdb_history.specs.declared.log.Priority.{Priority}
 use Rattle.fdb_history.specs.declared.log.Priority.TheVariants.{System, Default, Batch}
 use Rattle.fdb_queue.specs.Budgets.{cut}
-use Rattle.fdb_queue.specs.declared.budgets.Budgets.{Budgets}
+use Rattle.fdb_queue.specs.declared.window.Budgets.{Budgets}
 use Rattle.fdb_queue.specs.declared.config.TheConstants.{RATE_WINDOW}
 
 -- the budget of that rate, whose limit is `limit_of`

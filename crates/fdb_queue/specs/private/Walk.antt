@@ -1,10 +1,10 @@
 -- How far a window has come in the row. (this product's own)
 use Rattle.std.specs.Prelude.{◌+◌, ◌*◌, ◌≤◌, ◌&&◌, true, false, nat_lt, if◌then◌else◌}
 use Rattle.fdb_queue.specs.Window.{may_start}
-use Rattle.fdb_queue.specs.declared.budgets.Budgets.{Budgets}
+use Rattle.fdb_queue.specs.declared.window.Budgets.{Budgets}
 use Rattle.fdb_queue.specs.declared.config.QueueConfig.{QueueConfig}
 use Rattle.fdb_queue.specs.declared.config.TheConstants.{MAX_COUNT, MAX_STARTED}
-use Rattle.fdb_queue.specs.declared.request.Req.{Req}
+use Rattle.fdb_queue.specs.declared.waiting.Req.{Req}
 use Rattle.fdb_queue.specs.declared.window.Walk.{Walk}
 
 -- A window has come to its next request: it starts it or ends there.

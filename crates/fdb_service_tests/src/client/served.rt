@@ -36,8 +36,8 @@ struct Wanted<'w> {
 
 impl<'w> Wanted<'w> {
     /// What the next request of a client with these options has to be.
-    fn of<J: Live>(
-        client: &Client<'_, J>,
+    fn of<S: Live>(
+        client: &Client<'_, S>,
         opts: &GrvOpts,
         way: &'w str,
     ) -> Result<Wanted<'w>, AllocError> {
@@ -51,7 +51,7 @@ impl<'w> Wanted<'w> {
     }
 
     /// Whether this is such a request, with a token that has come to the asked position.
-    fn is_met<J: Live>(&self, request: &Request<J>) -> bool {
+    fn is_met<S: Live>(&self, request: &Request<S>) -> bool {
         request.client == self.client
             && request.serial == self.serial
             && request.asked == self.asked
@@ -80,8 +80,8 @@ fn told_apart(line: &mut TableLine<'_>, calls: usize) -> GrvOpts {
 }
 
 /// A client's read at a desk that is served in the way of the next word.
-pub(crate) fn read<J: Live + Send + Sync, R: Threads + Wait + Sync>(
-    stand: &mut Stand<'_, J, R>,
+pub(crate) fn read<S: Live + Send + Sync, R: Threads + Wait + Sync>(
+    stand: &mut Stand<'_, S, R>,
     line: &mut TableLine<'_>,
 ) {
     let (rt, service) = (stand.rt, stand.service);
@@ -99,11 +99,11 @@ pub(crate) fn read<J: Live + Send + Sync, R: Threads + Wait + Sync>(
 
 /// The same, once it is known what the request has to be. It passes the gate once where an answer came,
 /// and else not at all.
-fn read_wanted<J: Live + Send + Sync, R: Threads + Wait + Sync>(
+fn read_wanted<S: Live + Send + Sync, R: Threads + Wait + Sync>(
     rt: &R,
-    service: &Service<J>,
-    served: Seen<J>,
-    client: &mut Client<'_, J>,
+    service: &Service<S>,
+    served: Seen<S>,
+    client: &mut Client<'_, S>,
     wanted: &Wanted<'_>,
     opts: GrvOpts,
     line: &mut TableLine<'_>,
@@ -130,13 +130,13 @@ type Read = (Option<u64>, Result<ReadVersion, ClientError>);
 /// A client's read, while a desk is served in another thread, for which there may be no memory. It
 /// leaves one request there, under the number of the calls before it, and with what the client has
 /// seen and was told to ask.
-fn read_served<J: Live + Send + Sync, R: Threads + Wait + Sync>(
+fn read_served<S: Live + Send + Sync, R: Threads + Wait + Sync>(
     rt: &R,
-    service: &Service<J>,
-    desk: &Desk<J>,
+    service: &Service<S>,
+    desk: &Desk<S>,
     gate: &Counting,
-    served: Seen<J>,
-    client: &mut Client<'_, J>,
+    served: Seen<S>,
+    client: &mut Client<'_, S>,
     wanted: &Wanted<'_>,
     opts: GrvOpts,
 ) -> Option<Read> {
@@ -167,11 +167,11 @@ fn say_read(line: &mut TableLine<'_>, found: Result<ReadVersion, ClientError>, w
 
 /// Takes what comes to the desk, and answers it. Says how many answers were sent, or nothing where the
 /// request is not the wanted one.
-fn serve<J: Live, R: Wait>(
+fn serve<S: Live, R: Wait>(
     rt: &R,
-    service: &Service<J>,
-    desk: &Desk<J>,
-    mut served: Seen<J>,
+    service: &Service<S>,
+    desk: &Desk<S>,
+    mut served: Seen<S>,
     wanted: &Wanted<'_>,
 ) -> Option<u64> {
     let mut taken = desk.take(rt, true);
@@ -193,13 +193,13 @@ fn serve<J: Live, R: Wait>(
 }
 
 /// A request as another one: of another client, of another call, or from where the record is.
-fn changed<J: Live, R: Wait>(
+fn changed<S: Live, R: Wait>(
     rt: &R,
-    service: &Service<J>,
-    request: Request<J>,
-    served: &mut Seen<J>,
+    service: &Service<S>,
+    request: Request<S>,
+    served: &mut Seen<S>,
     way: &str,
-) -> Request<J> {
+) -> Request<S> {
     let live = service.master.record();
     let (client, serial) = match way {
         "client" => (1 - request.client.min(1), request.serial),
@@ -229,7 +229,7 @@ fn changed<J: Live, R: Wait>(
 
 /// Answers that a request does not start and why, which hands the token back. Says how many answers
 /// were sent.
-fn refuse<J: Live, R: Wait>(rt: &R, request: Request<J>, cause: Cause) -> u64
+fn refuse<S: Live, R: Wait>(rt: &R, request: Request<S>, cause: Cause) -> u64
     requires { may_be_refused_for cause ≡ true }
 {
     let refused = Refused {
@@ -243,11 +243,11 @@ fn refuse<J: Live, R: Wait>(rt: &R, request: Request<J>, cause: Cause) -> u64
 }
 
 /// Answers a request with what a read gives, which goes as far as the asker has seen.
-fn reply<J: Live, R: Wait>(
+fn reply<S: Live, R: Wait>(
     rt: &R,
-    service: &Service<J>,
-    request: Request<J>,
-    mut served: Seen<J>,
+    service: &Service<S>,
+    request: Request<S>,
+    mut served: Seen<S>,
 ) -> u64 {
     let live = service.master.record();
     live.learn(rt, &mut served, request.seen);

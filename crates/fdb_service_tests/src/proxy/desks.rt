@@ -17,15 +17,15 @@ use std::sync::Wait;
 
 /// Who waits for the answer to a request.
 #[derive(Drop)]
-pub(crate) struct Waiter<J: Live> {
+pub(crate) struct Waiter<S: Live> {
     /// The client, the serial number and the asked position, which the answer has too.
     pub(crate) own: (u32, u64, u64),
-    pub(crate) receiver: Receiver<Answer<J>>,
+    pub(crate) receiver: Receiver<Answer<S>>,
     /// What was heard already.
-    pub(crate) heard: Option<Answer<J>>,
+    pub(crate) heard: Option<Answer<S>>,
 }
 
-impl<J: Live> Waiter<J> {
+impl<S: Live> Waiter<S> {
     /// Waits for the answer, or until none may come.
     pub(crate) fn hears<R: Wait>(&mut self, rt: &R) {
         if self.heard.is_none() {
@@ -36,13 +36,13 @@ impl<J: Live> Waiter<J> {
 
 /// A request with what a token has seen, and who waits for its answer. The channel for that has no room
 /// where it is `held`, and any where it is `unbounded`.
-pub(crate) fn request_of<J: Live>(
-    service: &Service<J>,
-    seen: &mut Seen<J>,
+pub(crate) fn request_of<S: Live>(
+    service: &Service<S>,
+    seen: &mut Seen<S>,
     (client, serial): (u32, u64),
     opts: GrvOpts,
     words: &str,
-) -> Result<(Request<J>, Waiter<J>), AllocError> {
+) -> Result<(Request<S>, Waiter<S>), AllocError> {
     let (reply, receiver) = if words.contains(" unbounded") {
         unbounded(service.alloc)?
     } else {
@@ -66,10 +66,10 @@ pub(crate) fn request_of<J: Live>(
 }
 
 /// Leaves a request on a desk.
-pub(crate) fn submit<J: Live, R: Wait>(
+pub(crate) fn submit<S: Live, R: Wait>(
     rt: &R,
-    desk: &Desk<J>,
-    request: Request<J>,
+    desk: &Desk<S>,
+    request: Request<S>,
 ) -> Result<(), ProxyError> {
     let request = Req {
         priority: request.opts.priority,
@@ -121,7 +121,7 @@ fn kind_at(opts: &GrvOpts, place: u64, words: &str) -> Result<GrvOpts, AllocErro
 }
 
 /// Leaves so many requests on the desk, until it refuses one.
-pub(crate) fn leave<J: Live, R: Wait>(stand: &mut Stand<'_, J, R>, line: &mut TableLine<'_>) {
+pub(crate) fn leave<S: Live, R: Wait>(stand: &mut Stand<'_, S, R>, line: &mut TableLine<'_>) {
     let (number, client, first) = (line.number(), line.who(), line.number());
     let opts = opts_of(line);
     for place in 0..number {
@@ -137,8 +137,8 @@ pub(crate) fn leave<J: Live, R: Wait>(stand: &mut Stand<'_, J, R>, line: &mut Ta
 
 /// Leaves a request: with what those who are `ahead` have seen, or every eighth one by turns where there
 /// are all `kinds`; as the one that is left `later`; or for one who is `gone` and waits for no answer.
-fn leave_one<J: Live, R: Wait>(
-    stand: &mut Stand<'_, J, R>,
+fn leave_one<S: Live, R: Wait>(
+    stand: &mut Stand<'_, S, R>,
     whom: (u32, u64),
     place: u64,
     opts: &GrvOpts,
@@ -160,11 +160,11 @@ fn leave_one<J: Live, R: Wait>(
 }
 
 /// The first of two tokens, or the second.
-fn of_two<'t, J: Live>(
-    first: &'t mut Seen<J>,
-    second: &'t mut Seen<J>,
+fn of_two<'t, S: Live>(
+    first: &'t mut Seen<S>,
+    second: &'t mut Seen<S>,
     is_first: bool,
-) -> &'t mut Seen<J> {
+) -> &'t mut Seen<S> {
     if is_first { first } else { second }
 }
 
@@ -174,12 +174,12 @@ pub(crate) fn tag(alloc: Global, word: &str) -> Result<Tag, AllocError> {
 }
 
 /// A queue of these limits and this room, with no request in it, and with the throttle of `t`.
-pub(crate) fn queue_of<J: Live>(
+pub(crate) fn queue_of<S: Live>(
     alloc: Global,
     normal: u64,
     batch: u64,
     room: u64,
-) -> Option<GrvQueue<Request<J>>> {
+) -> Option<GrvQueue<Request<S>>> {
     let config = QueueConfig {
         normal,
         batch,
@@ -192,7 +192,7 @@ pub(crate) fn queue_of<J: Live>(
 }
 
 /// Says the answers to what waits at the desk, as one batch, which may be refused memory.
-pub(crate) fn serve<J: Live, R: Wait>(stand: &mut Stand<'_, J, R>, line: &mut TableLine<'_>) {
+pub(crate) fn serve<S: Live, R: Wait>(stand: &mut Stand<'_, S, R>, line: &mut TableLine<'_>) {
     let requests = match stand.back.take() {
         Some(back) => back,
         None => stand.service.desk.take(stand.rt, false).requests,
@@ -203,10 +203,10 @@ pub(crate) fn serve<J: Live, R: Wait>(stand: &mut Stand<'_, J, R>, line: &mut Ta
     }
 }
 
-fn serve_requests<J: Live, R: Wait>(
-    stand: &mut Stand<'_, J, R>,
-    queue: &GrvQueue<Request<J>>,
-    requests: Vec<Req<Request<J>>>,
+fn serve_requests<S: Live, R: Wait>(
+    stand: &mut Stand<'_, S, R>,
+    queue: &GrvQueue<Request<S>>,
+    requests: Vec<Req<Request<S>>>,
     line: &mut TableLine<'_>,
 ) {
     let (rt, live, served) = (stand.rt, stand.service.master.record(), &mut stand.served);
@@ -227,7 +227,7 @@ fn serve_requests<J: Live, R: Wait>(
 }
 
 /// Says the answers to all who wait, of whom none does then.
-pub(crate) fn say_answers<J: Live, R: Wait>(stand: &mut Stand<'_, J, R>, line: &mut TableLine<'_>) {
+pub(crate) fn say_answers<S: Live, R: Wait>(stand: &mut Stand<'_, S, R>, line: &mut TableLine<'_>) {
     let mut waiters = mem::replace(&mut stand.waiters, Vec::new(line.alloc));
     for waiter in waiters.iter_mut() {
         waiter.hears(stand.rt);
@@ -240,7 +240,7 @@ pub(crate) fn say_answers<J: Live, R: Wait>(stand: &mut Stand<'_, J, R>, line: &
 }
 
 /// What all these have heard, in their order.
-fn rows_of<J: Live>(alloc: Global, waiters: &[Waiter<J>]) -> Result<String, AllocError> {
+fn rows_of<S: Live>(alloc: Global, waiters: &[Waiter<S>]) -> Result<String, AllocError> {
     let (mut rows, mut last, mut times) = (String::new(alloc), String::new(alloc), 0u64);
     for waiter in waiters {
         let next = heard_by(alloc, waiter)?;
@@ -265,7 +265,7 @@ fn push_row(rows: &mut String, times: u64, said: &str) -> Result<(), AllocError>
 }
 
 /// What one who waits has heard.
-fn heard_by<J: Live>(alloc: Global, waiter: &Waiter<J>) -> Result<String, AllocError> {
+fn heard_by<S: Live>(alloc: Global, waiter: &Waiter<S>) -> Result<String, AllocError> {
     match &waiter.heard {
         None => String::from_str(alloc, "no answer"),
         Some(Answer::Reply(reply)) => replied(alloc, reply, waiter.own),
@@ -273,9 +273,9 @@ fn heard_by<J: Live>(alloc: Global, waiter: &Waiter<J>) -> Result<String, AllocE
     }
 }
 
-fn replied<J: Live>(
+fn replied<S: Live>(
     alloc: Global,
-    reply: &Reply<J>,
+    reply: &Reply<S>,
     own: (u32, u64, u64),
 ) -> Result<String, AllocError> {
     let mut text = format!(in alloc; "{} at {}", reply.rec, reply.position)?;
@@ -299,9 +299,9 @@ fn push_limits(text: &mut String, first: &TagLimit, limits: &[TagLimit]) -> Resu
     write!(text, " with {} {tag} {rate} {expires}", limits.len())
 }
 
-fn refused_as<J: Live>(
+fn refused_as<S: Live>(
     alloc: Global,
-    refused: &Refused<J>,
+    refused: &Refused<S>,
     own: (u32, u64, u64),
 ) -> Result<String, AllocError> {
     if (refused.client, refused.serial, refused.asked) != own {

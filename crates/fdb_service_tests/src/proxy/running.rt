@@ -11,8 +11,8 @@ use std::sync::Wait;
 use std::thread::{self, Threads};
 
 /// Says the answers of a proxy with such a queue to all who wait.
-pub(crate) fn run<J: Live + Send + Sync, R: Threads + Wait + Sync>(
-    stand: &mut Stand<'_, J, R>,
+pub(crate) fn run<S: Live + Send + Sync, R: Threads + Wait + Sync>(
+    stand: &mut Stand<'_, S, R>,
     line: &mut TableLine<'_>,
 ) {
     let (normal, batch, room) = (line.number(), line.number(), line.number());
@@ -27,9 +27,9 @@ pub(crate) fn run<J: Live + Send + Sync, R: Threads + Wait + Sync>(
 
 /// Runs a proxy with a queue until all have heard. Answers whether it ended as its desk was closed, or
 /// nothing where it cannot be started.
-fn runs_beside<J: Live + Send + Sync, R: Threads + Wait + Sync>(
-    stand: &mut Stand<'_, J, R>,
-    queue: GrvQueue<Request<J>>,
+fn runs_beside<S: Live + Send + Sync, R: Threads + Wait + Sync>(
+    stand: &mut Stand<'_, S, R>,
+    queue: GrvQueue<Request<S>>,
     line: &mut TableLine<'_>,
 ) -> Option<bool> {
     let (rt, service) = (stand.rt, stand.service);
@@ -53,11 +53,11 @@ fn runs_beside<J: Live + Send + Sync, R: Threads + Wait + Sync>(
 
 /// Does what the line says, hears all who wait, and closes the desk. A proxy that has dropped one who
 /// waits has to close it by itself.
-fn hear_beside<J: Live, R: Wait>(
+fn hear_beside<S: Live, R: Wait>(
     rt: &R,
-    service: &Service<J>,
-    waiters: &mut [Waiter<J>],
-    mut later: Option<Request<J>>,
+    service: &Service<S>,
+    waiters: &mut [Waiter<S>],
+    mut later: Option<Request<S>>,
     line: &mut TableLine<'_>,
 ) {
     for _ in 0..9 {
@@ -83,10 +83,10 @@ fn hear_beside<J: Live, R: Wait>(
 
 /// Does what a word says: `hear` who waits at a place, `look` whether the last who waits is answered while
 /// nobody else hears, leave new `rates`, or `close` the desk. (beside it what comes `late` is left)
-fn act<J: Live, R: Wait>(
+fn act<S: Live, R: Wait>(
     rt: &R,
-    service: &Service<J>,
-    waiters: &mut [Waiter<J>],
+    service: &Service<S>,
+    waiters: &mut [Waiter<S>],
     word: &str,
     line: &mut TableLine<'_>,
 ) {
@@ -109,9 +109,9 @@ fn act<J: Live, R: Wait>(
 }
 
 /// Leaves new rates on the desk.
-pub(crate) fn leave_rates<J: Live, R: Wait>(
+pub(crate) fn leave_rates<S: Live, R: Wait>(
     rt: &R,
-    service: &Service<J>,
+    service: &Service<S>,
     line: &mut TableLine<'_>,
 ) {
     match Rates::new(line.number(), line.number()) {
@@ -127,8 +127,8 @@ const REQUESTS: u64 = 6;
 /// reply, that new rates turned it away, or that its offer was refused memory, which it is not where
 /// the queue had as many requests before. Where it ends out of memory, its desk is closed and empty.
 /// Notes the number of the request that alone was refused memory.
-pub(crate) fn run_refused<J: Live + Send + Sync, R: Threads + Wait + Sync>(
-    stand: &mut Stand<'_, J, R>,
+pub(crate) fn run_refused<S: Live + Send + Sync, R: Threads + Wait + Sync>(
+    stand: &mut Stand<'_, S, R>,
     line: &mut TableLine<'_>,
 ) {
     let used = line.text.contains(" used");
@@ -144,7 +144,7 @@ pub(crate) fn run_refused<J: Live + Send + Sync, R: Threads + Wait + Sync>(
 }
 
 /// Looks at the desk of a proxy that ended out of memory.
-fn look_at_desk<J: Live, R: Wait>(stand: &Stand<'_, J, R>, line: &mut TableLine<'_>) {
+fn look_at_desk<S: Live, R: Wait>(stand: &Stand<'_, S, R>, line: &mut TableLine<'_>) {
     let taken = stand.service.desk.take(stand.rt, false);
     line.holds(taken.closed, "a desk that is closed");
     line.holds(taken.requests.is_empty(), "a desk that is empty");
@@ -152,8 +152,8 @@ fn look_at_desk<J: Live, R: Wait>(stand: &Stand<'_, J, R>, line: &mut TableLine<
 }
 
 /// Looks at what all have heard of a proxy that ended well.
-fn look_at_all<J: Live, R: Wait>(
-    stand: &mut Stand<'_, J, R>,
+fn look_at_all<S: Live, R: Wait>(
+    stand: &mut Stand<'_, S, R>,
     used: bool,
     line: &mut TableLine<'_>,
 ) {
@@ -175,7 +175,7 @@ fn look_at_all<J: Live, R: Wait>(
 
 /// Whether a request was answered that its offer was refused memory. Else it has its reply, or new
 /// rates have turned it away.
-fn was_refused<J: Live>(heard: &Option<Answer<J>>, place: u64, line: &mut TableLine<'_>) -> bool {
+fn was_refused<S: Live>(heard: &Option<Answer<S>>, place: u64, line: &mut TableLine<'_>) -> bool {
     match heard {
         Some(Answer::Reply(reply)) => line.holds(reply.serial == place, "another's reply"),
         Some(Answer::Refused(refused)) => {
@@ -196,11 +196,11 @@ fn was_refused<J: Live>(heard: &Option<Answer<J>>, place: u64, line: &mut TableL
 }
 
 /// The queue of a proxy. A used one has had as many requests as will come, and has none any more.
-fn queue_for<J: Live, R: Wait>(
-    stand: &mut Stand<'_, J, R>,
+fn queue_for<S: Live, R: Wait>(
+    stand: &mut Stand<'_, S, R>,
     (normal, batch, room): (u64, u64, u64),
     used: bool,
-) -> Option<GrvQueue<Request<J>>> {
+) -> Option<GrvQueue<Request<S>>> {
     let alloc = stand.service.alloc;
     let mut queue = queue_of(alloc, normal, batch, room)?;
     if used {
@@ -216,9 +216,9 @@ fn queue_for<J: Live, R: Wait>(
 }
 
 /// Lets a request in.
-fn use_once<J: Live, R: Wait>(
-    stand: &mut Stand<'_, J, R>,
-    queue: &mut GrvQueue<Request<J>>,
+fn use_once<S: Live, R: Wait>(
+    stand: &mut Stand<'_, S, R>,
+    queue: &mut GrvQueue<Request<S>>,
     serial: u64,
     opts: &GrvOpts,
 ) -> Option<()> {

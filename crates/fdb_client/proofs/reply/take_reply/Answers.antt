@@ -17,6 +17,7 @@ returns-clause-logged g c _ number begun reporter come_to =
         own = λ _. own_same number c.args.token.now c.hear.new.token reporter c.hear.ensures.number c.hear.ensures.own_changes;
         changed = λ is. absurd (cc is);
         answers = c.hear.ensures.answers;
+        hears = λ is. absurd (cc is);
         not_drawn = λ _. own_answers_same number c.args.token.now c.hear.new.token reporter c.hear.ensures.number c.hear.ensures.own;
       };
       answered = search rules;

@@ -10,5 +10,5 @@ invariant-loop-client g l = record {
   left : l.yielded ++ l.client-iterator.rest.items ≡ l.fn.clients.items;
   logs : l.logs.items ≡ logs_of l.yielded;
   tokens : l.tokens.items ≡ map sight l.yielded;
-  settled : AllByRecursion (MaySettle g.J.Service.epoch_end g.J.Service.recovery g.J.Service.start) l.yielded;
+  settled : AllByRecursion (MaySettle g.S.Service.epoch_end g.S.Service.recovery g.S.Service.start) l.yielded;
 }

@@ -1,5 +1,5 @@
 use Rattle.std.proofs.Common.{◌≡◌, ◌<◌, ◌≤◌, ℕ, Some, length, slice_get}
-use Rattle.fdb_live.specs.Holding.{IsClosedWith}
+use Rattle.fdb_live.specs.Gathering.{HasCaughtUp}
 use Rattle.fdb_live.specs.Seen.{Sight}
 use Rattle.fdb_live.proofs.master.look_each.Given as goal
 
@@ -8,4 +8,4 @@ invariant-loop-token g l =
     (l.drawer ≡ l.initial.drawer)
     × (length l.tokens ≡ length l.initial.tokens)
     × ((k : ℕ) → l.token-index ≤ k → slice_get l.tokens k ≡ slice_get l.initial.tokens k)
-    × ((k : ℕ) (token : Sight) → k < l.token-index → slice_get l.initial.tokens k ≡ Some token → IsClosedWith l.initial.drawer.answers token k l.tokens)
+    × ((k : ℕ) (token : Sight) → k < l.token-index → slice_get l.initial.tokens k ≡ Some token → HasCaughtUp (record token { answers = l.initial.drawer.answers }) token k l.tokens)

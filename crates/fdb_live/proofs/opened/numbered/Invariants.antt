@@ -7,8 +7,8 @@ use Rattle.fdb_live.proofs.opened.numbered.Given as goal
 
 abbrev pub invariant-loop-number : goal.invariant-loop-number
 invariant-loop-number g l = record {
-  cell : l.pass.table_id ≡ g.J.Live.table;
-  left : cell_view l.pass ≡ left_from l.number g.J.Service.start (epoch_of g.J.Live.chained g.J.Service.epoch_end g.J.Service.recovery) l.reporters;
+  cell : l.pass.table_id ≡ g.S.Live.table;
+  left : cell_view l.pass ≡ left_from l.number g.S.Service.start (epoch_of g.S.Live.chained g.S.Service.epoch_end g.S.Service.recovery) l.reporters;
   count : vec_len l.tokens ≡ l.number;
   all : l.number ≤ l.reporters;
   room : l.reporters ≤ vec_capacity l.tokens;

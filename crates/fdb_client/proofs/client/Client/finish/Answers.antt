@@ -5,4 +5,4 @@ use Rattle.fdb_client.proofs.client.Client.finish.Goals as goal
 
 pub returns-clause-settles : goal.returns-clause-settles
 returns-clause-settles g c =
-    begun_anywhere g.J.Service.start c.args.self (subst (Agrees g.J.Service.start) c.self.view_is c.self.invariant.2)
+    begun_anywhere g.S.Service.start c.args.self (subst (Agrees g.S.Service.start) c.self.view_is c.self.invariant.2)

@@ -10,5 +10,5 @@ invariant_of-self-2 g c =
     let before : Account = record { number = c.self.inside.id; begun = c.self.inside.begun; calls = c.self.inside.journal.calls.items; answers = c.self.inside.token.answers; changes = c.self.inside.token.changes } in
     let after : Account = record { number = c.self.inside.id; begun = c.self.inside.begun; calls = c.add.new.self.calls.items; answers = c.learn.new.seen.answers; changes = c.learn.new.seen.changes } in
     let logged : Logs before (Learn c.args.from) Told after = search rules in
-    let agreed = agreed_told g.J.Service.epoch_end g.J.Service.recovery g.J.Service.start before after (c.self.invariant.1, c.self.invariant.2, c.self.invariant.3) (Learn c.args.from) (λ chain. refl) logged in
+    let agreed = agreed_told g.S.Service.epoch_end g.S.Service.recovery g.S.Service.start before after (c.self.invariant.1, c.self.invariant.2, c.self.invariant.3) (Learn c.args.from) (λ chain. refl) logged in
     (search rules, agreed.0, agreed.1, agreed.2)

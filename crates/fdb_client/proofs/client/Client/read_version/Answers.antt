@@ -29,14 +29,14 @@ returns-in-Err-clause-logged g c not_memory =
     let result : Result ReadVersion ClientError = Err c.add_refused.result in
     let added = subst (λ (o : Option Refusal). IfSome o (λ why. c.add_refused.new.self.calls.items ≡ c.reserve.new.self.calls.items ++ record { input = Grv c.in_ok-logged.logged; asked = c.next-own.result.asked; position = c.next-own.result.asked; answer = Refused why } ∷ [])) known c.add_refused.ensures.calls in
     let logged : Logs was (Grv c.in_ok-logged.logged) (Refused cause) after = logs_refused (Grv c.in_ok-logged.logged) cause was after c.self.invariant.1 refl refl (search rules) (search rules) (cc (added, c.reserve.ensures.calls, c.next-own.ensures.asked)) in
-    let reads : Reads g.J.Service.start c.in_ok-logged.logged was after result = record { answer = Refused cause; logged = logged; answered = of c.in_ok-logged.logged; returned = search rules } in
+    let reads : Reads g.S.Service.start c.in_ok-logged.logged was after result = record { answer = Refused cause; logged = logged; answered = of c.in_ok-logged.logged; returned = search rules } in
     reads_alike c.in_ok-logged.ensures.cases c.self.view_is reads
 
 pub invariant_of-self-in-Ok : goal.invariant_of-self-in-Ok
 invariant_of-self-in-Ok g c =
-    let epoch_end = g.J.Service.epoch_end in
-    let recovery = g.J.Service.recovery in
-    let start = g.J.Service.start in
+    let epoch_end = g.S.Service.epoch_end in
+    let recovery = g.S.Service.recovery in
+    let start = g.S.Service.start in
     let was : Account = record { number = c.self.inside.id; begun = c.self.inside.begun; calls = c.self.inside.journal.calls.items; answers = c.self.inside.token.answers; changes = c.self.inside.token.changes } in
     let before : Account = record { number = c.self.inside.id; begun = c.self.inside.begun; calls = c.reserve.new.self.calls.items; answers = c.split-told.new.seen.answers; changes = c.split-told.new.seen.changes } in
     let after : Account = record { number = c.self.inside.id; begun = c.self.inside.begun; calls = c.take_reply.new.journal.calls.items; answers = c.take_reply.new.token.answers; changes = c.take_reply.new.token.changes } in
@@ -50,9 +50,9 @@ invariant_of-self-in-Ok g c =
 
 pub invariant_of-self-in-Err : goal.invariant_of-self-in-Err
 invariant_of-self-in-Err g c =
-    let epoch_end = g.J.Service.epoch_end in
-    let recovery = g.J.Service.recovery in
-    let start = g.J.Service.start in
+    let epoch_end = g.S.Service.epoch_end in
+    let recovery = g.S.Service.recovery in
+    let start = g.S.Service.start in
     let was : Account = record { number = c.self.inside.id; begun = c.self.inside.begun; calls = c.self.inside.journal.calls.items; answers = c.self.inside.token.answers; changes = c.self.inside.token.changes } in
     let after : Account = record { number = c.self.inside.id; begun = c.self.inside.begun; calls = c.add_refused.new.self.calls.items; answers = c.split-told.new.seen.answers; changes = c.split-told.new.seen.changes } in
     let agreed : HasAgreed epoch_end recovery start was = (c.self.invariant.1, c.self.invariant.2, c.self.invariant.3) in

@@ -19,17 +19,17 @@ loop-other-preserved g c =
     let learnt = c.learn.ensures in
     let whole : slice_set others i c.split-told.new.seen ≡ others = ap (slice_set others i) c.split-told.ensures.same ∙ set-get_or others i c.other-item.result in
     let told : IsSeenBy new old = record {
-      changes = subst (λ (t : Sight). IsPrefix t.changes new.changes) c.split-told.ensures.given learnt.told;
-      answers = subst (λ (t : Sight). IsPrefix t.answers new.answers) c.split-told.ensures.given learnt.told_answers;
+      changes = subst (λ (t : Sight). IsPrefix t.changes new.changes) c.split-told.ensures.given learnt.learnt.told;
+      answers = subst (λ (t : Sight). IsPrefix t.answers new.answers) c.split-told.ensures.given learnt.learnt.told_answers;
     } in (
       whole ∙ before.0,
-      learnt.reporter ∙ before.1,
-      prefix_trans _ _ _ before.2 learnt.extends,
+      learnt.seen.reporter ∙ before.1,
+      prefix_trans _ _ _ before.2 learnt.seen.extends,
       λ k token below is. each_below {P = λ _ t. IsSeenBy new t} others i c.other-item.result
-          (λ n t less at. seen_trans new was t (before.3 n t less at) learnt.extends learnt.answers) told k token below (sym (ap (λ l. slice_get l k) whole) ∙ is),
+          (λ n t less at. seen_trans new was t (before.3 n t less at) learnt.seen.extends learnt.seen.answers) told k token below (sym (ap (λ l. slice_get l k) whole) ∙ is),
       learnt.own ∙ before.4,
-      prefix_trans _ _ _ before.5 learnt.answers,
-      learnt.own_answers ∙ before.6,
+      prefix_trans _ _ _ before.5 learnt.seen.answers,
+      learnt.seen.own_answers ∙ before.6,
     )
 
 pub returns-clause-each : goal.returns-clause-each

@@ -19,4 +19,4 @@ returns-clause-no_chain g c = (member_looked c.seen.invariant.2 c.seen.invariant
 
 pub returns-clause-least : goal.returns-clause-least
 returns-clause-least g c =
-    least_grows c.versions_rise.ensures g.J.Service.epoch_end g.J.Service.recovery c.args.seen.now.answers _ (member_looked c.seen.invariant.2 c.seen.invariant.3 c.look-fetched.ensures.looks).legal (search rules)
+    least_grows c.versions_rise.ensures g.S.Service.epoch_end g.S.Service.recovery c.args.seen.now.answers _ (member_looked c.seen.invariant.2 c.seen.invariant.3 c.look-fetched.ensures.looks).legal (search rules)

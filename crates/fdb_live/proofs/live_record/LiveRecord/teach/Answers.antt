@@ -25,10 +25,10 @@ loop-other-preserved g c =
     let begins : IsSeenBy first old = subst (λ (s : Sight). IsSeenBy s old) (sym (c.split-told.ensures.same ∙ before.0)) (c.requires i old here) in
     let told : c.split-told.result.changes ≡ first.changes = ap (λ (s : Sight). s.changes) c.split-told.ensures.given ∙ ap (λ (s : Sight). s.changes) (sym c.split-told.ensures.same) in
     let told_answers : c.split-told.result.answers ≡ first.answers = ap (λ (s : Sight). s.answers) c.split-told.ensures.given ∙ ap (λ (s : Sight). s.answers) (sym c.split-told.ensures.same) in
-    let list : new.changes ≡ first.changes = learnt.longer ∙ (ap (longer old.changes) told ∙ longer_of_prefix old.changes first.changes begins.changes) in
-    let answers : new.answers ≡ first.answers = learnt.longer_answers ∙ (ap (longer old.answers) told_answers ∙ longer_of_prefix old.answers first.answers begins.answers) in
-    let taught : new ≡ record first { reporter = old.reporter } = sight_is new first old.reporter learnt.reporter list answers in
-    let owns : IsOwnKept first old = record { positions = sym (ap own_positions taught) ∙ learnt.own; answers = sym (ap own_answers taught) ∙ learnt.own_answers } in (
+    let list : new.changes ≡ first.changes = learnt.learnt.longer ∙ (ap (longer old.changes) told ∙ longer_of_prefix old.changes first.changes begins.changes) in
+    let answers : new.answers ≡ first.answers = learnt.learnt.longer_answers ∙ (ap (longer old.answers) told_answers ∙ longer_of_prefix old.answers first.answers begins.answers) in
+    let taught : new ≡ record first { reporter = old.reporter } = sight_is new first old.reporter learnt.seen.reporter list answers in
+    let owns : IsOwnKept first old = record { positions = sym (ap own_positions taught) ∙ learnt.own; answers = sym (ap own_answers taught) ∙ learnt.seen.own_answers } in (
       c.split-told.ensures.same ∙ before.0,
       length-set others i new ∙ before.1,
       λ k least. (let other : k ≢ i = omega arith in get_other others i k new other) ∙ before.2 k (omega arith),

@@ -1,6 +1,6 @@
 use Rattle.std.proofs.Common.{sym, subst}
 use Rattle.fdb_history.specs.Issuing.{Chain}
-use Rattle.fdb_live.specs.Holding.{IsClosedWith}
+use Rattle.fdb_live.specs.Gathering.{HasCaughtUp}
 use Rattle.fdb_live.proofs.master.Master.close.Goals as goal
 
 pub returns : goal.returns
@@ -13,7 +13,7 @@ returns g c =
         record {
           one_chain = after.one_chain;
           asked = after.asked;
-          each = λ k token is. subst (λ (chain : Chain). IsClosedWith chain.answers token k c.look_each.new.tokens) (sym c.look_each.ensures.chain) (c.look_each.ensures.each k token is);
+          each = λ k token is. subst (λ (chain : Chain). HasCaughtUp (record token { answers = chain.answers }) token k c.look_each.new.tokens) (sym c.look_each.ensures.chain) (c.look_each.ensures.each k token is);
         },
         sym after.count,
       );

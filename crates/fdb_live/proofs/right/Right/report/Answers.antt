@@ -10,7 +10,7 @@ use Rattle.fdb_live.proofs.right.Right.report.Goals as goal
 
 pub report-ack-requires-clause-issued : goal.report-ack-requires-clause-issued
 report-ack-requires-clause-issued g c =
-    issued_taken (cell_view c.self.inside.pass) c.args.rec c.seen.invariant.3 c.give_all-token.ensures.given.1 c.take.ensures.1 (subst (λ (h : Sight). g.J.Live.chained ≡ true → Contains (versions h.answers) c.args.rec.version) (sym c.seen.view_is) c.requires.drawn)
+    issued_taken (cell_view c.self.inside.pass) c.args.rec c.seen.invariant.3 c.give_all-token.ensures.given.1 c.take.ensures.1 (subst (λ (h : Sight). g.S.Live.chained ≡ true → Contains (versions h.answers) c.args.rec.version) (sym c.seen.view_is) c.requires.drawn)
 
 pub invariant_of-seen : goal.invariant_of-seen
 invariant_of-seen g c =

@@ -7,8 +7,8 @@ use Rattle.fdb_queue.specs.Admission.{IsCause, admitted, below, is_count, is_ful
 use Rattle.fdb_queue.specs.Queue.{Queue}
 use Rattle.fdb_queue.specs.declared.error.QueueError.{QueueError}
 use Rattle.fdb_queue.specs.declared.error.QueueError.TheVariants.{Full}
-use Rattle.fdb_queue.specs.declared.request.Req.{Req}
-use Rattle.fdb_queue.specs.declared.request.TurnedAway.{TurnedAway}
+use Rattle.fdb_queue.specs.declared.waiting.Req.{Req}
+use Rattle.fdb_queue.specs.declared.waiting.TurnedAway.{TurnedAway}
 use Rattle.fdb_proxy.proofs.turn.TimedQueue.offer.Goals.{in-Ok-Some, in-Err}
 use Rattle.fdb_proxy.proofs.turn.TimedQueue.offer.Goals as goal
 
