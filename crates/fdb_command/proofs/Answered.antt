@@ -148,12 +148,6 @@ begun program arguments remaining answer contents before between after (told, pu
       | inr cut ↦ inr (answer.found, answer.refused, inr (record { text = told ++ answer.text.items; printed = printed; cut = cut }))
     ]
 
--- what is printed with a refusal is refused there
-pub refused_besides : {O I E F : Type 0} (program : Promise O I E F) (arguments : List Text) (remaining : Option (List ℕ)) (found : Option F) (refused : Option E) (text : List ℕ)
-    → IsPrinted program arguments remaining found refused text → (error : E) → refused ≡ Some error → MayRefuse program arguments remaining error
-refused_besides program arguments remaining found refused text printed error is =
-    (printed.taken, printed.bytes, printed.read, rw is at printed.refuses)
-
 -- why arguments ask for nothing is told as a fault
 pub told_as : {E F : Type 0} (cause : ArgumentsFault) (made : Failure E F) → (cause ≡ words.Refused → made ≡ Arguments) × (cause ≡ words.Memory → made ≡ Memory) → (made ≡ Arguments) ⊎ (made ≡ Memory)
 told_as words.Refused made told = inl (told.0 refl)

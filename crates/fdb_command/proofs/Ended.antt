@@ -1,7 +1,7 @@
 -- What a program leaves, by what it made of its input.
-use Rattle.std.proofs.Common.{◌≡◌, ◌≢◌, ◌++◌, ℕ, List, Option, None, Some, Result, Ok, Err, inl, inr, refl, subst, sym}
+use Rattle.std.proofs.Common.{◌≡◌, ◌≢◌, ◌++◌, ℕ, List, [], Option, None, Some, Result, Ok, Err, inl, inr, refl, subst, sym}
 use Rattle.std.specs.Prelude.{IfErr}
-use Rattle.clap.specs.Words.{Text}
+use Rattle.clap.specs.Words.{Text, fault_of}
 use Rattle.fdb_command.specs.Arguments.{AsksHelp}
 use Rattle.fdb_command.specs.Driving.{AreRefused, HasAtMostTold, HasBegun, HasFailed, IsPrinted, Leaves, MayFind, MayRefuse, Promise}
 use Rattle.fdb_command.specs.declared.arguments.ArgumentsFault.{ArgumentsFault}
@@ -12,17 +12,14 @@ use Rattle.fdb_command.specs.declared.failure.FileFault.{FileFault}
 use Rattle.fdb_command.specs.declared.program.Output.{Output}
 use Rattle.fdb_command.specs.private.Ending.{IsEnding}
 use Rattle.fdb_command.specs.private.Taking.{IsPut}
-use Rattle.fdb_command.proofs.Answered.{begun, refused_besides, written}
+use Rattle.fdb_command.proofs.Answered.{begun, written}
 
 module _ {O I E F W : Type 0} (program : Promise O I E F) (arguments : List Text) (remaining : Option (List ℕ)) (contents : W → Option (List ℕ)) (before after : W) where
   -- it wrote the text of its answer
   pub answered : (answer : Output E F) (between : W) → (told : List ℕ) × IsPut contents told before between × IsPrinted program arguments remaining answer.found answer.refused (told ++ answer.text.items)
       → (result : Result (Unit {0}) (Failure E F)) → IsEnding answer.text.items answer.found answer.refused (contents between) (contents after) result → Leaves program arguments remaining contents before after result
   answered answer between printed (Ok done) ends = inr (written program arguments remaining answer None None contents before between after printed ends.0 ends.1 ends.2)
-  answered answer between printed (Err (Refused error)) ends = (
-    refused_besides program arguments remaining _ _ _ printed.2 error ends.1,
-    inr (written program arguments remaining answer None (Some error) contents before between after printed ends.0 ends.1 ends.2),
-  )
+  answered answer between printed (Err (Refused error)) ends = inr (written program arguments remaining answer None (Some error) contents before between after printed ends.0 ends.1 ends.2)
   answered answer between printed (Err Arguments) ends = absurd ends
   answered answer between printed (Err Memory) ends = absurd ends
   answered answer between printed (Err (Found found)) ends = inr (answer.refused, written program arguments remaining answer (Some found) answer.refused contents before between after printed ends.0 refl ends.1)
@@ -35,16 +32,16 @@ module _ {O I E F W : Type 0} (program : Promise O I E F) (arguments : List Text
   more (inr told) = inr (inl told)
 
   -- it stopped before it had an answer
-  pub stopped : (fault : Failure E F) → fault ≢ Arguments → ((error : E) → fault ≡ Refused error → MayRefuse program arguments remaining error)
+  pub stopped : fault_of program.app arguments ≡ [] → (fault : Failure E F) → fault ≢ Arguments → ((error : E) → fault ≡ Refused error → MayRefuse program arguments remaining error)
       → ((found : F) → fault ≡ Found found → MayFind program arguments remaining found) → ((file : FileFault) → fault ≡ OwnFile file → program.fails arguments fault)
       → HasAtMostTold program arguments remaining contents before after → Leaves program arguments remaining contents before after (Err fault)
-  stopped (Refused error) own refuses finds fails told = (refuses error refl, inl told)
-  stopped Arguments own refuses finds fails told = absurd (own refl)
-  stopped Memory own refuses finds fails told = told
-  stopped (Found found) own refuses finds fails told = inl (told, finds found refl)
-  stopped Reading own refuses finds fails told = more told
-  stopped Writing own refuses finds fails told = more told
-  stopped (OwnFile file) own refuses finds fails told = (more told, fails file refl)
+  stopped taken (Refused error) own refuses finds fails told = inl (told, refuses error refl)
+  stopped taken Arguments own refuses finds fails told = absurd (own refl)
+  stopped taken Memory own refuses finds fails told = told
+  stopped taken (Found found) own refuses finds fails told = inl (told, finds found refl)
+  stopped taken Reading own refuses finds fails told = (told, taken)
+  stopped taken Writing own refuses finds fails told = more told
+  stopped taken (OwnFile file) own refuses finds fails told = (told, taken, fails file refl)
 
   -- it was asked for help
   pub helped : (result : Result (Unit {0}) (Failure E F)) → AsksHelp program.app arguments → IfErr result (λ fault. fault ≡ Writing) → Leaves program arguments remaining contents before after result
@@ -61,9 +58,9 @@ module _ {O I E F W : Type 0} (program : Promise O I E F) (arguments : List Text
   failing Arguments leaves failed = absurd failed
   failing Memory leaves failed = absurd failed
   failing (Found found) leaves failed = absurd failed
-  failing Reading leaves failed = leaves
+  failing Reading leaves failed = more leaves.0
   failing Writing leaves failed = leaves
-  failing (OwnFile file) leaves failed = leaves.0
+  failing (OwnFile file) leaves failed = more leaves.0
 
 -- its arguments ask for nothing
 pub wrong : {O I E F W : Type 0} (program : Promise O I E F) (arguments : List Text) (remaining : Option (List ℕ)) (contents : W → Option (List ℕ)) (at : W) (cause : ArgumentsFault) (made : Failure E F)

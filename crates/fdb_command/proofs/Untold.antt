@@ -34,8 +34,8 @@ module _ {O I E F R W L : Type 0} (program : Promise O I E F) (remaining : R →
       (λ list both driven.
       let its = map string_bytes list.items in
       elim which [
-        | inl one ↦ elim (driven.refused one).1.1 [
-          | inl told ↦ unchanged program its both.0 (remaining input_before) contents out_before out_after told
+        | inl one ↦ elim (driven.refused one).1 [
+          | inl told ↦ unchanged program its both.0 (remaining input_before) contents out_before out_after told.0
           | inr part ↦ absurd (whole program its both.1 (remaining input_before) (contents out_before) (contents out_after) (driven.refused one).0 part)
         ]
         | inr (inl two) ↦ (driven.wrong two).1

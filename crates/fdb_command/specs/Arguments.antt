@@ -57,10 +57,6 @@ AsksHelp app arguments = IsAmong DisplayHelp (fault_of app arguments) ⊎ IsAmon
 abbrev pub AreWrong : App → List Text → Type 0
 AreWrong app arguments = (kind : _) × (kind ≢ DisplayHelp) × (kind ≢ DisplayVersion) × IsAmong kind (fault_of app arguments)
 
--- the arguments ask for an input or for help
-abbrev pub AreTaken : App → List Text → Type 0
-AreTaken app arguments = (fault_of app arguments ≡ []) ⊎ AsksHelp app arguments
-
 -- the file that has the input; None where standard input has it
 abbrev pub file_named : App → List Text → Option Text
 file_named app arguments = first_of (codes "file") (matches_of app arguments)

@@ -7,7 +7,7 @@ use Rattle.std.specs.declared.io.ErrorKind.TheVariants.{OutOfMemory}
 use Rattle.std.specs.declared.alloc.Global.{Global}
 use Rattle.std.specs.Io.KnownBytes.{Appends}
 use Rattle.clap.specs.Words.{App, Text, fault_of}
-use Rattle.fdb_command.specs.Arguments.{AreTaken, AreWrong, AsksHelp, ReadsInput, file_named}
+use Rattle.fdb_command.specs.Arguments.{AreWrong, AsksHelp, ReadsInput, file_named}
 use Rattle.fdb_command.specs.Input.{MayBeRead, MayBegin, TakesAtMost}
 use Rattle.fdb_command.specs.Output.{TakesAny, TakesSome}
 use Rattle.fdb_command.specs.declared.failure.Failure.{Failure}
@@ -39,9 +39,16 @@ abbrev pub AreRefused : {O I E F : Type 0} → Promise O I E F → List Text →
 AreRefused program arguments = AreWrong program.app arguments
     ⊎ ((fault_of program.app arguments ≡ []) × (program.suits arguments ≡ false))
 
+-- These bytes are refused for this, and no text of them may be printed that tells of that, whatever fault
+-- it tells of besides.
+abbrev pub RefusesAll : {O I E F : Type 0} → Promise O I E F → List Text → List ℕ → E → Type 0
+RefusesAll {O} {I} {E} {F} program arguments bytes error =
+    program.refuses arguments bytes error
+    × ((text : List ℕ) (found : Option F) → program.prints arguments bytes text found (Some error) → ⊥)
+
 -- why a program prints nothing more of these bytes, at these arguments
 abbrev pub Stops : {O I E F : Type 0} → Promise O I E F → List Text → List ℕ → Failure E F → Type 0
-Stops program arguments bytes (Refused error) = program.refuses arguments bytes error
+Stops program arguments bytes (Refused error) = RefusesAll program arguments bytes error
 Stops program arguments bytes Arguments = ⊥
 Stops program arguments bytes Memory = ⊤
 Stops program arguments bytes (Found found) = program.finds arguments bytes found
@@ -177,13 +184,13 @@ IsBegun {O} {I} {E} {F} program arguments remaining before after =
     × (IsWritten program arguments remaining found refused before after
     ⊎ IsCutShort program arguments remaining found refused before after))
 
--- An input is asked for, and what may have been read is refused, whole or in part. Where no file is named and the
--- input's bytes are known, these are refused; of the bytes of a file this says nothing.
+-- An input is asked for, and what may have been read is refused, so that no text tells of that. Where no file is
+-- named and the input's bytes are known, these are refused; of the bytes of a file this says nothing.
 abbrev pub MayRefuse : {O I E F : Type 0} → Promise O I E F → List Text → Option (List ℕ) → E → Type 0
 MayRefuse program arguments remaining error =
     (fault_of program.app arguments ≡ []) × (bytes : List ℕ)
     × MayBeRead (file_named program.app arguments) remaining bytes
-    × program.refuses arguments bytes error
+    × RefusesAll program arguments bytes error
 
 -- The same, where a fault is found in what may have been read.
 abbrev pub MayFind : {O I E F : Type 0} → Promise O I E F → List Text → Option (List ℕ) → F → Type 0
@@ -192,14 +199,13 @@ MayFind program arguments remaining found =
     × MayBeRead (file_named program.app arguments) remaining bytes
     × program.finds arguments bytes found
 
--- What may have been read is refused for this, whole or in part. At most what was told was written; or
--- a whole text, which tells of this refusal and of no fault.
+-- Either what may have been read is refused for this, and at most what was told was written; or a part of
+-- it is, and a whole text was written, which tells of this refusal and of no fault.
 abbrev pub IsRefused : {O I E F W : Type 0} → Promise O I E F → List Text → Option (List ℕ) → E
     → (W → Option (List ℕ)) → W → W → Type 0
 IsRefused program arguments remaining error contents before after =
-    MayRefuse program arguments remaining error
-    × (HasAtMostTold program arguments remaining contents before after
-    ⊎ IsPartial program arguments remaining error (contents before) (contents after))
+    (HasAtMostTold program arguments remaining contents before after × MayRefuse program arguments remaining error)
+    ⊎ IsPartial program arguments remaining error (contents before) (contents after)
 
 -- Either the program stops with this fault, and at most what was told was written; or a text that tells
 -- of it was written, whole.
@@ -241,11 +247,17 @@ Leaves program arguments remaining contents before after (Err Memory) =
 Leaves program arguments remaining contents before after (Err (Found found)) =
     IsFound program arguments remaining found contents before after
 Leaves program arguments remaining contents before after (Err Reading) =
-    HasBegun program arguments remaining contents before after
+    HasAtMostTold program arguments remaining contents before after × (fault_of program.app arguments ≡ [])
 Leaves program arguments remaining contents before after (Err Writing) =
     HasBegun program arguments remaining contents before after
 Leaves program arguments remaining contents before after (Err (OwnFile file)) =
-    HasBegun program arguments remaining contents before after × program.fails arguments (OwnFile file)
+    HasAtMostTold program arguments remaining contents before after × (fault_of program.app arguments ≡ [])
+    × program.fails arguments (OwnFile file)
+
+-- the arguments ask for an input, and suit the program, or for help
+abbrev pub AreTaken : {O I E F : Type 0} → Promise O I E F → List Text → Type 0
+AreTaken program arguments =
+    ((fault_of program.app arguments ≡ []) × (program.suits arguments ≡ true)) ⊎ AsksHelp program.app arguments
 
 -- What a program has done that was given these arguments and ended with this result. The line that
 -- says why is not written yet. `remaining` says what a reader has left, and `contents` what a writer
@@ -254,7 +266,7 @@ pub record HasEnded {O I E F R W L : Type 0} (program : Promise O I E F) (argume
     (remaining : R → Option (List ℕ)) (contents : W → Option (List ℕ))
     (input_before input_after : R) (out_before out_after : W) (err_before err_after : L)
     (result : Result (Unit {0}) (Failure E F)) : Type 0 where
-  pub asked : result ≢ Err Arguments → result ≢ Err Memory → AreTaken program.app arguments
+  pub asked : result ≢ Err Arguments → result ≢ Err Memory → AreTaken program arguments
   pub leaves : Leaves program arguments (remaining input_before) contents out_before out_after result
   pub untaken : result ≡ Err Arguments → input_after ≡ input_before
   pub left : (ReadsInput program.app arguments → ⊥) → input_after ≡ input_before
@@ -274,7 +286,7 @@ pub record IsDrivenBy {O I E F R W L : Type 0} (program : Promise O I E F) (argu
     (remaining : R → Option (List ℕ)) (contents : W → Option (List ℕ))
     (input_before input_after : R) (out_before out_after : W) (err_before err_after : L)
     (status : ℕ) : Type 0 where
-  pub asked : status ≢ 2 → status ≢ 3 → AreTaken program.app arguments
+  pub asked : status ≢ 2 → status ≢ 3 → AreTaken program arguments
   pub done : status ≡ 0
       → IsDone program arguments (remaining input_before) (contents out_before) (contents out_after)
   pub refused : status ≡ 1 → (error : E)

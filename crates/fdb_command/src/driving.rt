@@ -13,16 +13,15 @@ ghost use Rattle.fdb_command.specs.Driving.{TellsNothing, TellsProgress, Warns};
 ghost use Rattle.fdb_command.specs.private.Taking.{IsPut};
 
 use crate::arguments::{ArgumentsFault, Invocation, file_of, parse};
-use crate::ending::put;
 use crate::failure::{Failure, FileFault};
 use crate::intake::Taker;
+use crate::output::put;
 use crate::program::{Output, Program};
 use clap::{ArgMatches, Error};
 use std::alloc::Global;
 use std::fmt::{Debug, Display};
 use std::fs::{File, Files};
-use std::io;
-use std::io::{ErrorKind, Read, Write};
+use std::io::{self, ErrorKind, Read, Write};
 use std::time::Clock;
 
 /// What the body of a program makes: an answer, or the fault at which it stops.
@@ -116,17 +115,27 @@ where
     ensures given { IfOk arguments (λ list. HasEnded P.promise (map string_bytes list.items)
         I.remaining O.contents input.old input.new out.old out.new err.old err.new result) }
     ensures missing { IfErr arguments (λ error.
-        IsMissing error result × (input.new ≡ input.old) × (out.new ≡ out.old)) }
+        IsMissing error result × (input.new ≡ input.old) × (out.new ≡ out.old)
+        × (err.new ≡ err.old)) }
 {
-    let run = Run {
-        program,
-        rt,
-        alloc,
-        body,
+    let arguments = match arguments {
+        Ok(arguments) => arguments,
+        Err(error) => return Err(Failure::from(ArgumentsFault::from(error))),
     };
-    match arguments {
-        Ok(arguments) => run.do_asked(&arguments, input, out, err),
-        Err(error) => Err(Failure::from(ArgumentsFault::from(error))),
+    match asked(program, alloc, &arguments)? {
+        Request::Help(help) => show(&help, out),
+        Request::Input(matches, options) => {
+            let run = Run {
+                program,
+                rt,
+                alloc,
+                body,
+            };
+            match run.answer_of(&matches, options, input, out, err) {
+                Ok(answer) => put(answer, out, err),
+                Err(fault) => Err(fault),
+            }
+        }
     }
 }
 
@@ -145,48 +154,6 @@ where
     R: Files<File = File> + Clock,
     B: FnOnce(P::Options, P::Intake) -> Made<P> + Drop,
 {
-    /// Does what these arguments ask for, and flushes what was written.
-    fn do_asked<I: Read, O: Write, E: Write>(
-        self,
-        arguments: &[String],
-        input: &mut I,
-        out: &mut O,
-        err: &mut E,
-    ) -> Result<(), Failure<P::Refusal, P::Finding>>
-        requires callable { IsCallable P.promise (B.pre self.body) }
-        requires promised { KeepsPromise P.promise (B.post self.body) }
-        ensures { HasEnded P.promise (map string_bytes arguments.now)
-            I.remaining O.contents input.old input.new out.old out.new err.old err.new result }
-    {
-        match asked(self.program, self.alloc, arguments)? {
-            Request::Help(help) => show(&help, out),
-            Request::Input(matches, options) => self.run_on(&matches, options, input, out, err),
-        }
-    }
-
-    /// Has the program run on what the arguments name, and writes its text.
-    fn run_on<I: Read, O: Write, E: Write>(
-        self,
-        matches: &ArgMatches<'_>,
-        options: P::Options,
-        input: &mut I,
-        out: &mut O,
-        err: &mut E,
-    ) -> Result<(), Failure<P::Refusal, P::Finding>>
-        requires callable { IsCallable P.promise (B.pre self.body) }
-        requires promised { KeepsPromise P.promise (B.post self.body) }
-        requires matches { (arguments : List Text)
-            × AskBy P.promise arguments matches.now options }
-        ensures { (arguments : List Text) → AskBy P.promise arguments matches.now options
-            → HasEnded P.promise arguments
-            I.remaining O.contents input.old input.new out.old out.new err.old err.new result }
-    {
-        match self.answer_of(matches, options, input, out, err) {
-            Ok(answer) => put(answer, out, err),
-            Err(fault) => Err(fault),
-        }
-    }
-
     /// What the program makes of the file that the arguments name, or else of the input, behind
     /// what it told of that, which is written.
     fn answer_of<I: Read, O: Write, E: Write>(

@@ -1,8 +1,10 @@
 //! All bytes of a file or of the input, as a program takes them.
 
-ghost use Rattle.std.specs.Prelude.{◌≡◌, ◌⊎◌, ◌+◌, ◌<◌, ◌≤◌, List, [], IfOk, IfErr, IsErrAnd};
-ghost use Rattle.std.specs.Prelude.{None, OnErr, OnOk, false, is_some, length, option_map, true};
-ghost use Rattle.std.specs.Io.KnownBytes.{IsAtEnd};
+ghost use Rattle.std.specs.Prelude.{◌≡◌, ◌⊎◌, ◌+◌, ◌<◌, ◌≤◌, List, [], IfOk, IfErr, IsErrAnd, None};
+ghost use Rattle.std.specs.Prelude.{OnErr, OnOk, false, is_some, length, option_map, true, ◌≢◌};
+ghost use Rattle.std.specs.Prelude.{Some, Ok, MatchOption, take};
+ghost use Rattle.std.specs.Io.KnownBytes.{IsAtEnd, Consumes, Keeps};
+ghost use Rattle.std.specs.IoError.{error_kind};
 ghost use Rattle.clap.specs.Words.{Text};
 ghost use Rattle.fdb_command.specs.Input.{IsCauseOf, TakesAtMost};
 ghost use Rattle.fdb_command.specs.Driving.{StopsAnyhow, TellsOf};
@@ -11,14 +13,12 @@ ghost use Rattle.fdb_command.specs.private.Taking.{IsFailure, IsPut, IsTaken, Ma
 ghost use Rattle.fdb_command.specs.private.Taking.{TakesOn, TellsLast, TellsOn};
 
 use crate::failure::{Failure, unread};
-use crate::input::read_piece;
 use crate::output::{warn, write_flushed};
 use crate::program::{Program, Told};
 use std::alloc::Global;
 use std::fmt::{Debug, Display};
 use std::fs::{File, Files};
-use std::io;
-use std::io::{Read, Write};
+use std::io::{self, ErrorKind, Read, Write};
 use std::time::Clock;
 
 /// The most bytes that one read asks for.
@@ -308,4 +308,43 @@ fn room_at(read: u64, most: u64) -> usize
 {
     let room = (most - read).saturating_add(1).min(STRIDE - read % STRIDE);
     room.min(PIECE as u64) as usize
+}
+
+/// Reads once, into the room. Answers how many bytes came, none only at the end of the input; and
+/// `None` where the read was interrupted, and is to be tried again.
+pub(crate) fn read_piece<I: Read, E: Debug + Display + Drop, F: Debug + Display + Drop>(
+    input: &mut I,
+    room: &mut [u8],
+) -> Result<Option<usize>, Failure<E, F>>
+    requires { 0 < length room.old }
+    ensures came { IfOk result (λ came. MatchOption came
+        (Keeps (I.remaining input.old) (I.remaining input.new))
+        (λ count. (count ≤ length room.new)
+        × Consumes (I.remaining input.old) (I.remaining input.new) (take count room.new)
+        × (count ≡ 0 → IsAtEnd (I.remaining input.new)))) }
+    ensures failed { OnErr result (Keeps (I.remaining input.old) (I.remaining input.new)) }
+    ensures kinds { IfErr result
+        (λ fault. (fault ≡ Failure.Reading) ⊎ (fault ≡ Failure.Memory)) }
+    ensures room { length room.new ≡ length room.old }
+{
+    count_read(input.read(room))
+}
+
+/// How many bytes a read gave; `None` where it was interrupted, and is to be tried again.
+fn count_read<E: Debug + Display + Drop, F: Debug + Display + Drop>(
+    read: io::Result<usize>,
+) -> Result<Option<usize>, Failure<E, F>>
+    ensures came { IfOk read (λ count. result ≡ Ok (Some count)) }
+    ensures interrupted { IfErr read (λ error. error_kind error ≡ ErrorKind.Interrupted
+        → result ≡ Ok None) }
+    ensures failed { IfErr read (λ error. error_kind error ≢ ErrorKind.Interrupted
+        → IsErrAnd result (IsCauseOf error)) }
+    ensures kinds { IfErr result
+        (λ fault. (fault ≡ Failure.Reading) ⊎ (fault ≡ Failure.Memory)) }
+{
+    match read {
+        Ok(count) => Ok(Some(count)),
+        Err(error) if error.kind() == ErrorKind::Interrupted => Ok(None),
+        Err(error) => Err(unread(error)),
+    }
 }

@@ -5,9 +5,7 @@
 
 mod arguments;
 mod driving;
-mod ending;
 mod failure;
-mod input;
 mod intake;
 mod output;
 mod program;

@@ -1,14 +1,17 @@
-//! All of some bytes, to a writer that may take them in parts.
+//! What is written: all of some bytes, to a writer that may take them in parts, and the text of an
+//! answer, with the fault that it tells of.
 
 ghost use Rattle.std.specs.Prelude.{◌≡◌, ◌≢◌, ◌<◌, ◌≤◌, [], OnOk, OnErr, IfOk, IfErr, Ok, Err};
-ghost use Rattle.std.specs.Prelude.{IsErrAnd};
-ghost use Rattle.std.specs.Prelude.{length, take};
+ghost use Rattle.std.specs.Prelude.{IsErrAnd, length, take, ℕ, List, Option};
 ghost use Rattle.std.specs.Io.KnownBytes.{Appends, Keeps};
 ghost use Rattle.std.specs.IoError.{error_kind};
 ghost use Rattle.fdb_command.specs.Output.{TakesAny, TakesSome};
+ghost use Rattle.fdb_command.specs.private.Ending.{IsEnding};
 
-use std::io;
-use std::io::{Error, ErrorKind, Write};
+use crate::failure::Failure;
+use crate::program::Output;
+use std::fmt::{Debug, Display};
+use std::io::{self, Error, ErrorKind, Write};
 
 /// Writes all of these bytes. A writer that fails is not called again. Any error but an
 /// interruption is a failure, and so is a write that takes no byte.
@@ -44,7 +47,8 @@ pub(crate) fn write_flushed<W: Write>(writer: &mut W, lines: &[u8]) -> io::Resul
 
 /// Writes lines, if there are some. Where they cannot be written, nothing changes.
 pub(crate) fn warn<W: Write>(lines: &[u8], err: &mut W)
-    ensures { lines.now ≡ [] → err.new ≡ err.old }
+    ensures taken { TakesAny lines.now (W.contents err.old) (W.contents err.new) }
+    ensures quiet { lines.now ≡ [] → err.new ≡ err.old }
 {
     if !lines.is_empty() {
         let _ = write_flushed(err, lines);
@@ -78,5 +82,47 @@ fn count_written(written: io::Result<usize>) -> io::Result<usize>
         Ok(count) => Ok(count),
         Err(error) if error.kind() == ErrorKind::Interrupted => Ok(0),
         Err(error) => Err(error),
+    }
+}
+
+/// Writes what an answer says is left out to `err`, and then its text to `out`, whole, which is
+/// flushed. Fails with the fault that it tells of, where it tells of one,
+/// and else as a part of the input was refused, if one was.
+pub(crate) fn put<E: Debug + Display + Drop, F: Debug + Display + Drop, W: Write, X: Write>(
+    answer: Output<E, F>,
+    out: &mut W,
+    err: &mut X,
+) -> Result<(), Failure<E, F>>
+    ensures ended { IsEnding answer.text.items answer.found answer.refused
+        (W.contents out.old) (W.contents out.new) result }
+    ensures warned { TakesAny answer.warnings.items (X.contents err.old) (X.contents err.new) }
+    ensures quiet { answer.warnings.items ≡ [] → err.new ≡ err.old }
+{
+    let Output {
+        text,
+        warnings,
+        found,
+        refused,
+    } = answer;
+    warn(&warnings, err);
+    match write_flushed(out, &text) {
+        Ok(()) => ended(found, refused),
+        Err(_) => Err(Failure::Writing),
+    }
+}
+
+/// How a program ends whose text is written: with the fault that was found, or else as a part of the
+/// input was refused.
+fn ended<E: Debug + Display + Drop, F: Debug + Display + Drop>(
+    found: Option<F>,
+    refused: Option<E>,
+) -> Result<(), Failure<E, F>>
+    ensures { (text : List ℕ) → (before after : Option (List ℕ)) → Appends before after text
+        → IsEnding text found refused before after result }
+{
+    match (found, refused) {
+        (Some(found), _) => Err(Failure::Found(found)),
+        (None, Some(error)) => Err(Failure::Refused(error)),
+        (None, None) => Ok(()),
     }
 }

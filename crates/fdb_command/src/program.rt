@@ -1,6 +1,7 @@
 //! What each program gives of its own, over which the driver runs.
 
-ghost use Rattle.std.specs.Prelude.{◌≡◌, ◌++◌, ℕ, List, [], IfOk, IfErr, false, is_some, true};
+ghost use Rattle.std.specs.Prelude.{◌≡◌, ◌++◌, ℕ, List, [], IfOk, IfErr, OnOk, false, is_some};
+ghost use Rattle.std.specs.Prelude.{true};
 ghost use Rattle.clap.specs.Faults.{is_simple_and_free};
 ghost use Rattle.clap.specs.Words.{Text, app_of};
 ghost use Rattle.fdb_command.specs.Arguments.{AreMatches};
@@ -39,8 +40,8 @@ pub struct Told<T: Drop> {
     pub warnings: Vec<u8>,
 }
 
-/// A program that reads a file or its input, and prints a text, of which it may tell a part while it
-/// reads. What it makes of all of the input is no method, but a closure that
+/// A program that reads a file or its input, and prints a text, of which it may tell a part while
+/// it reads. What it makes of all of the input is no method, but a closure that
 /// [`drive`](crate::drive) is given, since a closure may start threads.
 pub trait Program {
     /// What its flags say, which its body is given.
@@ -80,6 +81,8 @@ pub trait Program {
         requires { (arguments : List Text) × AreMatches promise.app arguments matches.now }
         ensures said { (arguments : List Text) → AreMatches promise.app arguments matches.now
             → IfOk result (promise.asks arguments) }
+        ensures suited { (arguments : List Text) → AreMatches promise.app arguments matches.now
+            → OnOk result (promise.suits arguments ≡ true) }
         ensures refused { (arguments : List Text) → AreMatches promise.app arguments matches.now
             → IfErr result (λ fault. fault ≡ ArgumentsFault.Refused
             → promise.suits arguments ≡ false) };
@@ -116,7 +119,8 @@ pub trait Program {
 
     /// What is to be told of what the intake has taken, before more is read, and what is to be said
     /// on standard error of what is left out. `is_idle`: the last read gave fewer bytes than it was
-    /// asked for, so that no more may come for a while. A program that leaves this out tells nothing.
+    /// asked for, so that no more may come for a while. A program that leaves this out tells
+    /// nothing.
     fn tell<R: Files + Clock>(
         &self,
         rt: &R,
@@ -140,9 +144,9 @@ pub trait Program {
         })
     }
 
-    /// Keeps elsewhere what the program is to go on from later, where it does. It is called when what
-    /// was told has been written and flushed, before more is read. A program that leaves this out
-    /// keeps nothing.
+    /// Keeps elsewhere what the program is to go on from later, where it does. It is called when
+    /// what was told has been written and flushed, before more is read. A program that leaves this
+    /// out keeps nothing.
     fn keep<R: Files + Clock>(
         &self,
         rt: &R,

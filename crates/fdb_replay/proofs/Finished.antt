@@ -2,9 +2,10 @@
 use Rattle.std.proofs.Common.{◌≡◌, ℕ, suc, ◌+◌, ◌<◌, List, [], ◌∷◌, Some, length, replicate, refl, ap, sym, ◌∙◌, subst, arith, zero, map}
 use Rattle.std.specs.List.{slice_get}
 use Rattle.std.specs.Option.{option_map}
+use Rattle.std.proofs.lemmas.List.{length-map}
 use Rattle.std.proofs.lemmas.Option.{slice_get-map, slice_get_within}
 use Rattle.fdb_client.specs.Account.{Account, new_account}
-use Rattle.fdb_client.specs.Settling.{HaveNumbers, logs_of}
+use Rattle.fdb_client.specs.Settling.{AreAllInPlace, HaveNumbers, logs_of}
 use Rattle.fdb_replay.specs.private.Rounds.{numbers_of}
 
 -- ---- new clients
@@ -46,9 +47,6 @@ module _ (clients : List Account) (n : ℕ) (count : n ≡ length clients) (new 
       let this : client ≡ new_account k [] [] = cc in
       ap (λ one. one.number) this
 
-pub none_in_order : HaveNumbers []
-none_in_order k client is = absurd cc
-
 -- ---- numbers
 
 at_map : {X Y : Type 0} (f : X → Y) (xs : List X) (k : ℕ) (y : Y) → slice_get (map f xs) k ≡ Some y → (x : X) × (slice_get xs k ≡ Some x) × (f x ≡ y)
@@ -56,10 +54,18 @@ at_map f [] k y is = absurd cc
 at_map f (x ∷ xs) zero y is = (x, refl, cc)
 at_map f (x ∷ xs) (suc k) y is = at_map f xs k y is
 
--- who keep their numbers stay in order
-pub numbers_kept : (before after : List Account) → numbers_of after ≡ numbers_of before → HaveNumbers before → HaveNumbers after
+numbers_kept : (before after : List Account) → numbers_of after ≡ numbers_of before → HaveNumbers before → HaveNumbers after
 numbers_kept before after same have k client is =
     let number = λ (one : Account). one.number in
     let there : slice_get (numbers_of before) k ≡ Some client.number = ap (λ numbers. slice_get numbers k) (sym same) ∙ slice_get-map number after k ∙ ap (option_map number) is in
     let was = at_map number before k client.number there in
     sym was.2 ∙ have k was.0 was.1
+
+-- who keep their numbers stay in place
+pub still_in_place : (n : ℕ) (before after : List Account) → numbers_of after ≡ numbers_of before → AreAllInPlace n before → AreAllInPlace n after
+still_in_place n before after same were =
+    let number = λ (one : Account). one.number in
+    record {
+      count = sym (length-map after number) ∙ ap length same ∙ length-map before number ∙ were.count;
+      numbers = numbers_kept before after same were.numbers;
+    }

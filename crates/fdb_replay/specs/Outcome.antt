@@ -20,7 +20,7 @@ opening recovery = record { version = recovery; locked = false; metadata = None;
 -- The outcome is that of a run of the script: its logs answer the script, and one chain and one
 -- register explain them.
 pub record IsRunOf (plan : Plan) (outcome : Outcome) : Type 0 where
-  -- each client did its commands, in their order, learnt what others told it, and did nothing else
+  -- each client did its commands, in their order, learnt what others told it, and logged no other call
   pub answers : Answers plan outcome.logs.items
   -- the commit versions are one chain, without gap or fork
   pub one_chain : IsChain plan.setup.epoch_end plan.setup.recovery outcome.chain.items

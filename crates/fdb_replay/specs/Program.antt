@@ -27,7 +27,7 @@ proxies_named arguments =
     (one_of (codes "proxies") (matches_of command arguments)) 1
 
 -- what the flags say: so many proxies, and whether the history is written too
-pub record IsAsked (arguments : List Text) (opts : ReplayOpts) : Type 0 where
+pub record AskFor (arguments : List Text) (opts : ReplayOpts) : Type 0 where
   pub proxies : opts.proxies ≡ proxies_named arguments
   pub history : opts.with_history ≡ is_set (codes "history") command arguments
 
@@ -40,7 +40,7 @@ replay = record {
   app = command;
   most = MAX_SCRIPT_BYTES;
   suits = λ arguments. true;
-  asks = IsAsked;
+  asks = AskFor;
   tells = λ arguments. false;
   warns = λ arguments. false;
   fails = λ arguments fault. ⊥;

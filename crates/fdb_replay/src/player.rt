@@ -21,14 +21,14 @@ use std::sync::Wait;
 ///
 /// Contracts see it as who is told, who tells, and the position that the teller had come to.
 #[derive(Drop)]
-pub(crate) struct Tell<J: Live> {
+pub(crate) struct Tell<S: Live> {
     pub(crate) to: u32,
     pub(crate) from: u32,
     /// What the teller had seen, as a token with no number.
-    pub(crate) seen: Seen<J>,
+    pub(crate) seen: Seen<S>,
 }
 
-impl<J: Live> Model for Tell<J> {
+impl<S: Live> Model for Tell<S> {
     ghost use Rattle.std.specs.Prelude.{◌≡◌, None, length};
     ghost use Rattle.fdb_replay.specs.private.Rounds.{Tell};
 
@@ -40,9 +40,9 @@ impl<J: Live> Model for Tell<J> {
     ghost invariant = { λ tell. tell.seen.reporter ≡ None };
 }
 
-impl<J: Live> Tell<J> {
+impl<S: Live> Tell<S> {
     /// One client told another what it had seen.
-    pub(crate) fn new(from: u32, to: u32, seen: Seen<J>) -> Self
+    pub(crate) fn new(from: u32, to: u32, seen: Seen<S>) -> Self
         requires { seen.reporter ≡ None }
         ensures { result ≡ record { to = to; from = from; position = length seen.changes } }
     {
@@ -52,22 +52,22 @@ impl<J: Live> Tell<J> {
 
 /// What the clients of a run call, and the gate that their calls pass.
 #[derive(Drop)]
-pub(crate) struct Routing<'a, J: Live, G: Gate> {
-    pub(crate) cluster: &'a Cluster<'a, J>,
+pub(crate) struct Routing<'a, S: Live, G: Gate> {
+    pub(crate) cluster: &'a Cluster<'a, S>,
     pub(crate) gate: &'a G,
 }
 
-impl<'a, J: Live, G: Gate> Routing<'a, J, G> {
+impl<'a, S: Live, G: Gate> Routing<'a, S, G> {
     /// The desk for a client's next read, where it has made so many before. (no clause can tell one
     /// desk from another: that of `desk_at` says which is taken)
-    pub(crate) fn desk(&self, client: &Client<'_, J>, reads: u64) -> &Desk<J>
+    pub(crate) fn desk(&self, client: &Client<'_, S>, reads: u64) -> &Desk<S>
         requires { reads ≡ reads_of client.now.calls }
     {
         self.desk_at(self.route(client.number(), reads), client)
     }
 
     /// The desk with this number, which is that for the client's next read.
-    fn desk_at(&self, number: u32, client: &Client<'_, J>) -> &Desk<J>
+    fn desk_at(&self, number: u32, client: &Client<'_, S>) -> &Desk<S>
         requires { number ≡ desk_for self.now.cluster.now.config.grv_proxies
             client.now.number (reads_of client.now.calls) }
     {
@@ -90,13 +90,13 @@ impl<'a, J: Live, G: Gate> Routing<'a, J, G> {
 ///
 /// Contracts see it as the client that it is.
 #[derive(Drop)]
-pub(crate) struct Player<'a, J: Live> {
-    client: Client<'a, J>,
+pub(crate) struct Player<'a, S: Live> {
+    client: Client<'a, S>,
     /// How many of its calls are reads.
     reads: u64,
 }
 
-impl<'a, J: Live> Model for Player<'a, J> {
+impl<'a, S: Live> Model for Player<'a, S> {
     ghost use Rattle.std.specs.Prelude.{◌≡◌};
     ghost use Rattle.fdb_client.specs.Account.{Account};
     ghost use Rattle.fdb_replay.specs.private.Routing.{reads_of};
@@ -109,9 +109,9 @@ impl<'a, J: Live> Model for Player<'a, J> {
         × (player.reads ≡ reads_of player.client.calls) };
 }
 
-impl<'a, J: Live> Player<'a, J> {
+impl<'a, S: Live> Player<'a, S> {
     /// A client that has called nobody yet.
-    pub(crate) fn new(client: Client<'a, J>) -> Self
+    pub(crate) fn new(client: Client<'a, S>) -> Self
         requires begun { client.begun ≡ 0 }
         requires calls { client.calls ≡ [] }
         ensures { result ≡ client.entry }
@@ -119,7 +119,7 @@ impl<'a, J: Live> Player<'a, J> {
         Player { client, reads: 0 }
     }
 
-    pub(crate) fn into_client(self) -> Client<'a, J>
+    pub(crate) fn into_client(self) -> Client<'a, S>
         ensures { result ≡ self.entry }
     {
         let Player { client, reads: _ } = self;
@@ -131,10 +131,10 @@ impl<'a, J: Live> Player<'a, J> {
     pub(crate) fn perform<R: Wait, G: Gate>(
         &mut self,
         rt: &R,
-        routing: &Routing<'_, J, G>,
+        routing: &Routing<'_, S, G>,
         number: u32,
         act: &Act,
-        tells: &mut Vec<Tell<J>>,
+        tells: &mut Vec<Tell<S>>,
     ) -> Result<(), AllocError>
         ensures ok { OnOk result (CallsOnce self.old (input_of self.old.calls act.now) self.new) }
         ensures told { OnOk result
@@ -142,8 +142,12 @@ impl<'a, J: Live> Player<'a, J> {
     {
         match act {
             Act::Grv(opts) => self.read(rt, routing, opts),
-            Act::Ask { processed, at } => self.ask(rt, routing, *processed, *at),
-            Act::Reask { num, processed, at } => self.reask(rt, routing, *num, *processed, *at),
+            Act::Ask { processed, at } => {
+                unless_out_of_memory(self.client.ask(rt, routing.gate, *processed, *at))
+            }
+            Act::Reask { num, processed, at } => {
+                unless_out_of_memory(self.client.reask(rt, routing.gate, *num, *processed, *at))
+            }
             Act::Report {
                 num,
                 locked,
@@ -158,7 +162,7 @@ impl<'a, J: Live> Player<'a, J> {
     fn read<R: Wait, G: Gate>(
         &mut self,
         rt: &R,
-        routing: &Routing<'_, J, G>,
+        routing: &Routing<'_, S, G>,
         opts: &GrvOpts,
     ) -> Result<(), AllocError>
         ensures { OnOk result (CallsOnce self.old (input.Grv opts.now) self.new) }
@@ -176,36 +180,10 @@ impl<'a, J: Live> Player<'a, J> {
         unless_out_of_memory(answer)
     }
 
-    fn ask<R: Wait, G: Gate>(
-        &mut self,
-        rt: &R,
-        routing: &Routing<'_, J, G>,
-        processed: u64,
-        at: u64,
-    ) -> Result<(), AllocError>
-        ensures { OnOk result (CallsOnce self.old
-            (input.Ask (length (fresh_answers self.old.calls) + 1) processed at) self.new) }
-    {
-        unless_out_of_memory(self.client.ask(rt, routing.gate, processed, at))
-    }
-
-    fn reask<R: Wait, G: Gate>(
-        &mut self,
-        rt: &R,
-        routing: &Routing<'_, J, G>,
-        num: u64,
-        processed: u64,
-        at: u64,
-    ) -> Result<(), AllocError>
-        ensures { OnOk result (CallsOnce self.old (input.Ask num processed at) self.new) }
-    {
-        unless_out_of_memory(self.client.reask(rt, routing.gate, num, processed, at))
-    }
-
     fn report<R: Wait, G: Gate>(
         &mut self,
         rt: &R,
-        routing: &Routing<'_, J, G>,
+        routing: &Routing<'_, S, G>,
         num: u64,
         locked: bool,
         metadata: Option<[u8; 10]>,
@@ -221,7 +199,7 @@ impl<'a, J: Live> Player<'a, J> {
     }
 
     /// Tells another what it has seen, which is learnt when the round is over.
-    fn tell(&mut self, number: u32, to: u32, tells: &mut Vec<Tell<J>>) -> Result<(), AllocError>
+    fn tell(&mut self, number: u32, to: u32, tells: &mut Vec<Tell<S>>) -> Result<(), AllocError>
         ensures ok { OnOk result (CallsOnce self.old (input.Tell to) self.new) }
         ensures told { OnOk result
             (tells.new.items ≡ tells.old.items ++ tells_since number self.old self.new) }
@@ -234,7 +212,7 @@ impl<'a, J: Live> Player<'a, J> {
     }
 
     /// Learns what another told it, and logs that as a call. It fails for memory alone.
-    pub(crate) fn learn<R: Wait>(&mut self, rt: &R, tell: Tell<J>) -> Result<(), AllocError>
+    pub(crate) fn learn<R: Wait>(&mut self, rt: &R, tell: Tell<S>) -> Result<(), AllocError>
         ensures number { OnOk result (self.new.number ≡ self.old.number) }
         ensures learnt { OnOk result (self.new.calls ≡ learns self.old.calls
             (record { teller = tell.from; position = tell.position })) }

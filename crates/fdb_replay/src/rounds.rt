@@ -77,21 +77,21 @@ fn acts_in(commands: &[Command]) -> [bool; CLIENTS]
 
 /// A round that is played: what runs it, what serves it, and what is done in it.
 #[derive(Drop)]
-struct Playing<'r, R, J: Live, G: Gate> {
+struct Playing<'r, R, S: Live, G: Gate> {
     rt: &'r R,
     alloc: Global,
-    routing: &'r Routing<'r, J, G>,
+    routing: &'r Routing<'r, S, G>,
     round: Round<'r>,
 }
 
 /// Plays rounds, one after another. Where memory runs out, the clients are lost.
-pub(crate) fn play_rounds<'a, J: Live + Send + Sync, R: Threads + Wait + Sync, G: Gate>(
+pub(crate) fn play_rounds<'a, S: Live + Send + Sync, R: Threads + Wait + Sync, G: Gate>(
     rt: &R,
     alloc: Global,
-    routing: &Routing<'_, J, G>,
-    mut clients: Vec<Player<'a, J>>,
+    routing: &Routing<'_, S, G>,
+    mut clients: Vec<Player<'a, S>>,
     rounds: &[Sequence<Command>],
-) -> Result<Vec<Player<'a, J>>, AllocError>
+) -> Result<Vec<Player<'a, S>>, AllocError>
     requires few { length clients.items ≤ MAX_CLIENTS }
     ensures ok { IfOk result (λ after.
         FoldsTo AnswersRound (logs_of clients.entry.items) rounds.now (logs_of after.items)) }
@@ -105,13 +105,13 @@ pub(crate) fn play_rounds<'a, J: Live + Send + Sync, R: Threads + Wait + Sync, G
 }
 
 /// Plays a round. What was told in it is learnt at its end.
-fn play_round<'a, J: Live + Send + Sync, R: Threads + Wait + Sync, G: Gate>(
+fn play_round<'a, S: Live + Send + Sync, R: Threads + Wait + Sync, G: Gate>(
     rt: &R,
     alloc: Global,
-    routing: &Routing<'_, J, G>,
-    clients: Vec<Player<'a, J>>,
+    routing: &Routing<'_, S, G>,
+    clients: Vec<Player<'a, S>>,
     commands: &[Command],
-) -> Result<Vec<Player<'a, J>>, AllocError>
+) -> Result<Vec<Player<'a, S>>, AllocError>
     requires few { length clients.items ≤ MAX_CLIENTS }
     ensures ok { IfOk result
         (λ after. AnswersRound (logs_of clients.entry.items) commands.now (logs_of after.items)) }
@@ -133,14 +133,14 @@ fn play_round<'a, J: Live + Send + Sync, R: Threads + Wait + Sync, G: Gate>(
 
 /// Clients that have done their commands of a round, and what they told others by that.
 #[derive(Drop)]
-struct Part<'a, J: Live> {
-    clients: Vec<Player<'a, J>>,
-    tells: Vec<Tell<J>>,
+struct Part<'a, S: Live> {
+    clients: Vec<Player<'a, S>>,
+    tells: Vec<Tell<S>>,
 }
 
-impl<'a, J: Live> Part<'a, J> {
+impl<'a, S: Live> Part<'a, S> {
     /// Both parts as one: the clients and what they told, behind those of this part.
-    fn joined(mut self, mut next: Part<'a, J>) -> Result<Self, AllocError>
+    fn joined(mut self, mut next: Part<'a, S>) -> Result<Self, AllocError>
         ensures { IfOk result (λ whole.
             (whole.clients.items ≡ self.entry.clients.items ++ next.entry.clients.items)
             × (whole.tells.items ≡ self.entry.tells.items ++ next.entry.tells.items)) }
@@ -154,13 +154,13 @@ impl<'a, J: Live> Part<'a, J> {
 /// What a thread promises: that these clients, numbered from this one on, do their commands of a
 /// round, unless memory is refused.
 #[derive(Drop)]
-struct Plays<'a, 'c, J: Live> {
+struct Plays<'a, 'c, S: Live> {
     first: u32,
     commands: &'c [Command],
-    clients: Snapshot<Vec<Player<'a, J>>>,
+    clients: Snapshot<Vec<Player<'a, S>>>,
 }
 
-impl<'a, 'c, J: Live> Promise<Result<Part<'a, J>, AllocError>> for Plays<'a, 'c, J> {
+impl<'a, 'c, S: Live> Promise<Result<Part<'a, S>, AllocError>> for Plays<'a, 'c, S> {
     ghost use Rattle.std.specs.Prelude.{IfOk};
     ghost use Rattle.fdb_replay.specs.private.Rounds.{IsPlayed};
 
@@ -171,10 +171,10 @@ impl<'a, 'c, J: Live> Promise<Result<Part<'a, J>, AllocError>> for Plays<'a, 'c,
 
 /// Has all clients do their commands of a round. Answers what they told, by client
 /// and then by command. However it ends, each thread of the round has ended.
-fn play_all<'a, J: Live + Send + Sync, R: Threads + Wait + Sync, G: Gate>(
-    playing: &Playing<'_, R, J, G>,
-    clients: Vec<Player<'a, J>>,
-) -> Result<Part<'a, J>, AllocError>
+fn play_all<'a, S: Live + Send + Sync, R: Threads + Wait + Sync, G: Gate>(
+    playing: &Playing<'_, R, S, G>,
+    clients: Vec<Player<'a, S>>,
+) -> Result<Part<'a, S>, AllocError>
     requires few { vec_len clients ≤ MAX_CLIENTS }
     ensures { IfOk result (λ part.
         IsPlayed 0 playing.now.round.commands.now
@@ -183,8 +183,8 @@ fn play_all<'a, J: Live + Send + Sync, R: Threads + Wait + Sync, G: Gate>(
     thread::scope(
         thread::scope_env(),
         playing.rt,
-        move |scope| -> Result<Part<'_, J>, AllocError>
-            requires { IsSync R.row × IsSync J.row × IsSend J.row × IsSync G.row
+        move |scope| -> Result<Part<'_, S>, AllocError>
+            requires { IsSync R.row × IsSync S.row × IsSend S.row × IsSync G.row
                 × (vec_len clients ≤ MAX_CLIENTS) }
             ensures { IfOk result (λ part.
                 IsPlayed 0 playing.entry.now.round.commands.now
@@ -200,12 +200,12 @@ fn play_all<'a, J: Live + Send + Sync, R: Threads + Wait + Sync, G: Gate>(
 /// It fails only where memory runs out, or where a thread cannot be
 /// had. However it ends, each thread that it started has been joined.
 #[cycle(parts)]
-fn play_part<'s, 'a: 's, E, J: Live + Send + Sync, R: Threads + Wait + Sync, G: Gate>(
+fn play_part<'s, 'a: 's, E, S: Live + Send + Sync, R: Threads + Wait + Sync, G: Gate>(
     scope: &'s Scope<'s, E>,
-    playing: &'s Playing<'s, R, J, G>,
+    playing: &'s Playing<'s, R, S, G>,
     first: u32,
-    mut clients: Vec<Player<'a, J>>,
-) -> Result<Part<'a, J>, AllocError>
+    mut clients: Vec<Player<'a, S>>,
+) -> Result<Part<'a, S>, AllocError>
     requires few { first + vec_len clients ≤ MAX_CLIENTS }
     ensures { IfOk result (λ part.
         IsPlayed first playing.now.round.commands.now
@@ -228,11 +228,11 @@ fn play_part<'s, 'a: 's, E, J: Live + Send + Sync, R: Threads + Wait + Sync, G: 
 
 /// Has the only one of these clients do its commands of a round, in this thread.
 #[tactic(auto, using(crate::proofs::Parts::one_played_at))]
-fn play_alone<'a, J: Live, R: Wait, G: Gate>(
-    playing: &Playing<'_, R, J, G>,
+fn play_alone<'a, S: Live, R: Wait, G: Gate>(
+    playing: &Playing<'_, R, S, G>,
     first: u32,
-    mut clients: Vec<Player<'a, J>>,
-) -> Result<Part<'a, J>, AllocError>
+    mut clients: Vec<Player<'a, S>>,
+) -> Result<Part<'a, S>, AllocError>
     requires { vec_len clients ≡ 1 }
     ensures { IfOk result (λ part.
         IsPlayed first playing.now.round.commands.now
@@ -245,13 +245,13 @@ fn play_alone<'a, J: Live, R: Wait, G: Gate>(
 /// Has two halves of the clients do their commands of a round: where both have a client that acts,
 /// the front one in a new thread. Where that cannot be had, neither half begins.
 #[cycle(parts)]
-fn play_halves<'s, 'a: 's, E, J: Live + Send + Sync, R: Threads + Wait + Sync, G: Gate>(
+fn play_halves<'s, 'a: 's, E, S: Live + Send + Sync, R: Threads + Wait + Sync, G: Gate>(
     scope: &'s Scope<'s, E>,
-    playing: &'s Playing<'s, R, J, G>,
+    playing: &'s Playing<'s, R, S, G>,
     first: u32,
-    front: Vec<Player<'a, J>>,
-    back: Vec<Player<'a, J>>,
-) -> Result<(Part<'a, J>, Part<'a, J>), AllocError>
+    front: Vec<Player<'a, S>>,
+    back: Vec<Player<'a, S>>,
+) -> Result<(Part<'a, S>, Part<'a, S>), AllocError>
     requires some_front { 0 < vec_len front }
     requires some_back { 0 < vec_len back }
     requires few { first + (vec_len front + vec_len back) ≤ MAX_CLIENTS }
@@ -273,8 +273,8 @@ fn play_halves<'s, 'a: 's, E, J: Live + Send + Sync, R: Threads + Wait + Sync, G
         commands: round.commands,
         clients: Snapshot::of(&front),
     };
-    let play_front = move || -> Result<Part<'_, J>, AllocError>
-        requires { IsSync R.row × IsSync J.row × IsSend J.row × IsSync G.row
+    let play_front = move || -> Result<Part<'_, S>, AllocError>
+        requires { IsSync R.row × IsSync S.row × IsSend S.row × IsSync G.row
             × (first + vec_len front ≤ MAX_CLIENTS) }
         ensures { IfOk result (λ part.
             IsPlayed first playing.entry.now.round.commands.now
@@ -290,11 +290,11 @@ fn play_halves<'s, 'a: 's, E, J: Live + Send + Sync, R: Threads + Wait + Sync, G
 
 /// Has a client do its commands of a round, in order, and answers what it told.
 #[tactic(auto, using(crate::proofs::Grown::not_grown))]
-fn play_client<J: Live, R: Wait, G: Gate>(
-    playing: &Playing<'_, R, J, G>,
+fn play_client<S: Live, R: Wait, G: Gate>(
+    playing: &Playing<'_, R, S, G>,
     number: u32,
-    client: &mut Player<'_, J>,
-) -> Result<Vec<Tell<J>>, AllocError>
+    client: &mut Player<'_, S>,
+) -> Result<Vec<Tell<S>>, AllocError>
     ensures ok { OnOk result (FoldsTo AnswersCommand client.old.calls
         (commands_of number playing.now.round.commands.now) client.new.calls) }
     ensures number { OnOk result (client.new.number ≡ client.old.number) }
@@ -319,10 +319,10 @@ fn play_client<J: Live, R: Wait, G: Gate>(
 
 /// Has each client learn what it was told, by teller and then by command.
 #[tactic(auto, using(crate::proofs::Learnt::one_learns, crate::proofs::Learnt::nobody_learns, crate::proofs::Learnt::same_numbers))]
-fn learn_all<J: Live, R: Wait>(
+fn learn_all<S: Live, R: Wait>(
     rt: &R,
-    clients: &mut Vec<Player<'_, J>>,
-    tells: Vec<Tell<J>>,
+    clients: &mut Vec<Player<'_, S>>,
+    tells: Vec<Tell<S>>,
 ) -> Result<(), AllocError>
     ensures learnt { OnOk result
         (logs_of clients.new.items ≡ fold teach (logs_of clients.old.items) tells.items) }

@@ -6,7 +6,7 @@ ghost use Rattle.std.specs.Prelude.{vec_len, OnOk, ◌≢◌, List, IfErr, Ok};
 ghost use Rattle.std.specs.Io.KnownBytes.{Appends};
 ghost use Rattle.std.specs.List.{FoldsTo};
 ghost use Rattle.fdb_client.specs.Cluster.{IsClusterConfig};
-ghost use Rattle.fdb_client.specs.Settling.{logs_of};
+ghost use Rattle.fdb_client.specs.Settling.{AreAllInPlace, HaveNumbers, logs_of};
 ghost use Rattle.fdb_client.specs.Account.{new_account};
 ghost use Rattle.fdb_client.specs.declared.cluster.TheConstants.{MAX_GRV_PROXIES};
 ghost use Rattle.fdb_live.specs.Seen.{origin_of};
@@ -25,13 +25,12 @@ use fdb_client::{
     clients_of, serve_while,
 };
 use fdb_command::write_whole;
-use fdb_history::{Gate, Record, Sequence, laws};
+use fdb_history::{Gate, Record, laws};
 use fdb_live::{Live, Seen};
-use fdb_script::{Command, Outcome, Script, ScriptError, read_script, text};
+use fdb_script::{Outcome, Script, ScriptError, read_script, text};
 use std::alloc::{AllocError, Global};
 use std::io::Write;
-use std::marker::{Brand, Model};
-use std::mem;
+use std::marker::Brand;
 use std::sync::Wait;
 use std::thread::Threads;
 use thiserror::Error;
@@ -110,25 +109,25 @@ fn config_of(script: &Script, proxies: u32) -> ClusterConfig<'_>
 }
 
 /// Plays a script under a name that stands for its cluster.
-fn run_named<J: Live + Send + Sync, R: Threads + Wait + Sync, G: Gate>(
+fn run_named<S: Live + Send + Sync, R: Threads + Wait + Sync, G: Gate>(
     rt: &R,
     alloc: Global,
     opened: OpenedCluster<'_>,
     script: &Script,
     gate: &G,
 ) -> Result<Outcome, AllocError>
-    requires chained { J.chained ≡ true }
+    requires chained { S.chained ≡ true }
     requires plan { IsPlan script.now }
     requires config { IsConfigFor script.now opened.config }
     requires founding { opened.founding
-        ≡ origin_of J.table J.start J.reporters J.chained J.epoch_end J.recovery }
+        ≡ origin_of S.table S.start S.reporters S.chained S.epoch_end S.recovery }
     ensures { IfOk result (IsRunOf script.now) }
 {
     let ClusterParts {
         cluster,
         mut first,
         tokens,
-    } = opened.parts::<J>(alloc)?;
+    } = opened.parts::<S>(alloc)?;
     let routing = Routing {
         cluster: &cluster,
         gate,
@@ -163,38 +162,37 @@ fn opening(recovery: u64) -> Record
 ///
 /// It fails where a proxy cannot be started, which leaves all rounds
 /// unplayed, or where a client or a proxy runs out of memory.
-fn served<J: Live + Send + Sync, R: Threads + Wait + Sync, G: Gate>(
+fn served<S: Live + Send + Sync, R: Threads + Wait + Sync, G: Gate>(
     rt: &R,
     alloc: Global,
-    routing: &Routing<'_, J, G>,
-    first: &mut Seen<J>,
-    tokens: Vec<Seen<J>>,
+    routing: &Routing<'_, S, G>,
+    first: &mut Seen<S>,
+    tokens: Vec<Seen<S>>,
     script: &Script,
-) -> Result<Finished<J>, AllocError>
+) -> Result<Finished<S>, AllocError>
     requires plan { IsPlan script.now }
-    requires clients { script.now.setup.clients ≡ J.reporters }
-    requires count { vec_len tokens ≡ J.reporters }
-    requires numbered { (k : ℕ) → k < J.reporters
+    requires clients { script.now.setup.clients ≡ S.reporters }
+    requires count { vec_len tokens ≡ S.reporters }
+    requires numbered { (k : ℕ) → k < S.reporters
         → slice_get tokens.items k ≡ Some (record { reporter = Some k; changes = []; answers = [] }) }
     ensures answers { IfOk result (Answers script.now) }
 {
     let clients = clients_of(alloc, routing.cluster.master(), tokens)?;
-    let clients = Clients::new(alloc, clients)?;
+    let players = players_of(alloc, clients)?;
     let rounds = script.rounds();
     let Served { output, ends } = serve_while(
         rt,
         alloc,
         routing.cluster,
         first,
-        move || -> Result<Finished<J>, AllocError>
-            requires few { length clients ≤ MAX_CLIENTS }
-            requires count { length clients ≡ J.reporters }
+        move || -> Result<Finished<S>, AllocError>
+            requires few { vec_len players ≤ MAX_CLIENTS }
+            requires in_place { AreAllInPlace S.reporters players.items }
             ensures { IfOk result
-                (FoldsTo AnswersRound (logs_of clients.entry) rounds.entry.now) }
+                (FoldsTo AnswersRound (logs_of players.entry.items) rounds.entry.now) }
         {
-            let mut clients = clients;
-            clients.play(rt, alloc, routing, rounds)?;
-            clients.finish(alloc, routing.cluster)
+            let players = play_rounds(rt, alloc, routing, players, rounds)?;
+            finish(alloc, routing.cluster, players)
         },
     )?;
     if ends.all_served() {
@@ -204,80 +202,41 @@ fn served<J: Live + Send + Sync, R: Threads + Wait + Sync, G: Gate>(
     }
 }
 
-/// The clients of a run, each at the place of its number.
-#[derive(Drop)]
-pub(crate) struct Clients<'a, J: Live> {
-    players: Vec<Player<'a, J>>,
+/// The players of a run, who have called nobody yet. Takes memory for them.
+fn players_of<S: Live>(
+    alloc: Global,
+    clients: Vec<Client<'_, S>>,
+) -> Result<Vec<Player<'_, S>>, AllocError>
+    requires { (k : ℕ) → k < vec_len clients
+        → slice_get clients.items k ≡ Some (new_account k [] []) }
+    ensures players { IfOk result (λ players. players.items ≡ clients.entry.items) }
+    ensures numbers { IfOk result (λ players. HaveNumbers players.items) }
+{
+    let mut players = Vec::with_capacity(alloc, clients.len())?;
+    for client in clients {
+        players.push_reserved(Player::new(client));
+    }
+    Ok(players)
 }
 
-impl<'a, J: Live> Model for Clients<'a, J> {
-    ghost use Rattle.std.specs.Prelude.{List};
-    ghost use Rattle.fdb_client.specs.Account.{Account};
-    ghost use Rattle.fdb_client.specs.Settling.{HaveNumbers};
-
-    ghost Value = { List Account };
-
-    ghost view = { λ clients. clients.players.items };
-
-    ghost invariant = { λ clients. HaveNumbers clients.players.items };
-}
-
-impl<'a, J: Live + Send + Sync> Clients<'a, J> {
-    /// The clients of a run, who have called nobody yet. Takes memory for them.
-    pub(crate) fn new(alloc: Global, clients: Vec<Client<'a, J>>) -> Result<Self, AllocError>
-        requires { (k : ℕ) → k < vec_len clients
-            → slice_get clients.items k ≡ Some (new_account k [] []) }
-        ensures { IfOk result (λ made. made ≡ clients.entry.items) }
-    {
-        let mut players = Vec::with_capacity(alloc, clients.len())?;
-        for client in clients {
-            players.push_reserved(Player::new(client));
-        }
-        Ok(Clients { players })
+/// The logs and tokens of the players, which they are given up for. It fails only where memory runs
+/// out.
+fn finish<S: Live>(
+    alloc: Global,
+    cluster: &Cluster<'_, S>,
+    players: Vec<Player<'_, S>>,
+) -> Result<Finished<S>, AllocError>
+    requires { AreAllInPlace S.reporters players.items }
+    ensures { IfOk result (λ finished. finished ≡ logs_of players.entry.items) }
+{
+    let mut clients = Vec::with_capacity(alloc, players.len())?;
+    for player in players {
+        clients.push_reserved(player.into_client());
     }
-
-    /// Has the clients play rounds, one after another. It fails only where memory runs out.
-    #[tactic(auto, using(crate::proofs::Finished::numbers_kept, crate::proofs::Finished::none_in_order))]
-    pub(crate) fn play<R: Threads + Wait + Sync, G: Gate>(
-        &mut self,
-        rt: &R,
-        alloc: Global,
-        routing: &Routing<'_, J, G>,
-        rounds: &[Sequence<Command>],
-    ) -> Result<(), AllocError>
-        requires { length self.old ≤ MAX_CLIENTS }
-        ensures played { OnOk result
-            (FoldsTo AnswersRound (logs_of self.old) rounds.now (logs_of self.new)) }
-        ensures count { OnOk result (length self.new ≡ length self.old) }
-    {
-        let players = mem::replace(&mut self.players, Vec::new(alloc));
-        let Ok(players) = play_rounds(rt, alloc, routing, players, rounds) else {
-            return Err(AllocError);
-        };
-        self.players = players;
-        Ok(())
-    }
-
-    /// The clients' logs and tokens, which they are given up for. It fails only where memory runs
-    /// out.
-    pub(crate) fn finish(
-        self,
-        alloc: Global,
-        cluster: &Cluster<'_, J>,
-    ) -> Result<Finished<J>, AllocError>
-        requires { length self ≡ J.reporters }
-        ensures { IfOk result (λ finished. finished ≡ logs_of self.entry) }
-    {
-        let Clients { players } = self;
-        let mut clients = Vec::with_capacity(alloc, players.len())?;
-        for player in players {
-            clients.push_reserved(player.into_client());
-        }
-        match cluster.finish(alloc, clients) {
-            Ok(finished) => Ok(finished),
-            Err(FinishError::Memory) => Err(AllocError),
-            Err(FinishError::Astray) => unreachable!(),
-        }
+    match cluster.finish(alloc, clients) {
+        Ok(finished) => Ok(finished),
+        Err(FinishError::Memory) => Err(AllocError),
+        Err(FinishError::Astray) => unreachable!(),
     }
 }
 

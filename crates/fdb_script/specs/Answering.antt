@@ -1,5 +1,5 @@
 -- The logs of a run answer a plan: each client did its commands, in their order, learnt what others
--- told it, and did nothing else. (this product's own)
+-- told it, and logged nothing else. (this product's own)
 use Rattle.std.specs.Prelude.{◌≡◌, ℕ, ◌+◌, ◌<◌, ◌==◌, max, Bool, false, List, [], ◌∷◌, ◌++◌, length, map, filter, fold, drop, replicate}
 use Rattle.std.specs.List.{FoldsTo}
 use Rattle.fdb_history.specs.Added.{AddsCall}

@@ -1,4 +1,4 @@
-use Rattle.fdb_command.proofs.ending.put.Goals as goal
+use Rattle.fdb_command.proofs.output.put.Goals as goal
 
 pub returns-in-Ok-clause-ended : goal.returns-in-Ok-clause-ended
 returns-in-Ok-clause-ended g c =

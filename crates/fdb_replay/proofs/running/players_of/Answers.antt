@@ -1,6 +1,6 @@
 use Rattle.std.proofs.Common.{List, [], ◌∷◌, ◌++◌, length, length-append, append_assoc, arith, ap, refl, sym, ◌∙◌}
 use Rattle.fdb_client.specs.Account.{Account}
-use Rattle.fdb_replay.proofs.running.Clients.new.Goals as goal
+use Rattle.fdb_replay.proofs.running.players_of.Goals as goal
 
 pub new-requires : goal.new-requires
 new-requires g c =

@@ -1,5 +1,5 @@
 use Rattle.std.proofs.Common.{rules}
-use Rattle.fdb_command.proofs.input.count_read.Goals as goal
+use Rattle.fdb_command.proofs.intake.count_read.Goals as goal
 
 pub returns-in-Ok : goal.returns-in-Ok
 returns-in-Ok c = search rules

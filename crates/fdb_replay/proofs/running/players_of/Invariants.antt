@@ -1,7 +1,7 @@
 use Rattle.std.proofs.Common.{◌≡◌, ◌≤◌, ◌++◌, vec_len, vec_capacity}
 use Rattle.std.specs.List.{AllByRecursion}
 use Rattle.fdb_replay.proofs.Finished.{HasNotCalled}
-use Rattle.fdb_replay.proofs.running.Clients.new.Given as goal
+use Rattle.fdb_replay.proofs.running.players_of.Given as goal
 
 abbrev pub invariant-loop-client : goal.invariant-loop-client
 invariant-loop-client g l = record {
