@@ -1,11 +1,11 @@
 -- A fault that is counted by the texts of one member after another.
-use Rattle.std.proofs.Common.{◌≡◌, ◌≢◌, ◌∙◌, ◌+◌, ◌<◌, ◌≤◌, ℕ, Bool, List, [], ◌∷◌, ◌++◌, ap, arith, inl, inr, length, map, refl, set, slice_index_or, string_bytes, subst, sym}
+use Rattle.std.proofs.Common.{◌≡◌, ◌∙◌, ◌+◌, ◌<◌, ◌≤◌, ℕ, Bool, List, [], ◌∷◌, ◌++◌, ap, arith, inl, inr, length, map, set, slice_index_or, string_bytes, subst, sym}
 use Rattle.std.proofs.lemmas.List.{get_or-set_other, get_or-set_same, length-set, map-set, set-get_or}
 use Rattle.std.proofs.lemmas.Bool.{cases_lt}
 use Rattle.fdb_audit.specs.Groups.{AreMost, by_member, member_name}
 use Rattle.fdb_audit.specs.Text.{Beside}
 use Rattle.fdb_audit.specs.ToldFaults.{ToldFault, by_text, text_of}
-use Rattle.fdb_audit.specs.declared.text_groups.TextGroups.{TextGroups}
+use Rattle.fdb_audit.specs.declared.told_faults.TextGroups.{TextGroups}
 use Rattle.fdb_audit.specs.Tallied.{HasTexts, HasTextsIn, texts_in}
 
 abbrev names_of : List TextGroups → List (List ℕ)

@@ -11,7 +11,7 @@ use Rattle.fdb_audit.specs.Kept.{places_kept, start_of}
 use Rattle.fdb_audit.specs.Pieces.{audited_in, places_beyond}
 use Rattle.fdb_audit.specs.Watched.{lines_asked}
 use Rattle.fdb_audit.specs.declared.arguments.AuditArguments.{AuditArguments}
-use Rattle.fdb_audit.specs.declared.fault.LogFault.{LogFault}
+use Rattle.fdb_audit.specs.declared.printer.LogFault.{LogFault}
 use Rattle.fdb_audit.proofs.Forgotten.{keeps_all, stay_all}
 use Rattle.fdb_audit.proofs.Pieces.{Known, still_in_time, told_as_by_one}
 use Rattle.fdb_audit.proofs.SaysWhen.{none_early}

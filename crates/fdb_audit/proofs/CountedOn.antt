@@ -9,7 +9,7 @@ use Rattle.fdb_log_reader.specs.declared.error.Why.{Why}
 use Rattle.fdb_log_reader.specs.ReadLine.{SaidLine}
 use Rattle.fdb_audit.specs.Following.{Counted, Start, counted_on, lines_since, none_counted, sum_of}
 use Rattle.fdb_audit.specs.Taken.{AreTaken, counted_of}
-use Rattle.fdb_audit.specs.declared.taking.Taking.{Taking}
+use Rattle.fdb_audit.specs.declared.taken_lines.Taking.{Taking}
 use Rattle.fdb_audit.proofs.Following.{counted, since_few}
 
 -- each of these has room

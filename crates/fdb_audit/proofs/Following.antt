@@ -19,9 +19,9 @@ use Rattle.fdb_log_reader.specs.declared.error.ReadError.{ReadError}
 use Rattle.fdb_log_reader.specs.declared.error.Why.{Why}
 use Rattle.fdb_log_reader.specs.declared.error.Why.TheVariants.{Empty}
 use Rattle.fdb_log_reader.specs.ReadLine.{SaidLine}
-use Rattle.fdb_audit.specs.declared.counts.Counts.{Counts}
-use Rattle.fdb_audit.specs.declared.numbering.Numbering.{Numbering}
-use Rattle.fdb_audit.specs.declared.taking.Taking.{Taking}
+use Rattle.fdb_audit.specs.declared.progress.Counts.{Counts}
+use Rattle.fdb_audit.specs.declared.members.Numbering.{Numbering}
+use Rattle.fdb_audit.specs.declared.taken_lines.Taking.{Taking}
 use Rattle.fdb_audit.specs.Following.{KeptNumbers, Start, early_at, keys_taken, last_refused, left_out, lines_since, lines_taken, no_line, number_in, taken, taken_above}
 use Rattle.fdb_audit.specs.Clocks.{believed_end, believed_with, out_of_reach}
 use Rattle.fdb_audit.specs.declared.clocks.Clocks.{Clocks}

@@ -1,5 +1,5 @@
 -- Which lines are kept where keys are forgotten.
-use Rattle.std.proofs.Common.{◌≡◌, ◌∙◌, ◌∷◌, [], ℕ, zero, suc, Bool, true, false, IsPermutation, List, None, Option, Result, Some, ap, arith, cond, map, refl, slice_get, subst, sym}
+use Rattle.std.proofs.Common.{◌≡◌, ◌∙◌, ◌∷◌, [], ℕ, suc, Bool, true, false, IsPermutation, List, None, Option, Result, Some, ap, arith, cond, map, refl}
 use Rattle.std.specs.List.{All, filter}
 use Rattle.std.proofs.lemmas.List.Sorted.{IsPermutation-trans}
 use Rattle.fdb_lines.specs.declared.key_part.KeptLine.{KeptLine}
@@ -8,8 +8,8 @@ use Rattle.fdb_lines.specs.Keys.{key_at}
 use Rattle.fdb_lines.specs.KeyWatch.{IsKept}
 use Rattle.fdb_log_reader.specs.declared.error.Why.{Why}
 use Rattle.fdb_log_reader.specs.ReadLine.{LineNames, SaidLine}
-use Rattle.fdb_audit.specs.declared.key_times.KeyTimes.{KeyTimes}
-use Rattle.fdb_audit.specs.declared.taking.Taking.{Taking}
+use Rattle.fdb_audit.specs.declared.clocks.KeyTimes.{KeyTimes}
+use Rattle.fdb_audit.specs.declared.taken_lines.Taking.{Taking}
 use Rattle.fdb_audit.specs.Following.{KeptNumbers}
 use Rattle.fdb_audit.specs.GoingOn.{MayForget}
 use Rattle.fdb_audit.specs.Kept.{KeepsLines}

@@ -1,20 +1,19 @@
 -- The faults of the parts of a log, by the numbers of their lines.
-use Rattle.std.proofs.Common.{◌≡◌, ◌∙◌, ℕ, zero, suc, ◌<◌, ◌==◌, Bool, true, false, cond, nat_lt, List, [], ◌∷◌, ◌++◌, All, IsPermutation, Option, None, Some, IfSome, IsSomeAnd, append-nil, append_assoc, ap, arith, inl, inr, is_some, length, length-append, ltb-true, map, option_map, refl, subst, sym, take, Ok}
+use Rattle.std.proofs.Common.{◌≡◌, ◌∙◌, ℕ, zero, suc, ◌<◌, ◌==◌, Bool, true, false, cond, nat_lt, List, [], ◌∷◌, ◌++◌, All, IsPermutation, Option, None, Some, IfSome, IsSomeAnd, append-nil, append_assoc, ap, arith, inl, inr, length, length-append, ltb-true, map, refl, subst, sym, take, Ok}
 use Rattle.std.specs.List.{flat_map}
 use Rattle.std.specs.Prelude.{option_and_then, slice_get, slice_index, slice_index_or}
-use Rattle.std.proofs.lemmas.Bool.{cases_lt, false≢true}
+use Rattle.std.proofs.lemmas.Bool.{cases_lt}
 use Rattle.std.proofs.lemmas.Bool.Decides.{nat_tests}
 use Rattle.std.proofs.lemmas.List.{get_or-map, get_or_append_left, get_or_push, length-map, map-append}
 use Rattle.std.proofs.lemmas.List.Elements.{All-append}
 use Rattle.std.proofs.lemmas.List.Sorted.{IsPermutation-map}
 use Rattle.fdb_lines.specs.declared.fault.Found.{Found}
 use Rattle.fdb_lines.specs.declared.line.Line.{Line}
-use Rattle.fdb_lines.specs.declared.opts.AuditOpts.{AuditOpts}
+use Rattle.fdb_lines.specs.declared.log.AuditOpts.{AuditOpts}
 use Rattle.fdb_lines.specs.Carried.{places_where}
 use Rattle.fdb_lines.specs.Divided.{LearnsNothing, faults_apart, faults_by_part, places_in}
 use Rattle.fdb_lines.specs.Judged.{faults_in}
 use Rattle.fdb_lines.specs.Keys.{faults_at_by_key, faults_below_by_key, faults_by_key, key_at, placed_found, told_at}
-use Rattle.fdb_lines.specs.Listing.{faults_at}
 use Rattle.fdb_lines.specs.Lines.{Lines, has_times, is_learn, kind_of, line_at, lines_in, nobody, part_of}
 use Rattle.fdb_lines.specs.Renumbered.{AreNamedApart, AreSameButForNumbers, HaveSameCalls, SayTheSame}
 use Rattle.fdb_lines.specs.StandByKey.{keys_in}
@@ -23,7 +22,7 @@ use Rattle.fdb_log_reader.specs.Columns.{KeyColumn}
 use Rattle.fdb_log_reader.specs.Named.{HaveOneNumber, Named, StandOnce, key_named, named}
 use Rattle.fdb_log_reader.specs.ReadLine.{LineNames, MemberNames}
 use Rattle.fdb_log_reader.specs.Reading.{Reading, reading_with}
-use Rattle.fdb_audit.specs.declared.fault.LogFault.{LogFault}
+use Rattle.fdb_audit.specs.declared.printer.LogFault.{LogFault}
 use Rattle.fdb_audit.specs.Joined.{ArePartsOf, IsPartOf, WasReadByKey, faults_by_number, key_names, named_line, names_read, places_of_part}
 use Rattle.fdb_audit.specs.Judged.{keys_of_lines, own_numbers}
 use Rattle.fdb_audit.specs.Text.{fault_of, number_at}

@@ -1,8 +1,8 @@
 -- Groups in order, each once, are ranked.
-use Rattle.std.proofs.Common.{◌≡◌, ◌==◌, ◌⊎◌, ℕ, zero, suc, ◌+◌, ◌<◌, cond, nat_eq, Bool, true, false, List, [], ◌∷◌, Option, None, Some, All, Contains, IsPermutation, map, refl, ap, sym, subst, ◌∙◌, arith, count_by, filter, get_or, length}
+use Rattle.std.proofs.Common.{◌≡◌, ◌⊎◌, ℕ, zero, suc, ◌<◌, nat_eq, true, List, [], ◌∷◌, Option, None, Some, All, Contains, IsPermutation, refl, ap, sym, subst, ◌∙◌, arith, length}
 use Rattle.std.proofs.lemmas.Bool.{eqb-true}
 use Rattle.std.proofs.lemmas.Bool.Decides.{nat_tests}
-use Rattle.std.proofs.lemmas.List.Elements.{All-cons, All-map, All-nil, Contains-get_or, recursion_from_All}
+use Rattle.std.proofs.lemmas.List.Elements.{All-cons, All-map, All-nil, recursion_from_All}
 use Rattle.std.proofs.lemmas.List.Filters.{All-dedup}
 use Rattle.std.proofs.lemmas.List.Kept.{AllPairs-cons, Any-dedup, IsStrictlySortedBy-dedup}
 use Rattle.std.proofs.lemmas.List.{get_or-map, length-map}

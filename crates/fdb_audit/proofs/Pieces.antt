@@ -23,7 +23,7 @@ use Rattle.fdb_log_reader.specs.Named.{HaveOneNumber, Named, named_if, named_sai
 use Rattle.fdb_log_reader.specs.ReadLine.{IsNumbered, LineNames, SaidLine, are_full, lines_read, member_in, names_behind, no_names}
 use Rattle.fdb_log_reader.specs.Reading.{EndsALine, lines_in}
 use Rattle.fdb_audit.specs.declared.arguments.AuditArguments.{AuditArguments}
-use Rattle.fdb_audit.specs.declared.taking.Taking.{Taking}
+use Rattle.fdb_audit.specs.declared.taken_lines.Taking.{Taking}
 use Rattle.fdb_audit.specs.Following.{Start, early_at, keys_taken, lines_since, lines_taken, taken, told_in_all}
 use Rattle.fdb_audit.specs.Kept.{KeepsLines, kept_said, lines_kept, named, named_at, places_kept, start_of}
 use Rattle.fdb_audit.specs.Pieces.{AreWatched, MayGoOn, Piece, all_bytes, audited_in, places_beyond}

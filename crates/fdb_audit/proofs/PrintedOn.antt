@@ -1,5 +1,5 @@
 -- What is printed of a log that is followed, with one part more.
-use Rattle.std.proofs.Common.{◌≡◌, ◌∙◌, ◌++◌, ◌∷◌, ℕ, zero, suc, Bool, true, false, List, [], Option, None, Some, IfSome, Result, ap, append-nil, append_assoc, arith, refl, subst, sym}
+use Rattle.std.proofs.Common.{◌≡◌, ◌∙◌, ◌++◌, ◌∷◌, ℕ, zero, suc, Bool, true, false, List, [], Option, None, Some, IfSome, Result, ap, append-nil, append_assoc, arith, refl, string_bytes, subst, sym}
 use Rattle.std.specs.List.{flat_map}
 use Rattle.std.proofs.lemmas.Grind.{flat_map-append}
 use Rattle.std.proofs.lemmas.List.Elements.{All-push}
@@ -8,13 +8,14 @@ use Rattle.fdb_log_reader.specs.declared.error.Why.{Why}
 use Rattle.fdb_log_reader.specs.LineReader.{lines_on}
 use Rattle.fdb_log_reader.specs.ReadLine.{SaidLine}
 use Rattle.fdb_audit.specs.declared.arguments.AuditArguments.{AuditArguments}
-use Rattle.fdb_audit.specs.declared.fault.LogFault.{LogFault}
+use Rattle.fdb_audit.specs.declared.printer.LogFault.{LogFault}
 use Rattle.fdb_audit.specs.declared.followed_log.FollowedLog.{FollowedLog}
 use Rattle.fdb_audit.specs.declared.follower.Follower.{Follower}
 use Rattle.fdb_audit.specs.declared.progress.Progress.{Progress}
 use Rattle.fdb_audit.specs.declared.progress.Reporter.{Reporter}
+use Rattle.fdb_audit.specs.declared.teller.Followed.{Followed}
 use Rattle.fdb_audit.specs.Following.{AreCountedOn, Start, left_out}
-use Rattle.fdb_audit.specs.Progress.{ArePieces, HasPrinted, IsPart, IsToldWith, Part, PrintedAll, PrintedSoFar, counted_by, progress_text}
+use Rattle.fdb_audit.specs.Progress.{ArePieces, HasPrinted, IsPart, IsPrinted, IsToldWith, Part, PrintedAll, PrintedSoFar, counted_by, progress_text}
 use Rattle.fdb_audit.specs.Watched.{AskForTheSame, HasFollowed, IsFollowed, lines_asked}
 use Rattle.fdb_audit.specs.private.Followed.{HasGoneOn}
 
@@ -170,6 +171,22 @@ printed_last asked ends follower more found refused last_early follows =
       told_with = told_quiet asked start follower bytes last.told last.told text more last.followed last.told_with;
       left = left;
     })
+
+-- behind how far it was followed
+pub printed_behind : (asked : AuditArguments) (ends : Bool) (log : FollowedLog) (front : List ℕ) (it all : Followed) → string_bytes all.said.text ≡ front ++ string_bytes it.said.text
+    → (all.found ≡ it.found) × (all.refused ≡ it.refused) × (all.last_early ≡ it.last_early)
+    → ((start : Start) (bytes told : List ℕ) → HasFollowed asked start log.follower bytes told
+    → IsFollowed asked start ends bytes (told ++ string_bytes it.said.text) it.found it.last_early × (it.refused ≡ left_out start (lines_asked asked bytes)))
+    → (start : Start) (bytes text : List ℕ) → HasPrinted asked start log bytes (text ++ front)
+    → IsPrinted asked start ends bytes (text ++ string_bytes all.said.text) all.found all.refused all.last_early
+printed_behind asked ends log front it all text_is same follows start bytes text (objects, asks, times, pieces) =
+    let more = string_bytes it.said.text in
+    subst (λ part. IsPrinted asked start ends bytes (text ++ part) all.found all.refused all.last_early) (sym text_is)
+    (subst (λ found. IsPrinted asked start ends bytes (text ++ (front ++ more)) found all.refused all.last_early) (sym same.0)
+    (subst (λ refused. IsPrinted asked start ends bytes (text ++ (front ++ more)) it.found refused all.last_early) (sym same.1)
+    (subst (IsPrinted asked start ends bytes (text ++ (front ++ more)) it.found it.refused) (sym same.2)
+    (subst (λ text. IsPrinted asked start ends bytes text it.found it.refused it.last_early) (append_assoc text front more)
+    (times, printed_last asked ends log.follower more it.found it.refused it.last_early follows times start bytes (text ++ front) pieces)))))
 
 -- it is so of whatever follows the same
 pub printed_same : (asked : AuditArguments) (start : Start) (old new : FollowedLog) (bytes text : List ℕ) → new.follower ≡ old.follower → new.reporter ≡ old.reporter → new.asked ≡ old.asked

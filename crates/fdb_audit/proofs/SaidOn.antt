@@ -6,10 +6,10 @@ use Rattle.fdb_log_reader.specs.declared.error.Why.{Why}
 use Rattle.fdb_log_reader.specs.LineReader.{lines_on}
 use Rattle.fdb_log_reader.specs.ReadLine.{SaidLine}
 use Rattle.fdb_audit.specs.declared.arguments.AuditArguments.{AuditArguments}
-use Rattle.fdb_audit.specs.declared.carried.Carried.{Carried}
-use Rattle.fdb_audit.specs.declared.counts.Counts.{Counts}
+use Rattle.fdb_audit.specs.declared.progress.Carried.{Carried}
+use Rattle.fdb_audit.specs.declared.progress.Counts.{Counts}
 use Rattle.fdb_audit.specs.declared.follower.Follower.{Follower}
-use Rattle.fdb_audit.specs.declared.taking.Taking.{Taking}
+use Rattle.fdb_audit.specs.declared.taken_lines.Taking.{Taking}
 use Rattle.fdb_audit.specs.Following.{Start}
 use Rattle.fdb_audit.specs.Taken.{AreTaken, HasWarned, IsCarried}
 use Rattle.fdb_audit.specs.Warned.{IsSaid}

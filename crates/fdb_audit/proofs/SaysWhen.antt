@@ -21,7 +21,7 @@ use Rattle.fdb_log_reader.specs.Named.{Named, named_said}
 use Rattle.fdb_log_reader.specs.ReadLine.{SaidLine, no_names}
 use Rattle.fdb_log_reader.specs.Reading.{lines_in}
 use Rattle.fdb_audit.specs.declared.arguments.AuditArguments.{AuditArguments}
-use Rattle.fdb_audit.specs.declared.taking.Taking.{Taking}
+use Rattle.fdb_audit.specs.declared.taken_lines.Taking.{Taking}
 use Rattle.fdb_audit.specs.Following.{Start, early_at, keys_taken, lines_taken, taken}
 use Rattle.fdb_audit.specs.Kept.{KeptSaid, Keeps, Rise, named_at, start_of}
 use Rattle.fdb_audit.specs.Taken.{AreTaken}

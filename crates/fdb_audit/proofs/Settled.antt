@@ -5,7 +5,7 @@ use Rattle.std.proofs.lemmas.List.{drop_all, length-drop, length_push, take-appe
 use Rattle.std.proofs.lemmas.List.Sums.{count_by-le-length, sum_by-append, sum_by-cons}
 use Rattle.fdb_lines.specs.declared.line.Line.{Line}
 use Rattle.fdb_lines.specs.Before.{began}
-use Rattle.fdb_audit.specs.declared.taking.Taking.{Taking}
+use Rattle.fdb_audit.specs.declared.taken_lines.Taking.{Taking}
 use Rattle.fdb_audit.specs.Following.{Start, early_at}
 use Rattle.fdb_audit.specs.Clocks.{believed_end}
 use Rattle.fdb_audit.specs.Taken.{HasSettled}

@@ -1,5 +1,5 @@
 -- The lines that were taken, once a watch has settled.
-use Rattle.std.proofs.Common.{◌≡◌, ◌∙◌, ◌++◌, ◌-◌, ℕ, false, List, Result, ap, arith, length, max, subst, sym, take}
+use Rattle.std.proofs.Common.{◌≡◌, ◌∙◌, ◌++◌, ◌-◌, ℕ, false, true, List, Result, ap, arith, length, max, subst, sym, take}
 use Rattle.std.proofs.lemmas.Bool.{false≢true}
 use Rattle.std.proofs.lemmas.List.{length-map}
 use Rattle.fdb_lines.specs.declared.key_watch.KeyWatch.{KeyWatch}
@@ -9,12 +9,12 @@ use Rattle.fdb_lines.specs.ToldByKey.{HasTold}
 use Rattle.fdb_log_reader.specs.declared.error.Why.{Why}
 use Rattle.fdb_log_reader.specs.ReadLine.{SaidLine}
 use Rattle.fdb_audit.specs.Clocks.{believed_end}
-use Rattle.fdb_audit.specs.declared.counts.Counts.{Counts}
-use Rattle.fdb_audit.specs.declared.numbering.Numbering.{Numbering}
-use Rattle.fdb_audit.specs.declared.taking.Taking.{Taking}
+use Rattle.fdb_audit.specs.declared.progress.Counts.{Counts}
+use Rattle.fdb_audit.specs.declared.members.Numbering.{Numbering}
+use Rattle.fdb_audit.specs.declared.taken_lines.Taking.{Taking}
 use Rattle.fdb_audit.specs.Following.{Start, keys_taken, lines_since, lines_taken, taken}
 use Rattle.fdb_audit.specs.declared.clocks.Clocks.{Clocks}
-use Rattle.fdb_audit.specs.Taken.{AreCounted, AreTaken, HasHeard, kept_by}
+use Rattle.fdb_audit.specs.Taken.{AreCounted, AreTaken, HasHeard, IsInReach, kept_by}
 use Rattle.fdb_audit.specs.Warned.{AreEarly}
 use Rattle.fdb_audit.proofs.Settled.{far_in_all, far_now, settled_now, settled_still}
 
@@ -62,11 +62,12 @@ settled_taken start old new read told more at are at_is seen moved tells numberi
       once = λ none_before none. tells (are.once none_before (sym (ap (λ (counts : Counts). counts.early) counts) ∙ none));
     }
 
--- and where ends are said to be believed otherwise
-pub believes_else : (start : Start) (old new : Taking) (read : List (Result SaidLine Why)) (told : List Found) → start.anew ≡ false → AreTaken start old read told
+-- and where they are held otherwise, by what is in reach then
+held_else : (start : Start) (old new : Taking) (read : List (Result SaidLine Why)) (told : List Found) → AreTaken start old read told
+    → (start.anew ≡ true → IsInReach start.behind new (lines_taken read))
     → new.watch ≡ old.watch → new.numbering ≡ old.numbering → new.taken ≡ old.taken → new.refused ≡ old.refused → new.counts ≡ old.counts
     → new.settled ≡ old.settled → AreTaken start new read told
-believes_else start old new read told on are watch numbering count refused counts settled = record {
+held_else start old new read told are reach watch numbering count refused counts settled = record {
   seen = subst (λ (watch : KeyWatch). HasSeenByKey watch (lines_taken read) (keys_taken read)) (sym watch) are.seen;
   numbered = record {
     above = ap (λ (numbering : Numbering). numbering.above.items) numbering ∙ are.numbered.above;
@@ -83,10 +84,17 @@ believes_else start old new read told on are watch numbering count refused count
   from = (let was = are.from in let same = ap (λ (watch : KeyWatch). watch.from) watch in omega (arith, was, same));
   late = (let was = are.late in let same = ap (λ (counts : Counts). counts.early) counts in omega (arith, was, same));
   settled = settled_still start old new (lines_taken read) are.settled settled (ap (λ (watch : KeyWatch). watch.from) watch) (ap (λ (counts : Counts). counts.early) counts);
-  reach = λ anew. absurd (false≢true (sym on ∙ anew));
+  reach = reach;
   once = λ none_before none. subst (λ (watch : KeyWatch). HasTold watch (lines_taken read) (keys_taken read) told) (sym watch)
       (are.once none_before (sym (ap (λ (counts : Counts). counts.early) counts) ∙ none));
 }
+
+-- and where ends are said to be believed otherwise
+pub believes_else : (start : Start) (old new : Taking) (read : List (Result SaidLine Why)) (told : List Found) → start.anew ≡ false → AreTaken start old read told
+    → new.watch ≡ old.watch → new.numbering ≡ old.numbering → new.taken ≡ old.taken → new.refused ≡ old.refused → new.counts ≡ old.counts
+    → new.settled ≡ old.settled → AreTaken start new read told
+believes_else start old new read told on are watch numbering count refused counts settled =
+    held_else start old new read told are (λ anew. absurd (false≢true (sym on ∙ anew))) watch numbering count refused counts settled
 
 -- what is neither said nor counted of lines that were taken is no part of it
 pub taken_beside : (start : Start) (old new : Taking) (read : List (Result SaidLine Why)) (told : List Found) → AreTaken start old read told
@@ -94,40 +102,19 @@ pub taken_beside : (start : Start) (old new : Taking) (read : List (Result SaidL
     → new.settled ≡ old.settled → new.clocks ≡ old.clocks → AreTaken start new read told
 taken_beside start old new read told are watch numbering count refused counts settled clocks =
     let lines = lines_taken read in
-    record {
-      seen = subst (λ (watch : KeyWatch). HasSeenByKey watch lines (keys_taken read)) (sym watch) are.seen;
-      numbered = record {
-        above = ap (λ (numbering : Numbering). numbering.above.items) numbering ∙ are.numbered.above;
-        front = ap kept_by numbering ∙ are.numbered.front;
-        few = are.numbered.few;
-      };
-      count = count ∙ are.count;
-      refused = refused ∙ are.refused;
-      counted = subst (λ (counts : Counts). AreCounted counts (lines_since start read)) (sym counts) are.counted;
-      few = are.few;
-      before = are.before;
-      came = subst (λ (counts : Counts). AreEarly start.numbers.more read counts.early counts.judged counts.last_early) (sym counts) are.came;
-      few_ahead = (let was = are.few_ahead in let same = ap (λ (counts : Counts). counts.ahead) counts in omega (arith, was, same));
-      from = (let was = are.from in let same = ap (λ (watch : KeyWatch). watch.from) watch in omega (arith, was, same));
-      late = (let was = are.late in let same = ap (λ (counts : Counts). counts.early) counts in omega (arith, was, same));
-      settled = settled_still start old new lines are.settled settled (ap (λ (watch : KeyWatch). watch.from) watch) (ap (λ (counts : Counts). counts.early) counts);
-      reach = λ anew.
-          let was = are.reach anew in
-          let early = ap (λ (counts : Counts). counts.early) counts in
-          let ahead = ap (λ (counts : Counts). counts.ahead) counts in
-          let from = ap (λ (watch : KeyWatch). watch.from) watch in
-          let settled_by = ap (λ (n : ℕ). believed_end start.behind (take n lines)) settled in
-          let low = was.from in
-          let few = was.early in
-          record {
-            behind_is = ap (λ (clocks : Clocks). clocks.behind) clocks ∙ was.behind_is;
-            heard = subst (λ (clocks : Clocks). HasHeard clocks lines) (sym clocks) was.heard;
-            believed = ap (λ (clocks : Clocks). clocks.believed) clocks ∙ was.believed;
-            ahead_to = ap (λ (clocks : Clocks). clocks.ahead) clocks ∙ was.ahead_to;
-            from = omega (arith, low, from, settled_by);
-            early = omega (arith, few, early);
-            ahead = ahead ∙ was.ahead;
-          };
-      once = λ none_before none. subst (λ (watch : KeyWatch). HasTold watch lines (keys_taken read) told) (sym watch)
-          (are.once none_before (sym (ap (λ (counts : Counts). counts.early) counts) ∙ none));
-    }
+    let reach : start.anew ≡ true → IsInReach start.behind new lines = λ anew.
+    let was = are.reach anew in
+    let early = ap (λ (counts : Counts). counts.early) counts in
+    let from = ap (λ (watch : KeyWatch). watch.from) watch in
+    let settled_by = ap (λ (n : ℕ). believed_end start.behind (take n lines)) settled in
+    let low = was.from in
+    let few = was.early in record {
+      behind_is = ap (λ (clocks : Clocks). clocks.behind) clocks ∙ was.behind_is;
+      heard = subst (λ (clocks : Clocks). HasHeard clocks lines) (sym clocks) was.heard;
+      believed = ap (λ (clocks : Clocks). clocks.believed) clocks ∙ was.believed;
+      ahead_to = ap (λ (clocks : Clocks). clocks.ahead) clocks ∙ was.ahead_to;
+      from = omega (arith, low, from, settled_by);
+      early = omega (arith, few, early);
+      ahead = ap (λ (counts : Counts). counts.ahead) counts ∙ was.ahead;
+    } in
+    held_else start old new read told are reach watch numbering count refused counts settled

@@ -1,11 +1,11 @@
 -- Faults that are counted by their kinds and by whose they are, with one more.
-use Rattle.std.proofs.Common.{◌≡◌, ◌∙◌, ◌==◌, ℕ, ◌<◌, Bool, true, false, cond, List, [], ◌∷◌, ◌++◌, Option, All, Contains, append-nil, ap, arith, length, refl, subst, sym, take, get_or}
+use Rattle.std.proofs.Common.{◌≡◌, ◌∙◌, ◌==◌, ℕ, ◌<◌, Bool, true, false, cond, List, [], ◌∷◌, ◌++◌, Option, All, Contains, append-nil, ap, arith, length, refl, subst, sym, get_or}
 use Rattle.std.proofs.lemmas.Bool.{eq-eqb, eqb-false, eqb-true}
-use Rattle.std.proofs.lemmas.List.{length_push, length-map, map-append}
+use Rattle.std.proofs.lemmas.List.{length_push, map-append}
 use Rattle.std.proofs.lemmas.List.Elements.{All-push, Contains-append_left, Contains-push, filter-append}
 use Rattle.fdb_audit.specs.Groups.{Owned, kinds_of, number_of, of_group}
 use Rattle.fdb_audit.specs.declared.groups.Tally.{Tally}
-use Rattle.fdb_audit.specs.declared.totals.KindCounts.{KindCounts}
+use Rattle.fdb_audit.specs.declared.figures.KindCounts.{KindCounts}
 use Rattle.fdb_audit.specs.Tallied.{HasKinds, HasTallied, kinds_at}
 use Rattle.fdb_audit.proofs.Most.{same_number}
 

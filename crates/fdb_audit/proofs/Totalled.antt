@@ -9,7 +9,7 @@ use Rattle.fdb_lines.specs.declared.fault.Fault.{Fault}
 use Rattle.fdb_log_reader.specs.Numbers.{IsMore, number_in}
 use Rattle.fdb_audit.specs.Groups.{Owned}
 use Rattle.fdb_audit.specs.ToldFaults.{ByText, Texted, ToldFault, by_text, room, text_more, text_numbered, texted, texted_in, texts_from, with_text}
-use Rattle.fdb_audit.specs.declared.text_groups.TextGroups.{TextGroups}
+use Rattle.fdb_audit.specs.declared.told_faults.TextGroups.{TextGroups}
 use Rattle.fdb_audit.specs.Tallied.{AreNumbered, HasTallied, HasTexts, texts_in}
 use Rattle.fdb_audit.proofs.Naming.{text_there}
 

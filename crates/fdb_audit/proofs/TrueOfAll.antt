@@ -1,11 +1,11 @@
 -- What a watch tells is true of all lines.
-use Rattle.std.proofs.Common.{◌≡◌, ◌∙◌, ℕ, zero, suc, ◌<◌, ◌≤◌, Bool, List, [], ◌∷◌, ◌++◌, Option, Result, ap, arith, drop, length, map, refl, slice_index, slice_index_or, subst, sym, take}
-use Rattle.std.specs.List.{All, Contains, flat_map, range_with_len}
+use Rattle.std.proofs.Common.{◌≡◌, ◌∙◌, ℕ, zero, suc, ◌<◌, Bool, List, [], ◌∷◌, ◌++◌, Option, Result, arith, drop, length, map, slice_index, slice_index_or, subst, sym, take}
+use Rattle.std.specs.List.{All, Contains, range_with_len}
 use Rattle.std.proofs.lemmas.List.{get_or-map, length-map, take-append-drop}
 use Rattle.std.proofs.lemmas.List.Elements.{All-append, All-map, All-nil, All-weaker}
 use Rattle.fdb_lines.specs.declared.fault.Found.{Found}
 use Rattle.fdb_lines.specs.declared.line.Line.{Line}
-use Rattle.fdb_lines.specs.declared.reason.Finding.{Finding}
+use Rattle.fdb_lines.specs.declared.fault.Finding.{Finding}
 use Rattle.fdb_lines.specs.KeyParts.{lines_of_one}
 use Rattle.fdb_lines.specs.Keys.{placed_found, places_of}
 use Rattle.fdb_lines.specs.Lines.{lines_in as lines_at}
@@ -23,8 +23,8 @@ use Rattle.fdb_audit.specs.GoingOn.{places_staying}
 use Rattle.fdb_audit.specs.Pieces.{audited_in, places_beyond}
 use Rattle.fdb_audit.specs.Watched.{lines_asked, names_asked}
 use Rattle.fdb_audit.specs.declared.arguments.AuditArguments.{AuditArguments}
-use Rattle.fdb_audit.specs.declared.fault.LogFault.{LogFault}
-use Rattle.fdb_audit.specs.declared.judged.Wanted.{Wanted}
+use Rattle.fdb_audit.specs.declared.printer.LogFault.{LogFault}
+use Rattle.fdb_audit.specs.declared.judgement.Wanted.{Wanted}
 use Rattle.fdb_audit.proofs.Pieces.{Known, again_on, both_on, many, read_next, same}
 use Rattle.fdb_audit.proofs.ReadOn.{keys_taken_on, lines_taken_on}
 

@@ -13,12 +13,12 @@ use Rattle.fdb_lines.specs.declared.fault.Found.{Found}
 use Rattle.fdb_log_reader.specs.declared.error.ReadError.{ReadError}
 use Rattle.fdb_log_reader.specs.declared.error.Why.{Why}
 use Rattle.fdb_log_reader.specs.ReadLine.{SaidLine}
-use Rattle.fdb_audit.specs.declared.counts.Came.{Came}
-use Rattle.fdb_audit.specs.declared.counts.Counts.{Counts}
-use Rattle.fdb_audit.specs.declared.taking.Taking.{Taking}
-use Rattle.fdb_audit.specs.declared.warning.CountedLine.{CountedLine}
-use Rattle.fdb_audit.specs.declared.warning.Warning.{Warning}
-use Rattle.fdb_audit.specs.declared.warning.Warning.TheVariants.{Ahead, Early, Refused}
+use Rattle.fdb_audit.specs.declared.progress.Came.{Came}
+use Rattle.fdb_audit.specs.declared.progress.Counts.{Counts}
+use Rattle.fdb_audit.specs.declared.taken_lines.Taking.{Taking}
+use Rattle.fdb_audit.specs.declared.refusal.CountedLine.{CountedLine}
+use Rattle.fdb_audit.specs.declared.refusal.Warning.{Warning}
+use Rattle.fdb_audit.specs.declared.refusal.Warning.TheVariants.{Ahead, Early, Refused}
 use Rattle.fdb_audit.specs.Following.{Start}
 use Rattle.fdb_audit.specs.Taken.{AreTaken, HasWarned}
 use Rattle.fdb_audit.specs.Warned.{AreDoubled, IsNumberOfTaken, IsSaid, IsWarned, all_refused, as_ahead, as_early, as_refused, warning_line}

@@ -8,7 +8,7 @@ use Rattle.fdb_audit.specs.Pieces.{MayGoOn, places_beyond}
 use Rattle.fdb_audit.specs.Progress.{ArePieces, PrintedAll}
 use Rattle.fdb_audit.specs.Watched.{lines_asked}
 use Rattle.fdb_audit.specs.declared.arguments.AuditArguments.{AuditArguments}
-use Rattle.fdb_audit.specs.declared.fault.LogFault.{LogFault}
+use Rattle.fdb_audit.specs.declared.printer.LogFault.{LogFault}
 
 -- what is printed of a log that has ended, in pieces
 abbrev pub Pieces : AuditArguments → Option LogFault → Option ReadError → Option ℕ → ℕ → Start → (bytes text : List ℕ) → Type 0

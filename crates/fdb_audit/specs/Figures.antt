@@ -1,10 +1,10 @@
 -- Numbers that are printed by their names. (this product's own)
 use Rattle.std.specs.Prelude.{ℕ, ◌++◌, ◌∷◌, Bool, true, false, List, [], Option, None, Some, codes, decimal}
 use Rattle.std.specs.List.{flat_map}
-use Rattle.fdb_lines.specs.declared.effect.Effect.{Effect}
-use Rattle.fdb_lines.specs.declared.effect.Effect.TheVariants.{Asks, Reports, Reads}
-use Rattle.fdb_lines.specs.declared.opts.AuditOpts.{AuditOpts}
-use Rattle.fdb_lines.specs.declared.summed.Summary.{Summary}
+use Rattle.fdb_lines.specs.declared.slot.Effect.{Effect}
+use Rattle.fdb_lines.specs.declared.slot.Effect.TheVariants.{Asks, Reports, Reads}
+use Rattle.fdb_lines.specs.declared.log.AuditOpts.{AuditOpts}
+use Rattle.fdb_lines.specs.declared.log.Summary.{Summary}
 
 -- a number, or null
 abbrev pub number_or_null : Option ℕ → List ℕ

@@ -4,7 +4,7 @@ use Rattle.std.specs.List.{flat_map}
 use Rattle.std.specs.Option.{option_or}
 use Rattle.fdb_lines.specs.declared.fault.Found.{Found}
 use Rattle.fdb_lines.specs.declared.line.Line.{Line}
-use Rattle.fdb_lines.specs.declared.reason.Finding.{Finding}
+use Rattle.fdb_lines.specs.declared.fault.Finding.{Finding}
 use Rattle.fdb_lines.specs.Before.{began}
 use Rattle.fdb_lines.specs.Carried.{with_times}
 use Rattle.fdb_lines.specs.KeyParts.{lines_of_one}
@@ -25,8 +25,8 @@ use Rattle.fdb_audit.specs.Judged.{list_text}
 use Rattle.fdb_audit.specs.Objects.{total_object}
 use Rattle.fdb_audit.specs.Text.{Beside, PrintedLog, fault_of, line}
 use Rattle.fdb_audit.specs.ToldFaults.{AreTotals, ToldFault, told_at}
-use Rattle.fdb_audit.specs.declared.fault.LogFault.{LogFault}
-use Rattle.fdb_audit.specs.declared.judged.Wanted.{Wanted}
+use Rattle.fdb_audit.specs.declared.printer.LogFault.{LogFault}
+use Rattle.fdb_audit.specs.declared.judgement.Wanted.{Wanted}
 
 -- ---- the lines that are taken, of those that were read
 

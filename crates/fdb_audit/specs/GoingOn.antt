@@ -11,7 +11,7 @@ use Rattle.fdb_audit.specs.Kept.{KeepsLines, places_kept, start_of}
 use Rattle.fdb_audit.specs.Taken.{AreTaken, counted_of}
 use Rattle.fdb_audit.specs.Watched.{lines_asked, names_asked}
 use Rattle.fdb_audit.specs.declared.arguments.AuditArguments.{AuditArguments}
-use Rattle.fdb_audit.specs.declared.taking.Taking.{Taking}
+use Rattle.fdb_audit.specs.declared.taken_lines.Taking.{Taking}
 
 -- What is counted of all that had been read when a watch goes on: of these lines, and of what came before them.
 abbrev pub counted_before : Start → List (Result SaidLine Why) → List Window → Taking → Before

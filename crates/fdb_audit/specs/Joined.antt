@@ -1,6 +1,6 @@
 -- A log whose parts are audited by themselves. (this product's own)
 use Rattle.std.specs.Prelude.{◌≡◌, ℕ, ◌<◌, ◌==◌, List, Option, None, Some, Ok, length, map, option_and_then, slice_index, slice_index_or}
-use Rattle.fdb_lines.specs.declared.opts.AuditOpts.{AuditOpts}
+use Rattle.fdb_lines.specs.declared.log.AuditOpts.{AuditOpts}
 use Rattle.fdb_lines.specs.Carried.{places_where}
 use Rattle.fdb_lines.specs.Judged.{faults_in}
 use Rattle.fdb_lines.specs.Keys.{key_at}
@@ -11,7 +11,7 @@ use Rattle.fdb_log_reader.specs.ReadLine.{LineNames, MemberNames}
 use Rattle.fdb_log_reader.specs.Reading.{Reading, reading_with}
 use Rattle.fdb_audit.specs.Judged.{keys_of_lines, own_numbers}
 use Rattle.fdb_audit.specs.Text.{fault_of, number_at}
-use Rattle.fdb_audit.specs.declared.fault.LogFault.{LogFault}
+use Rattle.fdb_audit.specs.declared.printer.LogFault.{LogFault}
 
 -- some text was read so, with the keys of its lines
 abbrev pub WasReadByKey : Reading → Type 0

@@ -2,11 +2,11 @@
 use Rattle.std.specs.Prelude.{◌≡◌, ⊤, ℕ, ◌+◌, ◌++◌, Bool, true, false, List, [], ◌∷◌, Option, None, Some, Ok, codes, is_some, map, slice_get}
 use Rattle.std.specs.List.{flat_map}
 use Rattle.fdb_lines.specs.declared.fault.Found.{Found}
-use Rattle.fdb_lines.specs.declared.key_order.KeyOrder.{KeyOrder}
-use Rattle.fdb_lines.specs.declared.opts.AuditOpts.{AuditOpts}
-use Rattle.fdb_lines.specs.declared.reason.Finding.{Finding}
-use Rattle.fdb_lines.specs.declared.summed.Summary.{Summary}
-use Rattle.fdb_lines.specs.declared.step.OrderStep.{OrderStep}
+use Rattle.fdb_lines.specs.declared.order.KeyOrder.{KeyOrder}
+use Rattle.fdb_lines.specs.declared.log.AuditOpts.{AuditOpts}
+use Rattle.fdb_lines.specs.declared.fault.Finding.{Finding}
+use Rattle.fdb_lines.specs.declared.log.Summary.{Summary}
+use Rattle.fdb_lines.specs.declared.slot.OrderStep.{OrderStep}
 use Rattle.fdb_lines.specs.Audit.{case_of}
 use Rattle.fdb_lines.specs.Judged.{faults_in, AreAll, AreExplainedIn, AreOrders, HasLateIn, HasReasonIn, IsSummary}
 use Rattle.fdb_lines.specs.Lines.{Lines}
@@ -19,7 +19,7 @@ use Rattle.fdb_audit.specs.Figures.{figures_words, opts_figures, summary_figures
 use Rattle.fdb_audit.specs.Objects.{fault_object, step_object, text_or_null, total_object}
 use Rattle.fdb_audit.specs.Text.{Beside, PrintedLog, finding_text, line, owner_of, step_line}
 use Rattle.fdb_audit.specs.Totals.{faults_line, value_of}
-use Rattle.fdb_audit.specs.declared.judged.Wanted.{Wanted}
+use Rattle.fdb_audit.specs.declared.judgement.Wanted.{Wanted}
 
 -- ---- what is printed: sentences, or JSON objects
 

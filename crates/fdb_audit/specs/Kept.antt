@@ -13,8 +13,8 @@ pub use Rattle.fdb_log_reader.specs.Named.{Named, client_named, key_named, named
 use Rattle.fdb_log_reader.specs.ReadLine.{LineNames, SaidLine, lines_read, names_behind, no_names}
 use Rattle.fdb_log_reader.specs.Reading.{EndsALine, lines_in}
 use Rattle.fdb_audit.specs.declared.arguments.AuditArguments.{AuditArguments}
-use Rattle.fdb_audit.specs.declared.fault.LogFault.{LogFault}
-use Rattle.fdb_audit.specs.declared.taking.Taking.{Taking}
+use Rattle.fdb_audit.specs.declared.printer.LogFault.{LogFault}
+use Rattle.fdb_audit.specs.declared.taken_lines.Taking.{Taking}
 use Rattle.fdb_audit.specs.Following.{KeptNumbers, Start, early_at, keys_taken, lines_taken, none_before, number_in, taken, told_in_all}
 use Rattle.fdb_audit.specs.Taken.{AreTaken}
 use Rattle.fdb_audit.specs.Watched.{IsFollowed, lines_asked, names_asked}

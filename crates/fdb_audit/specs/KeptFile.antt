@@ -7,8 +7,8 @@ use Rattle.fdb_command.specs.declared.failure.Failure.{Failure}
 use Rattle.fdb_command.specs.declared.failure.Failure.TheVariants.{Refused, Arguments, Memory, Found, Reading, Writing, OwnFile}
 use Rattle.fdb_command.specs.declared.failure.FileFault.{FileFault}
 use Rattle.fdb_log_reader.specs.Printed.{shown_text}
-use Rattle.fdb_audit.specs.declared.fault.LogFault.{LogFault}
-use Rattle.fdb_audit.specs.declared.refused.LogsRefused.{LogsRefused}
+use Rattle.fdb_audit.specs.declared.printer.LogFault.{LogFault}
+use Rattle.fdb_audit.specs.declared.refusal.LogsRefused.{LogsRefused}
 
 -- the second line on standard error: which file it is, and where it could not be locked, who has it
 abbrev pub file_line : Access → Text → List ℕ

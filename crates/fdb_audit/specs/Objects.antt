@@ -1,17 +1,17 @@
 -- What is printed of a log as JSON, an object a line (RFC 8259). (this product's own)
 use Rattle.std.specs.Prelude.{ℕ, ◌++◌, ◌∷◌, if◌then◌else◌, Bool, true, List, [], Option, None, Some, codes, decimal, slice_get}
 use Rattle.std.specs.List.{flat_map}
-use Rattle.fdb_lines.specs.declared.late.Late.{Late}
+use Rattle.fdb_lines.specs.declared.fault.Late.{Late}
 use Rattle.fdb_lines.specs.declared.line.Operation.{Operation}
 use Rattle.fdb_lines.specs.declared.line.Operation.TheVariants.{Read, Commit, Ask, Report, Learn}
 use Rattle.fdb_lines.specs.declared.line.Times.{Times}
-use Rattle.fdb_lines.specs.declared.reason.Finding.{Finding}
-use Rattle.fdb_lines.specs.declared.reason.Means.{Means}
-use Rattle.fdb_lines.specs.declared.reason.Means.TheVariants.{Ended, Own, Learnt}
-use Rattle.fdb_lines.specs.declared.reason.Reason.{Reason}
-use Rattle.fdb_lines.specs.declared.reason.Reason.TheVariants.{Known, Unreported, Reported, Drawn, Undrawn}
-use Rattle.fdb_lines.specs.declared.reason.Witness.{Witness}
-use Rattle.fdb_lines.specs.declared.step.OrderStep.{OrderStep}
+use Rattle.fdb_lines.specs.declared.fault.Finding.{Finding}
+use Rattle.fdb_lines.specs.declared.fault.Means.{Means}
+use Rattle.fdb_lines.specs.declared.fault.Means.TheVariants.{Ended, Own, Learnt}
+use Rattle.fdb_lines.specs.declared.fault.Reason.{Reason}
+use Rattle.fdb_lines.specs.declared.fault.Reason.TheVariants.{Known, Unreported, Reported, Drawn, Undrawn}
+use Rattle.fdb_lines.specs.declared.fault.Witness.{Witness}
+use Rattle.fdb_lines.specs.declared.slot.OrderStep.{OrderStep}
 use Rattle.fdb_lines.specs.Lines.{line_at}
 use Rattle.fdb_lines.specs.Text.{fault_name}
 use Rattle.fdb_log_reader.specs.Columns.{text_at}

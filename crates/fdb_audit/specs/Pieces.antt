@@ -7,7 +7,7 @@ use Rattle.fdb_lines.specs.ToldByKey.{audited}
 use Rattle.fdb_log_reader.specs.Reading.{EndsALine}
 use Rattle.fdb_log_reader.specs.ReadLine.{are_full}
 use Rattle.fdb_audit.specs.declared.arguments.AuditArguments.{AuditArguments}
-use Rattle.fdb_audit.specs.declared.fault.LogFault.{LogFault}
+use Rattle.fdb_audit.specs.declared.printer.LogFault.{LogFault}
 use Rattle.fdb_audit.specs.Following.{Start, keys_taken, lines_taken, told_in_all}
 use Rattle.fdb_audit.specs.Kept.{IsStopped, start_of}
 use Rattle.fdb_audit.specs.Watched.{IsFollowed, lines_asked, names_asked}

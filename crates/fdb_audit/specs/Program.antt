@@ -15,11 +15,11 @@ use Rattle.fdb_log_reader.specs.Reading.{Reading, reading_with}
 use Rattle.fdb_audit.specs.Judged.{IsTextOfReading, own_numbers}
 use Rattle.fdb_audit.specs.Text.{fault_of}
 use Rattle.fdb_audit.specs.declared.arguments.AuditArguments.{AuditArguments}
-use Rattle.fdb_audit.specs.declared.fault.LogFault.{LogFault}
-use Rattle.fdb_audit.specs.declared.judged.Wanted.{Wanted}
-use Rattle.fdb_audit.specs.declared.refused.LogsRefused.{LogsRefused}
-use Rattle.fdb_audit.specs.declared.refused.LogsRefused.TheVariants.{Early, Log}
-use Rattle.fdb_audit.specs.declared.refused.LogsRefused.TheVariants.{Kept as Of_kept}
+use Rattle.fdb_audit.specs.declared.printer.LogFault.{LogFault}
+use Rattle.fdb_audit.specs.declared.judgement.Wanted.{Wanted}
+use Rattle.fdb_audit.specs.declared.refusal.LogsRefused.{LogsRefused}
+use Rattle.fdb_audit.specs.declared.refusal.LogsRefused.TheVariants.{Early, Log}
+use Rattle.fdb_audit.specs.declared.refusal.LogsRefused.TheVariants.{Kept as Of_kept}
 use Rattle.fdb_audit.specs.Following.{Start, fresh}
 use Rattle.fdb_audit.specs.Kept.{start_of}
 use Rattle.fdb_audit.specs.KeptFile.{KeepingFails}
@@ -66,7 +66,7 @@ members_named None = []
 members_named (Some text) = slice_split is_comma text
 
 -- what the arguments say, as clap has matched them
-pub record IsAsked (arguments : List Text) (asked : AuditArguments) : Type 0 where
+pub record AskFor (arguments : List Text) (asked : AuditArguments) : Type 0 where
   pub complete : asked.opts.complete ≡ number_named (codes "complete") arguments
   pub margin : asked.opts.margin ≡ unwrap_or (number_named (codes "margin") arguments) 0
   pub follow : asked.follow ≡ number_named (codes "follow") arguments
@@ -135,18 +135,13 @@ PrintsBy (Some behind) asked bytes text found refused =
     × IsPrinted asked (started asked behind kept) (not (is_some asked.keep)) (kept ++ bytes) text found error last_early
     × (refused ≡ refusal_of error last_early)
 
--- why it is refused, or why a part of it is, or that not all of it was judged; or what was kept is
+-- Why it is refused: no log is read of it, or of one that is followed what was kept is refused; or, of one that is followed, some
+-- text tells of that, since a part of it is refused or not all of it was judged.
 abbrev pub RefusesBy : Option ℕ → AuditArguments → List ℕ → LogsRefused → Type 0
 RefusesBy None asked bytes (Log error) = (error.why ≢ Memory) × (reading_asked asked bytes ≡ Err error)
-RefusesBy None asked bytes (Early number) = ⊥
-RefusesBy None asked bytes (Of_kept refused) = ⊥
-RefusesBy (Some behind) asked bytes (Log error) =
-    (kept : List ℕ) × MayBeKept asked kept × (text : List ℕ) × (found : Option LogFault) × (last_early : Option ℕ)
-    × IsPrinted asked (started asked behind kept) (not (is_some asked.keep)) (kept ++ bytes) text found (Some error) last_early
-RefusesBy (Some behind) asked bytes (Early number) =
-    (kept : List ℕ) × MayBeKept asked kept × (text : List ℕ) × (found : Option LogFault)
-    × IsPrinted asked (started asked behind kept) (not (is_some asked.keep)) (kept ++ bytes) text found None (Some number)
+RefusesBy None asked bytes _ = ⊥
 RefusesBy (Some behind) asked bytes (Of_kept refused) = is_some asked.keep ≡ true
+RefusesBy (Some behind) asked bytes refused = (text : List ℕ) × (found : Option LogFault) × PrintsBy (Some behind) asked bytes text found (Some refused)
 
 -- Neither --complete nor --history suits --follow, --keep suits nothing else, --position suits --keep alone, --forget suits --follow with --key alone, and --numbers suits neither --follow nor --history. It prints what an audit of the log finds that the bytes stand for,
 -- and refuses what stands for none; that memory was refused says nothing of the bytes. Whatever it finds, it prints. Of
@@ -163,14 +158,14 @@ audit = record {
       && (is_some (number_named (codes "follow") arguments) || is_given (codes "history") arguments))
       || (is_some (number_named (codes "forget") arguments)
       && not (is_some (number_named (codes "follow") arguments) && is_some (first_of (codes "key") (matches_of command arguments))))))));
-  asks = IsAsked;
+  asks = AskFor;
   tells = λ arguments. is_set (codes "progress") command arguments;
   warns = λ arguments. is_some (number_named (codes "follow") arguments);
   fails = λ arguments fault. KeepingFails (first_of (codes "keep") (matches_of command arguments)) fault;
   taken = HasTaken;
-  prints = λ arguments bytes text found refused. (asked : AuditArguments) × IsAsked arguments asked
+  prints = λ arguments bytes text found refused. (asked : AuditArguments) × AskFor arguments asked
       × PrintsBy asked.follow asked bytes text found refused;
-  refuses = λ arguments bytes refused. (asked : AuditArguments) × IsAsked arguments asked
+  refuses = λ arguments bytes refused. (asked : AuditArguments) × AskFor arguments asked
       × RefusesBy asked.follow asked bytes refused;
   finds = λ arguments bytes found. ⊥;
 }

@@ -8,12 +8,12 @@ use Rattle.fdb_lines.specs.Summary.{how_many}
 use Rattle.fdb_lines.specs.ToldByKey.{HasTold}
 use Rattle.fdb_log_reader.specs.declared.error.Why.{Why}
 use Rattle.fdb_log_reader.specs.ReadLine.{SaidLine}
-use Rattle.fdb_audit.specs.declared.carried.Carried.{Carried}
-use Rattle.fdb_audit.specs.declared.counts.Counts.{Counts}
-use Rattle.fdb_audit.specs.declared.numbering.Numbering.{Numbering}
-use Rattle.fdb_audit.specs.declared.taking.Taking.{Taking}
+use Rattle.fdb_audit.specs.declared.progress.Carried.{Carried}
+use Rattle.fdb_audit.specs.declared.progress.Counts.{Counts}
+use Rattle.fdb_audit.specs.declared.members.Numbering.{Numbering}
+use Rattle.fdb_audit.specs.declared.taken_lines.Taking.{Taking}
 use Rattle.fdb_audit.specs.declared.teller.Teller.{Teller}
-use Rattle.fdb_audit.specs.declared.beside.Column.{Column}
+use Rattle.fdb_audit.specs.declared.members.Column.{Column}
 use Rattle.fdb_audit.specs.declared.told_faults.ToldFaults.{ToldFaults}
 use Rattle.fdb_audit.specs.Tallied.{HasKinds, HasTexts, HasTextsIn}
 use Rattle.fdb_audit.specs.ToldFaults.{ToldFault, client_of}

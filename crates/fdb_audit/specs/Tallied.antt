@@ -10,8 +10,8 @@ use Rattle.fdb_audit.specs.Groups.{kinds_of, number_of, of_group, Owned}
 use Rattle.fdb_audit.specs.ToldFaults.{ToldFault, by_text, text_of}
 use Rattle.fdb_audit.specs.declared.groups.Group.{Group}
 use Rattle.fdb_audit.specs.declared.groups.Tally.{Tally}
-use Rattle.fdb_audit.specs.declared.text_groups.TextGroups.{TextGroups}
-use Rattle.fdb_audit.specs.declared.totals.KindCounts.{KindCounts}
+use Rattle.fdb_audit.specs.declared.told_faults.TextGroups.{TextGroups}
+use Rattle.fdb_audit.specs.declared.figures.KindCounts.{KindCounts}
 
 -- so many of these are of each kind
 pub record HasKinds (counts : KindCounts) (all : List Fault) : Type 0 where

@@ -8,14 +8,14 @@ use Rattle.fdb_log_reader.specs.declared.error.Why.TheVariants.{Empty, TooLong, 
 use Rattle.fdb_log_reader.specs.declared.member.Member.TheVariants.{Client, Read, Commit, Ask, Report, Learn, Began, Ended}
 use Rattle.fdb_log_reader.specs.ReadLine.{SaidLine}
 use Rattle.fdb_log_reader.specs.Text.{error_text}
-use Rattle.fdb_audit.specs.declared.refused.KeptFault.{KeptFault}
-use Rattle.fdb_audit.specs.declared.refused.KeptRefused.{KeptRefused}
-use Rattle.fdb_audit.specs.declared.refused.LogsRefused.{LogsRefused}
-use Rattle.fdb_audit.specs.declared.refused.LogsRefused.TheVariants.{Early, Kept, Log}
-use Rattle.fdb_audit.specs.declared.warning.CountedLine.{CountedLine}
-use Rattle.fdb_audit.specs.declared.warning.Warning.{Warning}
-use Rattle.fdb_audit.specs.declared.warning.Warning.TheVariants.{Refused, Ahead}
-use Rattle.fdb_audit.specs.declared.warning.Warning.TheVariants.{Early as Of_early}
+use Rattle.fdb_audit.specs.declared.refusal.KeptFault.{KeptFault}
+use Rattle.fdb_audit.specs.declared.refusal.KeptRefused.{KeptRefused}
+use Rattle.fdb_audit.specs.declared.refusal.LogsRefused.{LogsRefused}
+use Rattle.fdb_audit.specs.declared.refusal.LogsRefused.TheVariants.{Early, Kept, Log}
+use Rattle.fdb_audit.specs.declared.refusal.CountedLine.{CountedLine}
+use Rattle.fdb_audit.specs.declared.refusal.Warning.{Warning}
+use Rattle.fdb_audit.specs.declared.refusal.Warning.TheVariants.{Refused, Ahead}
+use Rattle.fdb_audit.specs.declared.refusal.Warning.TheVariants.{Early as Of_early}
 use Rattle.fdb_audit.specs.Following.{Start}
 use Rattle.fdb_audit.specs.Text.{line}
 

@@ -9,7 +9,7 @@ use Rattle.fdb_log_reader.specs.Printed.{printed}
 use Rattle.fdb_log_reader.specs.ReadLine.{LineNames, SaidLine, lines_read, names_behind, no_names}
 use Rattle.fdb_log_reader.specs.Reading.{lines_in}
 use Rattle.fdb_audit.specs.declared.arguments.AuditArguments.{AuditArguments}
-use Rattle.fdb_audit.specs.declared.fault.LogFault.{LogFault}
+use Rattle.fdb_audit.specs.declared.printer.LogFault.{LogFault}
 use Rattle.fdb_audit.specs.declared.follower.Follower.{Follower}
 use Rattle.fdb_audit.specs.declared.teller.Teller.{Teller}
 use Rattle.fdb_audit.specs.Following.{AreWindows, Counted, FollowArguments, IsCounted, IsEnd, Start, Window, counted_on, early_at, faults_told, first_told, keys_taken, lines_since, lines_taken, told_in_all}

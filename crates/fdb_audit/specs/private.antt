@@ -7,8 +7,8 @@ pub mod KeptTexts
 pub mod KeyTimes
 pub mod Pace
 use Rattle.std.specs.Prelude.{◌≡◌, ℕ, Bool, List, [], Option, map, option_copied, string_bytes}
-use Rattle.fdb_lines.specs.declared.key_order.Order.{Order}
-use Rattle.fdb_lines.specs.declared.key_order.Order.TheVariants.{One, ByKey}
+use Rattle.fdb_lines.specs.declared.order.Order.{Order}
+use Rattle.fdb_lines.specs.declared.order.Order.TheVariants.{One, ByKey}
 use Rattle.fdb_lines.specs.Judged.{HaveKeys}
 use Rattle.fdb_lines.specs.Lines.{Lines}
 use Rattle.fdb_lines.specs.Log.{lines_of}
@@ -18,14 +18,14 @@ use Rattle.fdb_audit.specs.Figures.{Figure}
 use Rattle.fdb_audit.specs.Groups.{by_client, by_member, Grouping}
 use Rattle.fdb_audit.specs.Text.{Beside, PrintedLog}
 use Rattle.fdb_audit.specs.Judged.{orders_text, steps_text}
-use Rattle.fdb_audit.specs.declared.asked.Asked.{Asked}
-use Rattle.fdb_audit.specs.declared.beside.Column.{Column}
-use Rattle.fdb_audit.specs.declared.beside.MemberTexts.{MemberTexts}
-use Rattle.fdb_audit.specs.declared.client_names.ClientNames.{ClientNames}
-use Rattle.fdb_audit.specs.declared.client_names.ClientNames.TheVariants.{Texts, OfLog}
+use Rattle.fdb_audit.specs.declared.printer.Asked.{Asked}
+use Rattle.fdb_audit.specs.declared.members.Column.{Column}
+use Rattle.fdb_audit.specs.declared.members.MemberTexts.{MemberTexts}
+use Rattle.fdb_audit.specs.declared.printer.ClientNames.{ClientNames}
+use Rattle.fdb_audit.specs.declared.printer.ClientNames.TheVariants.{Texts, OfLog}
 use Rattle.fdb_audit.specs.declared.figures.Figure.{Figure as Written}
-use Rattle.fdb_audit.specs.declared.grouped.By.{By}
-use Rattle.fdb_audit.specs.declared.grouped.By.TheVariants.{Client, Member}
+use Rattle.fdb_audit.specs.declared.groups.By.{By}
+use Rattle.fdb_audit.specs.declared.groups.By.TheVariants.{Client, Member}
 use Rattle.fdb_audit.specs.declared.groups.Group.{Group}
 use Rattle.fdb_audit.specs.declared.printer.Printer.{Printer}
 

@@ -1,19 +1,22 @@
-//! The command, and what its arguments say.
+//! The command, what its arguments say, and by which arguments lines are kept, as the first of them
+//! says.
 
-ghost use Rattle.std.specs.Prelude.{◌≡◌, ◌&&◌, ◌||◌, false, not, IfOk, List, option_map};
-ghost use Rattle.std.specs.Prelude.{map, string_bytes};
+ghost use Rattle.std.specs.Prelude.{◌≡◌, ◌&&◌, ◌||◌, false, not, IfOk, List, option_map, map};
+ghost use Rattle.std.specs.Prelude.{string_bytes};
 ghost use Rattle.std.specs.List.{slice_split};
 ghost use Rattle.clap.specs.Words.{Text, app_of, first_of, matches_of, rule_of, App};
 ghost use Rattle.fdb_command.specs.Arguments.{AreMatches};
-ghost use Rattle.fdb_audit.specs.Program.{command, is_comma, members_named, text_rule};
-ghost use Rattle.fdb_audit.specs.Program.{IsWanted};
+ghost use Rattle.fdb_audit.specs.Program.{command, is_comma, members_named, text_rule, IsWanted};
 ghost use Rattle.fdb_audit.specs.Watched.{AskForTheSame};
 
-use crate::judged::Wanted;
+use crate::judgement::Wanted;
+use crate::kept_file::member_texts;
 use clap::{Arg, ArgMatches, Command};
 use fdb_command::{file_argument, flag_argument, is_given, new_versioned_command, number_argument};
 use fdb_lines::AuditOpts;
+use fdb_log_reader::{printed_name, shown_text};
 use std::alloc::{AllocError, Global};
+use std::fmt::Write;
 
 /// The version, and the logic of the kit that has proved the program.
 const VERSION: &str = "0.4.0 (logic dac8208d650f15bf)";
@@ -258,4 +261,79 @@ pub(crate) fn command<'a>(alloc: Global) -> Result<Command<'a>, AllocError>
         "progress",
         "Say on standard error how far the log has been read",
     ))
+}
+
+/// The member of the first line that says by which arguments the lines are kept.
+pub(crate) const MADE_BY: &str = "kept_by";
+
+/// What the first of the lines that are kept has beside what it is kept as: by which arguments lines
+/// are kept, and further members, with a comma before each.
+pub(crate) fn with_arguments(
+    alloc: Global,
+    made_by: &str,
+    beside: &str,
+) -> Result<String, AllocError> {
+    let mut members = String::new(alloc);
+    write!(members, ",\"{MADE_BY}\":{made_by}{beside}")?;
+    Ok(members)
+}
+
+/// Whether lines that were kept say that they are by these arguments, as a text without any does.
+pub(crate) fn is_made_by(alloc: Global, made_by: &str, kept: &[u8]) -> Result<bool, AllocError> {
+    if kept.is_empty() {
+        return Ok(true);
+    }
+    let found = first_text(alloc, MADE_BY, kept)?;
+    Ok(found.as_deref() == Some(made_by))
+}
+
+/// The arguments by which lines are kept, in words, as they are printed.
+pub(crate) fn made_by(
+    alloc: Global,
+    asked: &AuditArguments,
+    behind: u64,
+) -> Result<String, AllocError> {
+    let mut text = String::new(alloc);
+    let margin = asked.opts.margin;
+    write!(text, "--follow {behind} --margin {margin}")?;
+    if let Some(after) = asked.forget {
+        write!(text, " --forget {after}")?;
+    }
+    push_member(alloc, &mut text, "--key", asked.key.as_deref())?;
+    for member in &asked.shown {
+        push_member(alloc, &mut text, "--show", Some(member.as_str()))?;
+    }
+    push_member(alloc, &mut text, "--position", asked.position.as_deref())?;
+    printed_name(alloc, &text)
+}
+
+/// Writes an argument that names a member, if it does.
+fn push_member(
+    alloc: Global,
+    out: &mut String,
+    argument: &str,
+    member: Option<&str>,
+) -> Result<(), AllocError> {
+    if let Some(member) = member {
+        let name = printed_name(alloc, member)?;
+        write!(out, " {argument} {name}")?;
+    }
+    Ok(())
+}
+
+/// What the first line of a text has in a member, as it is printed, if it has that.
+pub(crate) fn first_text(
+    alloc: Global,
+    member: &str,
+    text: &[u8],
+) -> Result<Option<String>, AllocError> {
+    let end = text.iter().position(|byte| *byte == b'\n');
+    let first = match end {
+        Some(end) => &text[..end],
+        None => text,
+    };
+    match member_texts(alloc, member, first)? {
+        Some(text) => Ok(Some(shown_text(alloc, &text)?)),
+        None => Ok(None),
+    }
 }

@@ -1,32 +1,32 @@
 //! The program: its command, and what it prints of a log.
 
-ghost use Rattle.std.specs.Prelude.{◌≡◌, ◌≢◌, ◌++◌, ℕ, [], IfErr, IfOk, List, MatchResult};
-ghost use Rattle.std.specs.Prelude.{◌⊎◌, ◌&&◌, ◌||◌, is_some, map, string_bytes, IsOkAnd};
-ghost use Rattle.std.specs.Prelude.{None, Option, not, option_map};
+ghost use Rattle.std.specs.Prelude.{◌≡◌, ◌≢◌, ◌++◌, ℕ, [], IfErr, IfOk, List, MatchResult, ◌⊎◌};
+ghost use Rattle.std.specs.Prelude.{is_some, map, not, option_map, string_bytes, IsOkAnd, None};
+ghost use Rattle.std.specs.Prelude.{Option};
 ghost use Rattle.std.specs.Thread.{IsSync};
 ghost use Rattle.clap.specs.Words.{Text};
-ghost use Rattle.fdb_audit.specs.Program.{audit, HasRead, HasTaken, IsAsked, IsWhole, Prints};
+ghost use Rattle.fdb_log_reader.specs.declared.error.ReadError.{ReadError};
+ghost use Rattle.fdb_command.specs.Arguments.{AreMatches};
+ghost use Rattle.fdb_command.specs.Driving.{IsBegun, IsDriven, Stops};
+ghost use Rattle.fdb_audit.specs.Program.{audit, command, HasRead, HasTaken, AskFor, IsWhole};
+ghost use Rattle.fdb_audit.specs.Program.{Prints, PrintsBy, refusal_of};
 ghost use Rattle.fdb_audit.specs.Following.{Start};
 ghost use Rattle.fdb_audit.specs.private.Kept.{MayFail};
-ghost use Rattle.fdb_audit.specs.Program.{PrintsBy, refusal_of};
-ghost use Rattle.fdb_log_reader.specs.declared.error.ReadError.{ReadError};
 ghost use Rattle.fdb_audit.specs.Progress.{HasPrinted, IsPrinted};
-ghost use Rattle.fdb_command.specs.Driving.{IsBegun, IsDriven, Stops};
 
 use crate::arguments::{AuditArguments, command, member_names, owned, text, wanted_of};
-use crate::fault::{LogFault, told};
 use crate::followed_log::FollowedLog;
-use crate::follower::{Followed, Said};
-use crate::judged::{Judgement, Wanted, judge_named_by, own_numbers};
-use crate::refused::LogsRefused;
+use crate::judgement::{Judgement, judge_named_in_threads, own_numbers};
+use crate::printer::{LogFault, told};
+use crate::refusal::LogsRefused;
+use crate::teller::{Followed, Said};
 use clap::{ArgMatches, Command};
 use fdb_command::{ArgumentsFault, Failure, Output, Program, Told, is_given, number};
 use fdb_lines::AuditOpts;
 use fdb_log_reader::{LogReader, ReadError, Why};
 use std::alloc::{AllocError, Global};
 use std::fs::{File, Files};
-use std::io;
-use std::io::{Read, Write};
+use std::io::{self, Read, Write};
 use std::thread::Threads;
 use std::time::Clock;
 
@@ -67,37 +67,22 @@ impl Program for Audit {
         alloc: Global,
         matches: &ArgMatches<'_>,
     ) -> Result<AuditArguments, ArgumentsFault> {
-        let complete = number(matches, "complete");
-        let follow = number(matches, "follow");
-        let forget = number(matches, "forget");
-        let wanted = wanted_of(matches);
-        let keep = text(matches, "keep");
-        let position = text(matches, "position");
-        let key = text(matches, "key");
-        let numbers = text(matches, "numbers");
-        let watched = Watched {
-            follow,
-            forget,
-            keep,
-            position,
-            key,
-        };
-        if is_unfit(&watched, complete, wanted, numbers) {
+        if !suits(matches) {
             return Err(ArgumentsFault::Refused);
         }
         Ok(AuditArguments {
             opts: AuditOpts {
-                complete,
+                complete: number(matches, "complete"),
                 margin: number(matches, "margin").unwrap_or(0),
             },
-            follow,
-            forget,
-            wanted,
-            keep: owned(alloc, keep)?,
-            position: owned(alloc, position)?,
-            key: owned(alloc, key)?,
+            follow: number(matches, "follow"),
+            forget: number(matches, "forget"),
+            wanted: wanted_of(matches),
+            keep: owned(alloc, text(matches, "keep"))?,
+            position: owned(alloc, text(matches, "position"))?,
+            key: owned(alloc, text(matches, "key"))?,
             shown: member_names(alloc, text(matches, "show"))?,
-            numbers: owned(alloc, numbers)?,
+            numbers: owned(alloc, text(matches, "numbers"))?,
             progress: is_given(matches, "progress"),
         })
     }
@@ -200,40 +185,28 @@ impl AuditIntake {
     }
 }
 
-/// What the arguments say of a log that is followed.
-#[derive(Clone, Copy)]
-struct Watched<'a> {
-    follow: Option<u64>,
-    forget: Option<u64>,
-    keep: Option<&'a str>,
-    position: Option<&'a str>,
-    key: Option<&'a str>,
-}
-
-/// Whether a log is to be followed and what needs all of it is asked for; or is not to be followed,
-/// and lines of it are to be kept; or none are, and where the last one stands is; or lines have
-/// their own numbers where it is followed, or an order is to be told; or keys are to be forgotten
-/// where it is not followed, or not by key.
-fn is_unfit(
-    watched: &Watched<'_>,
-    complete: Option<u64>,
-    wanted: Wanted,
-    numbers: Option<&str>,
-) -> bool
-    ensures { let it = watched.now in
-        result ≡ (is_some it.follow && (is_some complete || wanted.history)
-        || ((is_some it.keep && not (is_some it.follow))
-        || ((is_some it.position && not (is_some it.keep))
-        || ((is_some numbers.entry && (is_some it.follow || wanted.history))
-        || (is_some it.forget && not (is_some it.follow && is_some it.key)))))) }
+/// Whether the arguments suit: not where a log is to be followed and what needs all of it is asked
+/// for; or is not to be followed, and lines of it are to be kept; or none are, and where the last one
+/// stands is; or lines have their own numbers where it is followed, or an order is to be told; or keys
+/// are to be forgotten where it is not followed, or not by key.
+fn suits(matches: &ArgMatches<'_>) -> bool
+    ensures { (arguments : List Text) → AreMatches command arguments matches.now
+        → result ≡ audit.suits arguments }
 {
-    let follows = watched.follow.is_some();
-    let needs_all = follows && (complete.is_some() || wanted.history);
-    let keeps_none = watched.keep.is_some() && !follows;
-    let has_no_place = watched.position.is_some() && watched.keep.is_none();
-    let has_no_number = numbers.is_some() && (follows || wanted.history);
-    let has_no_keys = watched.forget.is_some() && !(follows && watched.key.is_some());
-    needs_all || (keeps_none || (has_no_place || (has_no_number || has_no_keys)))
+    let follows = number(matches, "follow").is_some();
+    let completes = number(matches, "complete").is_some();
+    let forgets = number(matches, "forget").is_some();
+    let keeps = text(matches, "keep").is_some();
+    let places = text(matches, "position").is_some();
+    let has_keys = text(matches, "key").is_some();
+    let has_numbers = text(matches, "numbers").is_some();
+    let history = is_given(matches, "history");
+    let needs_all = follows && (completes || history);
+    let keeps_none = keeps && !follows;
+    let has_no_place = places && !keeps;
+    let has_no_number = has_numbers && (follows || history);
+    let has_no_keys = forgets && !(follows && has_keys);
+    !(needs_all || (keeps_none || (has_no_place || (has_no_number || has_no_keys))))
 }
 
 /// Tells what has become certain of a log that is followed.
@@ -304,7 +277,7 @@ fn judged<R: Threads + Sync>(
     reader: LogReader,
 ) -> Result<Output<LogsRefused, LogFault>, Failure<LogsRefused, LogFault>>
     requires { IsSync R.row }
-    ensures { (arguments : List Text) → (bytes : List ℕ) → IsAsked arguments asked.now
+    ensures { (arguments : List Text) → (bytes : List ℕ) → AskFor arguments asked.now
         → asked.now.follow ≡ None → HasRead asked.now reader bytes → MatchResult result
         (λ answer. Prints asked.now bytes answer.text.items answer.found
         × (answer.refused ≡ None) × (answer.warnings.items ≡ []))
@@ -314,7 +287,7 @@ fn judged<R: Threads + Sync>(
         Ok(named) => named,
         Err(error) => return Err(refusal(error)),
     };
-    match judge_named_by(rt, alloc, &named, &asked.opts, asked.wanted) {
+    match judge_named_in_threads(rt, alloc, &named, &asked.opts, asked.wanted) {
         Ok(Judgement { fault, text }) => Ok(Output {
             text: text.into_bytes(),
             warnings: Vec::new(alloc),
@@ -350,7 +323,7 @@ pub fn drive<R: Files<File = File> + Clock + Threads + Sync, I: Read, O: Write, 
         Failure<LogsRefused, LogFault>,
     >
         requires { IsSync R.row }
-        ensures { (arguments : List Text) → (bytes told : List ℕ) → IsAsked arguments asked
+        ensures { (arguments : List Text) → (bytes told : List ℕ) → AskFor arguments asked
             → HasTaken asked intake bytes told → MatchResult result
             (λ answer. PrintsBy asked.follow asked bytes (told ++ answer.text.items) answer.found
             answer.refused × (asked.follow ≡ None → answer.warnings.items ≡ []))

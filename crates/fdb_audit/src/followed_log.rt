@@ -1,7 +1,7 @@
 //! A log that the program follows, and the file in which it keeps the lines that yet matter.
 
-ghost use Rattle.std.specs.Prelude.{◌≡◌, ◌++◌, ℕ, [], IfErr, IfOk, List, Some, false};
-ghost use Rattle.std.specs.Prelude.{◌≤◌, None, OnOk, length, option_map, string_bytes, true};
+ghost use Rattle.std.specs.Prelude.{◌≡◌, ◌++◌, ℕ, [], IfErr, IfOk, List, Some, false, ◌≤◌, None};
+ghost use Rattle.std.specs.Prelude.{OnOk, length, option_map, string_bytes, true};
 ghost use Rattle.fdb_audit.specs.Following.{Start};
 ghost use Rattle.fdb_audit.specs.Kept.{start_of};
 ghost use Rattle.fdb_audit.specs.private.Kept.{MayFail, MayStop};
@@ -10,12 +10,13 @@ ghost use Rattle.fdb_audit.specs.Watched.{HasFollowed};
 ghost use Rattle.fdb_audit.specs.declared.arguments.AuditArguments.{AuditArguments};
 
 use crate::arguments::AuditArguments;
-use crate::fault::LogFault;
-use crate::follower::{Followed, Follower, Said, Stopped};
+use crate::follower::Follower;
 use crate::kept_file::{Keeper, failure, read_kept, refusal};
 use crate::pace::{Pace, SECOND, moment};
+use crate::printer::LogFault;
 use crate::progress::Reporter;
-use crate::refused::LogsRefused;
+use crate::refusal::LogsRefused;
+use crate::teller::{Followed, Said, Stopped, behind};
 use fdb_command::{Access, Failure};
 use std::alloc::{AllocError, Global};
 use std::fs::{File, Files};
@@ -167,8 +168,9 @@ impl FollowedLog {
             return false;
         };
         let lines = self.follower.line_count();
-        let enough = (self.follower.kept_count() / 2).saturating_add(LOOKING);
-        if lines.saturating_sub(self.looked_at) < enough || !self.follower.has_just_settled() {
+        let taking = &self.follower.taking;
+        let enough = (taking.kept / 2).saturating_add(LOOKING);
+        if lines.saturating_sub(self.looked_at) < enough || taking.settled != taking.taken {
             return false;
         }
         self.looked_at = lines;
@@ -245,7 +247,7 @@ impl FollowedLog {
         ensures reporter { (self.new.reporter ≡ self.old.reporter)
             × (self.new.asked ≡ self.old.asked) }
     {
-        let unsettled = self.follower.unsettled();
+        let unsettled = self.follower.taking.unsettled;
         let has_time = self.has_grown && !unsettled.are_enough(is_idle);
         let is_time = unsettled.are_awaited(is_idle);
         self.has_grown = false;
@@ -369,30 +371,6 @@ fn first_end(bytes: &[u8]) -> usize
         }
     }
     bytes.len()
-}
-
-/// What is said at the end of a log, behind what is said in front of it.
-fn behind(front: Said, followed: Followed) -> Result<Followed, AllocError>
-    ensures text { IfOk result (λ it. string_bytes it.said.text
-        ≡ string_bytes front.text ++ string_bytes followed.said.text) }
-    ensures same { IfOk result (λ it. (it.found ≡ followed.found) × (it.refused ≡ followed.refused)
-        × (it.last_early ≡ followed.last_early)) }
-{
-    let Followed {
-        said,
-        found,
-        refused,
-        last_early,
-    } = followed;
-    let mut all = front;
-    all.text.push_str(&said.text)?;
-    all.warnings.push_str(&said.warnings)?;
-    Ok(Followed {
-        said: all,
-        found,
-        refused,
-        last_early,
-    })
 }
 
 /// An audit that goes on from the lines that were kept.

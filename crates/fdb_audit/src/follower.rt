@@ -1,42 +1,35 @@
 //! An audit that follows a log as it grows.
 
-ghost use Rattle.std.specs.Prelude.{◌≡◌, ◌++◌, ℕ, [], Bool, IfOk, List, OnOk, false, true};
-ghost use Rattle.std.specs.Prelude.{◌-◌, ◌<◌, max, Option, Result, option_map, string_bytes};
-ghost use Rattle.fdb_log_reader.specs.ReadLine.{SaidLine};
+ghost use Rattle.std.specs.Prelude.{◌≡◌, ◌++◌, ℕ, [], Bool, IfOk, List, OnOk, false, true, ◌-◌};
+ghost use Rattle.std.specs.Prelude.{◌<◌, max, Result, option_map, string_bytes, All, map};
+ghost use Rattle.std.specs.Option.{option_or};
+ghost use Rattle.std.specs.List.Sorted.{IsNonDecreasing};
+ghost use Rattle.fdb_log_reader.specs.ReadLine.{SaidLine, member_in};
 ghost use Rattle.fdb_log_reader.specs.declared.error.Why.{Why};
+ghost use Rattle.fdb_lines.specs.KeyWatch.{IsKept};
+ghost use Rattle.fdb_lines.specs.declared.fault.Found.{Found};
 ghost use Rattle.fdb_audit.specs.Following.{Start, fresh, keys_taken, left_out, lines_taken};
 ghost use Rattle.fdb_audit.specs.Following.{none_before, start_with};
-ghost use Rattle.std.specs.Option.{option_or};
-ghost use Rattle.fdb_lines.specs.declared.fault.Found.{Found};
 ghost use Rattle.fdb_audit.specs.Kept.{KeepsLines, KeptSaid, start_from, start_of, Keeps};
 ghost use Rattle.fdb_audit.specs.private.KeptTexts.{number_of};
-ghost use Rattle.fdb_lines.specs.KeyWatch.{IsKept};
-ghost use Rattle.std.specs.List.Sorted.{IsNonDecreasing};
-ghost use Rattle.std.specs.Prelude.{All, map};
 ghost use Rattle.fdb_audit.specs.Taken.{AreTaken};
-ghost use Rattle.fdb_log_reader.specs.ReadLine.{member_in};
 ghost use Rattle.fdb_audit.specs.Watched.{IsFollowed};
 ghost use Rattle.fdb_audit.specs.declared.arguments.AuditArguments.{AuditArguments};
 
 mod ending;
-mod going_on;
 
-use crate::arguments::AuditArguments;
-use crate::carried::Carried;
-use crate::fault::LogFault;
+use crate::arguments::{AuditArguments, is_made_by, made_by, with_arguments};
+use crate::clocks::KeyTimes;
 use crate::kept::{KeptText, kept_text};
-use crate::kept_arguments::{is_made_by, made_by, with_arguments};
-use crate::key_times::KeyTimes;
-use crate::numbering::Numbering;
-use crate::progress::Progress;
+use crate::members::Numbering;
+use crate::progress::{Carried, Progress};
 use crate::read_back::{kept_in_order, refusal_of};
-use crate::refused::KeptRefused;
-use crate::taking::Taking;
-use crate::teller::Teller;
-use crate::unsettled::Unsettled;
+use crate::refusal::KeptRefused;
+use crate::taken_lines::Taking;
+use crate::teller::{Followed, Said, Teller};
 use fdb_lines::{KeptLine, KeyWatch, laws};
 use fdb_log_reader::laws::{a_space_more_is_of_one_line, keys_stay_in_one_member};
-use fdb_log_reader::{LineReader, ReadError, Why};
+use fdb_log_reader::{LineReader, Why};
 use std::alloc::{AllocError, Global};
 use std::mem::replace;
 
@@ -47,7 +40,7 @@ use std::mem::replace;
 pub struct Follower {
     alloc: Global,
     reader: LineReader,
-    taking: Taking,
+    pub(crate) taking: Taking,
     teller: Teller,
     /// How far behind the newest end a line that comes may begin.
     behind: u64,
@@ -55,39 +48,6 @@ pub struct Follower {
     made_by: String,
     /// What an earlier piece of the same watch has counted.
     before: Carried,
-}
-
-/// What is to be said of a log that is followed.
-#[derive(Debug, Drop)]
-pub struct Said {
-    /// For the output: sentences or objects, a line for each.
-    pub text: String,
-    /// For standard error: a line for each line that was refused; and one for the first, second,
-    /// fourth and so on that came early, which means that it began before what had been settled, or
-    /// that shows that a clock is ahead.
-    pub warnings: String,
-}
-
-/// What is left to be said at the end of a log that was followed.
-#[derive(Debug, Drop)]
-pub struct Followed {
-    pub said: Said,
-    /// The first fault that was told, if one was.
-    pub found: Option<LogFault>,
-    /// The last line that was refused, if one was. Where the log had no line, it is [`Why::Empty`].
-    pub refused: Option<ReadError>,
-    /// The number, counted from 1, of the last line that had begun before what was settled when it
-    /// came, if there is one: then not all of the log was judged.
-    pub last_early: Option<u64>,
-}
-
-/// A log that is no longer followed, to be followed on later.
-#[derive(Debug, Drop)]
-pub struct Stopped {
-    pub followed: Followed,
-    /// The text that [`Follower::restore`] goes on from. The error is that this text, read back,
-    /// does not say what is kept.
-    pub kept: Result<String, KeptRefused>,
 }
 
 impl Follower {
@@ -362,11 +322,6 @@ impl Follower {
     /// with.
     pub fn settled_count(&self) -> u64 {
         self.taking.settled
-    }
-
-    /// The lines that have come since it settled.
-    pub(crate) fn unsettled(&self) -> Unsettled {
-        self.taking.unsettled
     }
 
     /// Settles, if it is time to.

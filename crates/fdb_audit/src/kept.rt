@@ -1,10 +1,9 @@
 //! The lines that are kept of a log that is followed, as a log of their own: with each it stands as
 //! what it was kept.
 
-ghost use Rattle.std.specs.Prelude.{◌≡◌, ◌∷◌, ◌++◌, ◌<◌, ◌^◌, [], All, List, IfOk, IfSome};
-ghost use Rattle.std.specs.Prelude.{Ok, OnOk};
-ghost use Rattle.std.specs.Prelude.{Option, Some, codes, decimal, is_some, length, map, option_map};
-ghost use Rattle.std.specs.Prelude.{string_bytes, true};
+ghost use Rattle.std.specs.Prelude.{◌≡◌, ◌∷◌, ◌++◌, ◌<◌, ◌^◌, [], All, List, IfOk, IfSome, Ok};
+ghost use Rattle.std.specs.Prelude.{OnOk, Option, Some, codes, decimal, is_some, length, map};
+ghost use Rattle.std.specs.Prelude.{option_map, string_bytes, true};
 ghost use Rattle.fdb_log_reader.specs.LineReader.{line_names};
 ghost use Rattle.fdb_log_reader.specs.ReadLine.{SaidLine, said_by, said_in};
 ghost use Rattle.fdb_log_reader.specs.Reading.{lines_in, EndsALine};
@@ -14,8 +13,8 @@ ghost use Rattle.fdb_audit.specs.Kept.{lines_kept, named_in, named_said, number_
 ghost use Rattle.fdb_audit.specs.private.Kept.{IsKeptAs};
 
 use crate::figures::{Figure, push_figures};
-use crate::refused::KeptRefused;
-use crate::taking::Taking;
+use crate::refusal::KeptRefused;
+use crate::taken_lines::Taking;
 use fdb_lines::{KeptLine, Operation};
 use fdb_log_reader::laws::{a_space_more_is_of_one_line, digits_are_read_as_their_number};
 use fdb_log_reader::{LineReader, ReadLine, Why, printed_name};

@@ -1,19 +1,31 @@
-//! The lines that are printed, and the names of their clients as they are printed.
+//! The lines that are printed, the names of their clients as they are printed, and a fault by the
+//! number of the line at which it stands.
 
 ghost use Rattle.std.specs.Prelude.{◌≡◌, ◌++◌, [], IfOk, OnOk, option_map, slice_get, string_bytes};
+ghost use Rattle.std.specs.Prelude.{map};
 ghost use Rattle.fdb_lines.specs.Lines.{line_at};
 ghost use Rattle.fdb_lines.specs.Log.{lines_of};
+ghost use Rattle.fdb_log_reader.specs.Names.{names_of};
+ghost use Rattle.fdb_log_reader.specs.Printed.{printed};
 ghost use Rattle.fdb_audit.specs.Text.{call_text, client_or, fault_of, members_text, mention};
 ghost use Rattle.fdb_audit.specs.Text.{name_or_number, number_at, number_text, whose_text};
 ghost use Rattle.fdb_audit.specs.ToldFaults.{client_text};
-ghost use Rattle.fdb_audit.specs.private.{shown_in};
+ghost use Rattle.fdb_audit.specs.private.{shown_in, names_in};
 
-use crate::beside::Column;
-use crate::client_names::ClientNames;
-use crate::fault::{LogFault, number_at};
-use fdb_lines::{Found, Line, Log, Operation};
+use crate::members::Column;
+use fdb_lines::{AuditOpts, Fault, Found, Line, Log, Operation};
+use fdb_log_reader::{Names, printed_name};
 use std::alloc::{AllocError, Global};
-use std::fmt::Write;
+use std::fmt::{self, Write};
+
+/// A log, with what is printed of it, that is judged as one register or, where its lines have keys,
+/// as one for each key.
+#[derive(Clone, Copy)]
+pub(crate) struct Asked<'a> {
+    pub printer: Printer<'a>,
+    pub keys: Option<&'a [Option<u32>]>,
+    pub opts: &'a AuditOpts,
+}
 
 /// What stands past the last line: nothing.
 const NOBODY: Line = Line {
@@ -165,4 +177,89 @@ fn push_call(out: &mut String, call: Operation) -> Result<(), AllocError>
         Operation::Report(version) => write!(out, "report {version}"),
         Operation::Learn(client) => write!(out, "learn {client}"),
     }
+}
+
+/// The names of clients, each at its client's number. A name is looked up where it is printed, so
+/// that no others cost anything.
+#[derive(Clone, Copy)]
+pub(crate) enum ClientNames<'a> {
+    /// Texts that are printed as they stand.
+    Texts(&'a [String]),
+    /// Names of a log, which are printed as JSON strings.
+    OfLog(&'a Names),
+}
+
+impl ClientNames<'_> {
+    /// Writes the name of a client, or its number where it has none.
+    pub(crate) fn push(self, out: &mut String, number: u32) -> Result<(), AllocError>
+        ensures { OnOk result (string_bytes out.new ≡ string_bytes out.old
+            ++ name_or_number number (slice_get (names_in self.entry) number)) }
+    {
+        match self {
+            ClientNames::Texts(texts) => push_text(out, texts, number),
+            ClientNames::OfLog(names) => push_name(out, names, number),
+        }
+    }
+}
+
+/// Writes one of some texts, or its number where there is none.
+fn push_text(out: &mut String, texts: &[String], number: u32) -> Result<(), AllocError>
+    ensures { OnOk result (string_bytes out.new ≡ string_bytes out.old
+        ++ name_or_number number (slice_get (map string_bytes texts.now) number)) }
+{
+    match texts.get(number as usize) {
+        Some(text) => write!(out, "{text}"),
+        None => write!(out, "{number}"),
+    }
+}
+
+/// Writes a client's name of a log as a JSON string, or its number where it has none.
+fn push_name(out: &mut String, names: &Names, number: u32) -> Result<(), AllocError>
+    ensures { OnOk result (string_bytes out.new ≡ string_bytes out.old
+        ++ name_or_number number (slice_get (map printed (names_of names.now)) number)) }
+{
+    match names.name(number) {
+        Some(name) => {
+            let text = printed_name(*out.allocator(), name)?;
+            write!(out, "{text}")
+        }
+        None => write!(out, "{number}"),
+    }
+}
+
+/// A fault, and the number of the line at which it stands, counted from 1.
+#[derive(Clone, Copy, Debug, PartialEq, Eq)]
+pub struct LogFault {
+    pub fault: Fault,
+    pub number: u64,
+}
+
+impl fmt::Display for LogFault {
+    ghost use Rattle.std.specs.Prelude.{Some};
+    ghost use Rattle.fdb_audit.specs.Text.{fault_text};
+
+    ghost output = { λ it. Some (fault_text it) };
+
+    fn fmt<W: fmt::Write>(&self, f: &mut fmt::Formatter<W>) -> fmt::Result {
+        write!(f, "{} {}", self.fault, self.number)
+    }
+}
+
+/// The number of the line at a place: by these numbers, or else the place, counted from 1.
+pub(crate) fn number_at(numbers: &[u64], place: u32) -> u64
+    ensures { result ≡ number_at numbers.now place }
+{
+    let number = numbers.get(place as usize);
+    number.copied().unwrap_or(place as u64 + 1)
+}
+
+/// The first fault of a log, by the number of its line, if there is one.
+pub(crate) fn told(numbers: &[u64], first: Option<Found>) -> Option<LogFault>
+    ensures { result ≡ option_map (fault_of numbers.now) first }
+{
+    let found = first?;
+    Some(LogFault {
+        fault: found.fault,
+        number: number_at(numbers, found.line),
+    })
 }

@@ -1,17 +1,17 @@
 //! Whether a text that was written says what is kept.
 
 ghost use Rattle.std.specs.Prelude.{◌≡◌, ◌<◌, ◌∷◌, ℕ, [], All, IfOk, IsPermutation, List, None};
-ghost use Rattle.std.specs.Prelude.{Option, Result};
-ghost use Rattle.std.specs.Prelude.{count_by, length, map, nat_lt, true, if◌then◌else◌};
+ghost use Rattle.std.specs.Prelude.{Option, Result, length, map, true};
+ghost use Rattle.std.specs.Prelude.{if◌then◌else◌};
 ghost use Rattle.std.specs.List.Sorted.{IsNonDecreasing};
-ghost use Rattle.fdb_lines.specs.declared.fault.Found.{Found};
 ghost use Rattle.fdb_lines.specs.KeyWatch.{HasSeenByKey, IsKept};
-ghost use Rattle.fdb_log_reader.specs.declared.error.Why.{Why};
+ghost use Rattle.fdb_lines.specs.declared.fault.Found.{Found};
 ghost use Rattle.fdb_log_reader.specs.LineReader.{line_names};
 ghost use Rattle.fdb_log_reader.specs.ReadLine.{SaidLine, member_in, said_in};
 ghost use Rattle.fdb_log_reader.specs.Reading.{lines_in, EndsALine};
+ghost use Rattle.fdb_log_reader.specs.declared.error.Why.{Why};
 ghost use Rattle.fdb_audit.specs.Following.{Start, keys_taken, lines_taken, taken};
-ghost use Rattle.fdb_audit.specs.Kept.{client_named, kept_at, kept_members, kept_said, key_named};
+ghost use Rattle.fdb_audit.specs.Kept.{kept_at, kept_members, kept_said};
 ghost use Rattle.fdb_audit.specs.Kept.{lines_kept, named_in, named_said, Rise};
 ghost use Rattle.fdb_audit.specs.GoingOn.{places_staying};
 ghost use Rattle.fdb_audit.specs.private.KeyTimes.{is_staying};
@@ -20,9 +20,9 @@ ghost use Rattle.fdb_audit.specs.private.KeptTexts.{named_kept, number_of, said_
 ghost use Rattle.fdb_audit.specs.private.Numbering.{AreNumbersOf};
 
 use crate::kept::{KeptText, client_name, key_name};
-use crate::numbering::Numbering;
-use crate::refused::KeptRefused;
-use crate::taking::Taking;
+use crate::members::Numbering;
+use crate::refusal::KeptRefused;
+use crate::taken_lines::Taking;
 use fdb_lines::{KeptLine, Line};
 use fdb_log_reader::{LineReader, ReadLine, Why};
 use std::alloc::{AllocError, Global};
@@ -109,7 +109,10 @@ fn says_kept(
         ≡ kept_at start.numbers read places.now taking.now.settled taking.now.watch.from) }
 {
     let numbers = numbers_at(alloc, &taking.numbering, places)?;
-    let come = count_below(places, taking.settled);
+    let come = places
+        .iter()
+        .filter(|place| **place < taking.settled)
+        .count();
     let more = taking.line_count().saturating_sub(places.len() as u64);
     let at = settled_if(come > 0, taking.watch.settled_to());
     Ok(says(said, &numbers, come, more, at))
@@ -162,7 +165,9 @@ fn is_said(
 {
     match said {
         Ok(said) => {
-            is_same_call(&said.line, &kept.line) && has_same_names(said, reader, kept, theirs)
+            is_same_call(&said.line, &kept.line)
+                && client_name(reader, said.line.client) == client_name(theirs, kept.line.client)
+                && key_name(reader, said.key) == key_name(theirs, kept.key)
         }
         Err(_) => false,
     }
@@ -173,22 +178,6 @@ fn is_same_call(one: &Line, other: &Line) -> bool
     ensures { result ≡ true → (one.now.call ≡ other.now.call) × (one.now.times ≡ other.now.times) }
 {
     one.call == other.call && one.times == other.times
-}
-
-/// Whether a line that was read has the names of one that is kept, of its client and its key.
-fn has_same_names(
-    said: &ReadLine,
-    reader: &LineReader,
-    kept: &KeptLine,
-    theirs: &LineReader,
-) -> bool
-    ensures { result ≡ true → (client_named (line_names reader.now) said.now.line.client
-        ≡ client_named (line_names theirs.now) kept.now.line.client)
-        × (key_named (line_names reader.now) said.now.key
-        ≡ key_named (line_names theirs.now) kept.now.key) }
-{
-    client_name(reader, said.line.client) == client_name(theirs, kept.line.client)
-        && key_name(reader, said.key) == key_name(theirs, kept.key)
 }
 
 /// Up to when all was told, if that is said.
@@ -208,11 +197,4 @@ fn numbers_at(alloc: Global, numbering: &Numbering, places: &[u64]) -> Result<Ve
         numbers.push(numbering.number(*taken))?;
     }
     Ok(numbers)
-}
-
-/// How many of some places are below one.
-fn count_below(places: &[u64], end: u64) -> usize
-    ensures { result ≡ count_by (λ place. nat_lt place end) places.now }
-{
-    places.iter().filter(|place| **place < end).count()
 }

@@ -1,19 +1,20 @@
-//! What is told of a log that is followed, as it is printed.
+//! What is told of a log that is followed, as it is printed, and what is left to be said at its
+//! end.
 
 ghost use Rattle.std.specs.Prelude.{◌≡◌, ◌&&◌, ◌++◌, ℕ, [], All, Bool, IfOk, List, None, OnOk};
 ghost use Rattle.std.specs.Prelude.{Option, Result, is_some, map, not, option_map, option_to_list};
-ghost use Rattle.std.specs.Prelude.{slice_get, string_bytes};
+ghost use Rattle.std.specs.Prelude.{slice_get, string_bytes, ◌<◌};
 ghost use Rattle.std.specs.Option.{option_or};
-ghost use Rattle.fdb_lines.specs.declared.key_part.KeyPart.{KeyPart};
 ghost use Rattle.fdb_lines.specs.KeyWatch.{AreTold, IsToldOf};
 ghost use Rattle.fdb_lines.specs.Reasons.{found_of};
 ghost use Rattle.fdb_lines.specs.ToldByKey.{told_by, told_by_all};
+ghost use Rattle.fdb_lines.specs.declared.key_part.KeyPart.{KeyPart};
 ghost use Rattle.fdb_log_reader.specs.LineReader.{line_names};
 ghost use Rattle.fdb_log_reader.specs.ReadLine.{SaidLine};
-ghost use Rattle.fdb_log_reader.specs.declared.error.Why.{Why};
 ghost use Rattle.fdb_log_reader.specs.Printed.{printed};
-ghost use Rattle.fdb_audit.specs.Following.{keys_taken, lines_taken, told_text, total_head};
-ghost use Rattle.fdb_audit.specs.Following.{IsEnd, KeptNumbers};
+ghost use Rattle.fdb_log_reader.specs.declared.error.Why.{Why};
+ghost use Rattle.fdb_audit.specs.Following.{keys_taken, lines_taken, told_text, total_head, IsEnd};
+ghost use Rattle.fdb_audit.specs.Following.{KeptNumbers};
 ghost use Rattle.fdb_audit.specs.Text.{fault_of};
 ghost use Rattle.fdb_audit.specs.ToldFaults.{told_at, ToldFault};
 ghost use Rattle.fdb_audit.specs.private.{members_of, shown_in};
@@ -22,19 +23,51 @@ ghost use Rattle.fdb_audit.specs.private.Followed.{HasCounted, HasTotals, HasTot
 ghost use Rattle.fdb_audit.specs.private.Followed.{IsSameTeller, TellsOn};
 
 use crate::arguments::AuditArguments;
-use crate::beside::Column;
-use crate::carried::Carried;
-use crate::client_names::ClientNames;
-use crate::fault::LogFault;
 use crate::figures::{Figure, push_line, push_total_object};
-use crate::judged::Wanted;
-use crate::printer::Printer;
-use crate::taking::Taking;
+use crate::judgement::Wanted;
+use crate::members::Column;
+use crate::printer::{ClientNames, LogFault, Printer};
+use crate::progress::Carried;
+use crate::refusal::KeptRefused;
+use crate::taken_lines::Taking;
 use crate::told_faults::ToldFaults;
 use fdb_lines::{Finding, SettledKey};
-use fdb_log_reader::{LineReader, printed_name};
+use fdb_log_reader::{LineReader, ReadError, printed_name};
 use std::alloc::{AllocError, Global};
 use std::mem::replace;
+
+/// What is to be said of a log that is followed.
+#[derive(Debug, Drop)]
+pub struct Said {
+    /// For the output: sentences or objects, a line for each.
+    pub text: String,
+    /// For standard error: a line for each line that was refused; and one for the first, second,
+    /// fourth and so on that came early, which means that it began before what had been settled, or
+    /// that shows that a clock is ahead.
+    pub warnings: String,
+}
+
+/// What is left to be said at the end of a log that was followed.
+#[derive(Debug, Drop)]
+pub struct Followed {
+    pub said: Said,
+    /// The first fault that was told, if one was.
+    pub found: Option<LogFault>,
+    /// The last line that was refused, if one was. Where the log had no line, it is [`Why::Empty`].
+    pub refused: Option<ReadError>,
+    /// The number, counted from 1, of the last line that had begun before what was settled when it
+    /// came, if there is one: then not all of the log was judged.
+    pub last_early: Option<u64>,
+}
+
+/// A log that is no longer followed, to be followed on later.
+#[derive(Debug, Drop)]
+pub struct Stopped {
+    pub followed: Followed,
+    /// The text that [`Follower::restore`] goes on from. The error is that this text, read back,
+    /// does not say what is kept.
+    pub kept: Result<String, KeptRefused>,
+}
 
 /// What is told of a log that is followed, and what it takes to print it.
 #[derive(Drop)]
@@ -290,4 +323,28 @@ fn count_in(
         told.add(alloc, printer, finding.found)?;
     }
     Ok(())
+}
+
+/// What is said at the end of a log, behind what is said in front of it.
+pub(crate) fn behind(front: Said, followed: Followed) -> Result<Followed, AllocError>
+    ensures text { IfOk result (λ it. string_bytes it.said.text
+        ≡ string_bytes front.text ++ string_bytes followed.said.text) }
+    ensures same { IfOk result (λ it. (it.found ≡ followed.found) × (it.refused ≡ followed.refused)
+        × (it.last_early ≡ followed.last_early)) }
+{
+    let Followed {
+        said,
+        found,
+        refused,
+        last_early,
+    } = followed;
+    let mut all = front;
+    all.text.push_str(&said.text)?;
+    all.warnings.push_str(&said.warnings)?;
+    Ok(Followed {
+        said: all,
+        found,
+        refused,
+        last_early,
+    })
 }

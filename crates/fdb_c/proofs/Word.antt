@@ -16,7 +16,7 @@ use denote.Struct.Struct.{within}
 use denote.Struct.Owning.{shape}
 use Rattle.core.proofs.alloc.Calls.{Al, Fits, handle_tells}
 use Rattle.std_alloc.specs.Box.Ownership.{box_owns}
-use Rattle.fdb_c.specs.contracts.parts.Parts as parts
+use Rattle.fdb_c.specs.contracts.handle.Parts as parts
 
 -- a pointer's word, and then an allocator's
 abbrev pub both : Val → Val → Val

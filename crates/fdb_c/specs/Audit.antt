@@ -10,14 +10,14 @@ use Rattle.fdb_lines.specs.declared.line.Operation.{Operation}
 use Rattle.fdb_lines.specs.declared.line.Operation.TheVariants as made
 use Rattle.fdb_lines.specs.declared.line.Line.{Line}
 use Rattle.fdb_lines.specs.declared.line.Times.{Times}
-use Rattle.fdb_lines.specs.declared.late.Late.{Late}
-use Rattle.fdb_lines.specs.declared.opts.AuditOpts.{AuditOpts}
-use Rattle.fdb_lines.specs.declared.reason.Finding.{Finding}
-use Rattle.fdb_lines.specs.declared.reason.Means.{Means}
-use Rattle.fdb_lines.specs.declared.reason.Means.TheVariants as means
-use Rattle.fdb_lines.specs.declared.reason.Reason.{Reason}
-use Rattle.fdb_lines.specs.declared.reason.Reason.TheVariants as reason
-use Rattle.fdb_lines.specs.declared.reason.Witness.{Witness}
+use Rattle.fdb_lines.specs.declared.fault.Late.{Late}
+use Rattle.fdb_lines.specs.declared.log.AuditOpts.{AuditOpts}
+use Rattle.fdb_lines.specs.declared.fault.Finding.{Finding}
+use Rattle.fdb_lines.specs.declared.fault.Means.{Means}
+use Rattle.fdb_lines.specs.declared.fault.Means.TheVariants as means
+use Rattle.fdb_lines.specs.declared.fault.Reason.{Reason}
+use Rattle.fdb_lines.specs.declared.fault.Reason.TheVariants as reason
+use Rattle.fdb_lines.specs.declared.fault.Witness.{Witness}
 use Rattle.fdb_log_reader.specs.Members.{and_then, or_bad, times_with}
 use Rattle.fdb_log_reader.specs.Reading.{pushed}
 use Rattle.fdb_log_reader.specs.declared.error.ReadError.{ReadError}
@@ -28,7 +28,7 @@ use Rattle.fdb_log_reader.specs.declared.member.Member.TheVariants as member
 use Rattle.fdb_lines.specs.Judged.{AreAll}
 use Rattle.fdb_audit.specs.Program.{members_named}
 use Rattle.fdb_audit.specs.declared.arguments.AuditArguments.{AuditArguments}
-use Rattle.fdb_audit.specs.declared.judged.Wanted.{Wanted}
+use Rattle.fdb_audit.specs.declared.judgement.Wanted.{Wanted}
 use Rattle.fdb_c.specs.declared.audit.FdbAuditOptions.{FdbAuditOptions}
 use Rattle.fdb_c.specs.declared.audit.FdbRefused.{FdbRefused}
 use Rattle.fdb_c.specs.declared.audit.TheConstants.{FDB_CLIENT, FDB_READ, FDB_COMMIT, FDB_ASK, FDB_REPORT, FDB_LEARN, FDB_BEGAN, FDB_ENDED, FDB_KEY}

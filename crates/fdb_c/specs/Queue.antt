@@ -12,13 +12,13 @@ use Rattle.fdb_queue.specs.declared.config.TheConstants.{MAX_ELAPSED}
 use Rattle.fdb_queue.specs.declared.config.QueueConfig.{QueueConfig}
 use Rattle.fdb_queue.specs.declared.error.QueueError.{QueueError}
 use Rattle.fdb_queue.specs.declared.error.QueueError.TheVariants.{BadConfig, BadCount, BatchThrottled, Full, TagTooLong, Memory}
-use Rattle.fdb_queue.specs.declared.request.Req.{Req}
+use Rattle.fdb_queue.specs.declared.waiting.Req.{Req}
 use Rattle.fdb_c.specs.declared.queue.FdbOp.{FdbOp}
 use Rattle.fdb_c.specs.declared.queue.FdbQueueConfig.{FdbQueueConfig}
 use Rattle.fdb_c.specs.declared.queue.FdbRequest.{FdbRequest}
 use Rattle.fdb_c.specs.declared.queue.FdbOutcome.{FdbOutcome}
 use Rattle.fdb_c.specs.declared.queue.Op.{Op}
-use Rattle.fdb_c.specs.declared.queue_tags.FdbLimit.{FdbLimit}
+use Rattle.fdb_c.specs.declared.queue_limits.FdbLimit.{FdbLimit}
 use Rattle.fdb_c.specs.declared.queue.Op.TheVariants.{Offer, Window, Pop}
 use Rattle.fdb_c.specs.declared.queue.TheConstants.{FDB_OP_OFFER, FDB_OP_WINDOW, FDB_OP_POP}
 use Rattle.fdb_c.specs.declared.status.TheConstants.{FDB_OK, FDB_MEMORY, FDB_ROOM, FDB_BAD_OP, FDB_BAD_CONFIG, FDB_BAD_COUNT, FDB_BATCH_THROTTLED, FDB_FULL, FDB_TAG_TOO_LONG}

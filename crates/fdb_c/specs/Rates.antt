@@ -4,9 +4,9 @@ use Rattle.fdb_queue.specs.NewRates.{turned_away, with_rates}
 use Rattle.fdb_queue.specs.Queue.{Queue}
 use Rattle.fdb_queue.specs.Throttles.{IsLeftAt, SameFrom}
 use Rattle.fdb_queue.specs.Waiting.{row}
-use Rattle.fdb_queue.specs.declared.request.TurnedAway.{TurnedAway}
+use Rattle.fdb_queue.specs.declared.waiting.TurnedAway.{TurnedAway}
 use Rattle.fdb_c.specs.Queue.{request_of, status_of}
-use Rattle.fdb_c.specs.declared.queue_rates.FdbTurnedAway.{FdbTurnedAway}
+use Rattle.fdb_c.specs.declared.queue_limits.FdbTurnedAway.{FdbTurnedAway}
 
 -- A request that was turned away, as C is told of it.
 abbrev pub turned_away_of : TurnedAway ℕ → FdbTurnedAway

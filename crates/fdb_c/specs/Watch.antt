@@ -1,6 +1,6 @@
 -- What C asks of a watch, what a watch is, and what it has told. (this product's own)
 use Rattle.std.specs.Prelude.{◌≡◌, ℕ, ◌++◌, Bool, true, false, List, [], Option, None, Some, option_map, string_bytes}
-use Rattle.fdb_lines.specs.declared.opts.AuditOpts.{AuditOpts}
+use Rattle.fdb_lines.specs.declared.log.AuditOpts.{AuditOpts}
 use Rattle.fdb_log_reader.specs.LineReader.{line_names}
 use Rattle.fdb_log_reader.specs.declared.error.ReadError.{ReadError}
 use Rattle.fdb_log_reader.specs.declared.error.Why.{Why}
@@ -9,14 +9,14 @@ use Rattle.fdb_audit.specs.Kept.{Keeps, start_of}
 use Rattle.fdb_audit.specs.Taken.{counted_of}
 use Rattle.fdb_audit.specs.Watched.{HasFollowed, IsFollowed, lines_asked}
 use Rattle.fdb_audit.specs.declared.arguments.AuditArguments.{AuditArguments}
-use Rattle.fdb_audit.specs.declared.fault.LogFault.{LogFault}
+use Rattle.fdb_audit.specs.declared.printer.LogFault.{LogFault}
 use Rattle.fdb_audit.specs.declared.follower.Follower.{Follower}
-use Rattle.fdb_audit.specs.declared.judged.Wanted.{Wanted}
-use Rattle.fdb_audit.specs.declared.refused.KeptRefused.{KeptRefused}
+use Rattle.fdb_audit.specs.declared.judgement.Wanted.{Wanted}
+use Rattle.fdb_audit.specs.declared.refusal.KeptRefused.{KeptRefused}
 use Rattle.fdb_c.specs.Audit.{Asked, asked_in, member_of, status_of}
 use Rattle.fdb_c.specs.declared.audit.FdbRefused.{FdbRefused}
 use Rattle.fdb_c.specs.declared.status.TheConstants.{FDB_NOT_KEPT}
-use Rattle.fdb_c.specs.declared.watch_counts.FdbWatchCounted.{FdbWatchCounted}
+use Rattle.fdb_c.specs.declared.watch_options.FdbWatchCounted.{FdbWatchCounted}
 use Rattle.fdb_c.specs.declared.watch_options.FdbWatchOptions.{FdbWatchOptions}
 
 -- ---- what is asked

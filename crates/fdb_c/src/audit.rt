@@ -1,17 +1,21 @@
-//! The audit of a log: what C asks for, and why a log is refused.
+//! The audit of a log: what C asks for, the arguments that this is, and why a log is refused.
 
-ghost use Rattle.std.specs.Prelude.{◌≡◌, ◌≢◌, ◌⊎◌};
+ghost use Rattle.std.specs.Prelude.{◌≡◌, ◌≢◌, ◌⊎◌, IfOk, MatchOption, option_map, string_bytes};
+ghost use Rattle.core.specs.Str.{IsUtf8};
 ghost use Rattle.fdb_c.specs.Audit.{IsRefusal, complete_of, member_of, number_of, opts_of};
-ghost use Rattle.fdb_c.specs.Audit.{refused_of, status_of, wanted_of};
+ghost use Rattle.fdb_c.specs.Audit.{refused_of, status_of, wanted_of, asked_in, asked_with};
+ghost use Rattle.fdb_c.specs.Audit.{unless_empty};
 ghost use Rattle.fdb_c.specs.declared.status.TheConstants.{FDB_OVER, FDB_UNJUDGED};
 
 use crate::status::{
     FDB_BAD_MEMBER, FDB_EMPTY, FDB_MEMORY, FDB_NO_CALL, FDB_NOT_JSON, FDB_SOME_TIMES, FDB_TOO_LONG,
     FDB_TOO_MANY, FDB_TWO_CALLS,
 };
-use fdb_audit::Wanted;
+use fdb_audit::{AuditArguments, Wanted, member_names};
 use fdb_lines::AuditOpts;
 use fdb_log_reader::{Member, ReadError, Why};
+use std::alloc::{AllocError, Global};
+use std::str;
 
 /// Whose call it was.
 pub const FDB_CLIENT: u8 = 1;
@@ -167,4 +171,65 @@ pub(crate) fn refuse(error: ReadError, refused: &mut FdbRefused) -> u8
         };
     }
     status
+}
+
+/// Two texts, where both are UTF-8.
+pub(crate) fn texts_of<'a>(key: &'a [u8], shown: &'a [u8]) -> Option<(&'a str, &'a str)>
+    ensures { MatchOption result (¬ (IsUtf8 key.now × IsUtf8 shown.now))
+        (λ texts. (texts.0.now ≡ key.now) × (texts.1.now ≡ shown.now)
+        × IsUtf8 key.now × IsUtf8 shown.now) }
+{
+    let Ok(key) = str::from_utf8(key) else {
+        return None;
+    };
+    let Ok(shown) = str::from_utf8(shown) else {
+        return None;
+    };
+    Some((key, shown))
+}
+
+/// A text, unless it is empty.
+fn unless_empty(text: &str) -> Option<&str>
+    ensures { option_map (λ text. text.now) result ≡ unless_empty text.now }
+{
+    if text.is_empty() { None } else { Some(text) }
+}
+
+/// A text of one's own.
+fn owned(alloc: Global, text: Option<&str>) -> Result<Option<String>, AllocError>
+    ensures { IfOk result (λ own. option_map string_bytes own
+        ≡ option_map (λ text. text.now) text.entry) }
+{
+    match text {
+        Some(text) => Ok(Some(String::from_str(alloc, text)?)),
+        None => Ok(None),
+    }
+}
+
+/// The arguments of an audit, or of one that follows a log: with the member that has the keys, and
+/// those that are shown, parted by commas; none where a text is empty.
+pub(crate) fn asked_with(
+    alloc: Global,
+    opts: AuditOpts,
+    follow: Option<u64>,
+    wanted: Wanted,
+    key: &str,
+    shown: &str,
+) -> Result<AuditArguments, AllocError>
+    ensures { IfOk result (λ asked. asked_in asked ≡ asked_with opts wanted key.now shown.now) }
+{
+    let key = owned(alloc, unless_empty(key))?;
+    let shown = member_names(alloc, unless_empty(shown))?;
+    Ok(AuditArguments {
+        opts,
+        follow,
+        forget: None,
+        wanted,
+        keep: None,
+        position: None,
+        key,
+        shown,
+        numbers: None,
+        progress: false,
+    })
 }

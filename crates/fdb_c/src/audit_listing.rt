@@ -1,20 +1,23 @@
-//! The audit of a log, as a list of faults.
+//! The audit of a log that an array of calls stands for, as a list of faults or as a text.
 
-ghost use Rattle.std.specs.Prelude.{◌≡◌, ◌⊎◌, ◌+◌, ◌≤◌, ◌++◌, List, None, Ok, Err, IfOk};
-ghost use Rattle.std.specs.Prelude.{false, true};
-ghost use Rattle.std.specs.Prelude.{OnErr, drop, length, map};
+ghost use Rattle.std.specs.Prelude.{◌≡◌, ◌⊎◌, ◌+◌, ◌≤◌, ◌++◌, List, None, Ok, Err, IfOk, false};
+ghost use Rattle.std.specs.Prelude.{true, OnErr, drop, length, map, ℕ, Option, Some, []};
+ghost use Rattle.std.specs.Prelude.{string_bytes};
 ghost use Rattle.fdb_lines.specs.Audit.{AreExplained, case_of};
 ghost use Rattle.fdb_lines.specs.Lines.{Lines};
 ghost use Rattle.fdb_lines.specs.Log.{lines_of};
+ghost use Rattle.fdb_lines.specs.declared.fault.Found.{Found};
 ghost use Rattle.fdb_log_reader.specs.Reading.{Reading, reading_in};
 ghost use Rattle.fdb_log_reader.specs.declared.error.ReadError.{ReadError};
+ghost use Rattle.fdb_audit.specs.Judged.{IsJudgement, IsText};
 ghost use Rattle.fdb_c.specs.Audit.{AreFaults, HasNoRoom, IsRefusal, IsWritten, log_in, opts_of};
-ghost use Rattle.fdb_c.specs.Audit.{refused_of, status_of, told};
+ghost use Rattle.fdb_c.specs.Audit.{refused_of, status_of, told, wanted_of};
 
-use crate::audit::{FdbAuditOptions, FdbRefused, opts_of, refuse};
+use crate::audit::{FdbAuditOptions, FdbRefused, opts_of, refuse, wanted_of};
 use crate::audit_calls::{FdbCall, log_of};
 use crate::audit_faults::{FdbFault, told};
 use crate::status::{FDB_FAULT, FDB_MEMORY, FDB_OK, FDB_ROOM};
+use fdb_audit::{Judgement, judge, judge_text};
 use fdb_lines::{Finding, Log, findings};
 use fdb_log_reader::read_log;
 use std::alloc::{AllocError, Global};
@@ -152,6 +155,114 @@ pub extern "C" fn fdb_audit_calls_faults(
     match log_of(alloc, calls) {
         Ok(log) => match list(alloc, &log, *options, faults, size) {
             Ok(status) => status,
+            Err(_) => FDB_MEMORY,
+        },
+        Err(error) => refuse(error, refused),
+    }
+}
+
+/// Writes a text to the start of a slice, and its size, unless there is no room for it.
+pub(crate) fn write_text(written: &str, text: &mut [u8], size: &mut u64) -> bool
+    ensures fits { (result ≡ true) → IsWritten written.now text.old text.new size.new }
+    ensures no_room { (result ≡ false) → HasNoRoom written.now text.old text.new size.new }
+{
+    let bytes = written.as_bytes();
+    *size = bytes.len() as u64;
+    if text.len() < bytes.len() {
+        return false;
+    }
+    text[..bytes.len()].copy_from_slice(bytes);
+    true
+}
+
+/// Writes what an audit found, unless there is no room for it: the status is the verdict then.
+fn tell(found: &Judgement, text: &mut [u8], size: &mut u64) -> u8
+    ensures ok { (result ≡ FDB_OK) → (found.now.fault ≡ None)
+        × IsWritten (string_bytes found.now.text) text.old text.new size.new }
+    ensures fault { (result ≡ FDB_FAULT) → (first : Found) × (found.now.fault ≡ Some first)
+        × IsWritten (string_bytes found.now.text) text.old text.new size.new }
+    ensures room { (result ≡ FDB_ROOM)
+        → HasNoRoom (string_bytes found.now.text) text.old text.new size.new }
+    ensures statuses { (result ≡ FDB_OK) ⊎ (result ≡ FDB_FAULT) ⊎ (result ≡ FDB_ROOM) }
+{
+    if !write_text(found.text.as_str(), text, size) {
+        return FDB_ROOM;
+    }
+    match found.fault {
+        Some(_) => FDB_FAULT,
+        None => FDB_OK,
+    }
+}
+
+/// Audits the log that a text of JSON Lines stands for. What is found goes to the start of `text`,
+/// and to `size` how long that is, also where there is no room for it. A refused log is told in
+/// `refused`.
+#[unsafe(no_mangle)]
+pub extern "C" fn fdb_audit_log_text(
+    alloc: Global,
+    log: &[u8],
+    options: &FdbAuditOptions,
+    text: &mut [u8],
+    size: &mut u64,
+    refused: &mut FdbRefused,
+) -> u8
+    ensures ok { (result ≡ FDB_OK) → (written : List ℕ)
+        × IsJudgement log.now (opts_of options.now) (wanted_of options.now) None written
+        × IsWritten written text.old text.new size.new }
+    ensures fault { (result ≡ FDB_FAULT) → (first : Found) × (written : List ℕ)
+        × IsJudgement log.now (opts_of options.now) (wanted_of options.now) (Some first) written
+        × IsWritten written text.old text.new size.new }
+    ensures room { (result ≡ FDB_ROOM) → (first : Option Found) × (written : List ℕ)
+        × IsJudgement log.now (opts_of options.now) (wanted_of options.now) first written
+        × HasNoRoom written text.old text.new size.new }
+    ensures refused { IsRefusal result → (error : ReadError) × (reading_in log.now ≡ Err error)
+        × (result ≡ status_of error.why) × (refused.new ≡ refused_of error) }
+    ensures untold { IsRefusal result → (text.new ≡ text.old) × (size.new ≡ size.old) }
+    ensures memory { (result ≡ FDB_MEMORY) → (text.new ≡ text.old) × (size.new ≡ size.old) }
+    ensures taken { ¬ IsRefusal result → refused.new ≡ refused.old }
+    ensures statuses { (result ≡ FDB_OK) ⊎ (result ≡ FDB_FAULT) ⊎ (result ≡ FDB_ROOM)
+        ⊎ (result ≡ FDB_MEMORY) ⊎ IsRefusal result }
+{
+    match judge_text(alloc, log, &opts_of(*options), wanted_of(*options)) {
+        Ok(found) => tell(&found, text, size),
+        Err(error) => refuse(error, refused),
+    }
+}
+
+/// Audits the log that calls stand for, each a line, as `fdb_audit_log_text` does. Clients are
+/// named by their numbers.
+#[unsafe(no_mangle)]
+pub extern "C" fn fdb_audit_calls_text(
+    alloc: Global,
+    calls: &[FdbCall],
+    options: &FdbAuditOptions,
+    text: &mut [u8],
+    size: &mut u64,
+    refused: &mut FdbRefused,
+) -> u8
+    ensures ok { (result ≡ FDB_OK) → (log : Lines) × (log_in calls.now ≡ Ok log)
+        × (written : List ℕ)
+        × IsText log [] (opts_of options.now) (wanted_of options.now) None written
+        × IsWritten written text.old text.new size.new }
+    ensures fault { (result ≡ FDB_FAULT) → (log : Lines) × (log_in calls.now ≡ Ok log)
+        × (first : Found) × (written : List ℕ)
+        × IsText log [] (opts_of options.now) (wanted_of options.now) (Some first) written
+        × IsWritten written text.old text.new size.new }
+    ensures room { (result ≡ FDB_ROOM) → (log : Lines) × (log_in calls.now ≡ Ok log)
+        × (first : Option Found) × (written : List ℕ)
+        × IsText log [] (opts_of options.now) (wanted_of options.now) first written
+        × HasNoRoom written text.old text.new size.new }
+    ensures refused { IsRefusal result → (error : ReadError) × (log_in calls.now ≡ Err error)
+        × (result ≡ status_of error.why) × (refused.new ≡ refused_of error) }
+    ensures untold { IsRefusal result → (text.new ≡ text.old) × (size.new ≡ size.old) }
+    ensures memory { (result ≡ FDB_MEMORY) → (text.new ≡ text.old) × (size.new ≡ size.old) }
+    ensures taken { ¬ IsRefusal result → refused.new ≡ refused.old }
+    ensures statuses { (result ≡ FDB_OK) ⊎ (result ≡ FDB_FAULT) ⊎ (result ≡ FDB_ROOM)
+        ⊎ (result ≡ FDB_MEMORY) ⊎ IsRefusal result }
+{
+    match log_of(alloc, calls) {
+        Ok(log) => match judge(alloc, &log, &[], &opts_of(*options), wanted_of(*options)) {
+            Ok(found) => tell(&found, text, size),
             Err(_) => FDB_MEMORY,
         },
         Err(error) => refuse(error, refused),

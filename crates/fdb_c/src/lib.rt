@@ -7,34 +7,19 @@
 //! `fdb_history`, `fdb_queue`, `fdb_lines` and `fdb_audit` say, over the structs that cross.
 #![tactic(auto)]
 
-mod asked;
 mod audit;
 mod audit_calls;
 mod audit_faults;
-mod audit_handle;
 mod audit_listing;
-mod audit_text;
 mod audited;
-mod audited_calls;
 mod chain;
-mod chain_calls;
-mod chain_handle;
-mod held;
-mod parts;
+mod handle;
 mod queue;
 mod queue_array;
 mod queue_calls;
-mod queue_handle;
-mod queue_rates;
-mod queue_steps;
-mod queue_tags;
-mod queue_window;
+mod queue_limits;
 mod register;
 mod status;
-mod story;
-mod version;
 mod watch_calls;
-mod watch_counts;
-mod watch_handle;
 mod watch_options;
 mod watched;

@@ -1,11 +1,23 @@
-//! The queue of a GRV proxy: its requests, operations and outcomes as C writes them.
+//! The queue of a GRV proxy: its requests, operations and outcomes as C writes them, and its
+//! operations, one at a time.
 
-ghost use Rattle.std.specs.Prelude.{◌≡◌, map, length};
-ghost use Rattle.fdb_c.specs.Queue.{number_of, offer_of, op_of, priority_of};
-ghost use Rattle.fdb_c.specs.Queue.{no_request, request_of, shown};
+ghost use Rattle.std.specs.Prelude.{◌≡◌, map, length, ◌+◌, ◌<◌, ◌≤◌, ◌++◌, drop, Some, None};
+ghost use Rattle.std.specs.Prelude.{IfSome, IsNone, IsSome, IfOk, Ok, OnOk};
+ghost use Rattle.fdb_queue.specs.Admission.{refusal_of};
+ghost use Rattle.fdb_queue.specs.Waiting.{first, row, without_first};
+ghost use Rattle.fdb_queue.specs.Window.{window};
+ghost use Rattle.fdb_queue.specs.declared.config.TheConstants.{MAX_STARTED};
+ghost use Rattle.fdb_c.specs.Queue.{number_of, offer_of, op_of, priority_of, no_request};
+ghost use Rattle.fdb_c.specs.Queue.{request_of, shown, after, after_offer, after_op, out_at};
+ghost use Rattle.fdb_c.specs.Queue.{out_of_offer, outcome, offered, started_at, status_at};
+ghost use Rattle.fdb_c.specs.Queue.{status_of, told};
 
+use crate::status::{
+    FDB_BAD_CONFIG, FDB_BAD_COUNT, FDB_BATCH_THROTTLED, FDB_FULL, FDB_MEMORY, FDB_OK,
+    FDB_TAG_TOO_LONG,
+};
 use fdb_history::Priority;
-use fdb_queue::{GrvQueue, Req};
+use fdb_queue::{GrvQueue, QueueError, Req};
 
 /// Offers a request.
 pub const FDB_OP_OFFER: u8 = 0;
@@ -192,4 +204,50 @@ pub(crate) fn shown(
         has_out,
         status,
     }
+}
+
+/// Offers a request: its refusal's number, and the request that is pushed out. There is none of it
+/// where memory is refused, and nothing has changed then.
+fn offer(queue: &mut GrvQueue<u64>, request: Req<u64>) -> Option<(u8, Option<Req<u64>>)>
+    ensures status { IfSome result (λ given. given.0 ≡ status_of (refusal_of queue.old request)) }
+    ensures out { IfSome result
+        (λ given. given.1 ≡ out_of_offer (refusal_of queue.old request) queue.old request) }
+    ensures after { IfSome result
+        (λ _. queue.new ≡ after_offer (refusal_of queue.old request) queue.old request) }
+    ensures not_memory { IfSome result (λ given. given.0 ≡ FDB_MEMORY → ⊥) }
+    ensures memory { IsNone result → queue.new ≡ queue.old }
+    ensures due { IsNone result → refusal_of queue.old request ≡ None }
+{
+    match queue.offer(request) {
+        Ok(out) => Some((FDB_OK, out)),
+        Err((QueueError::BadConfig, _)) => Some((FDB_BAD_CONFIG, None)),
+        Err((QueueError::BadCount, _)) => Some((FDB_BAD_COUNT, None)),
+        Err((QueueError::BatchThrottled, _)) => Some((FDB_BATCH_THROTTLED, None)),
+        Err((QueueError::Full, _)) => Some((FDB_FULL, None)),
+        Err((QueueError::TagTooLong, _)) => Some((FDB_TAG_TOO_LONG, None)),
+        Err((QueueError::Memory, _)) => None,
+    }
+}
+
+/// Offers a request and shows what the queue then is, unless memory is refused.
+pub(crate) fn offer_shown(queue: &mut GrvQueue<u64>, request: Req<u64>) -> Option<FdbOutcome>
+    ensures outcome { IfSome result (λ given. given ≡ outcome queue.old (Op.Offer request)) }
+    ensures after { IfSome result (λ _. queue.new ≡ after_op queue.old (Op.Offer request)) }
+    ensures not_memory { IfSome result (λ given. given.status ≡ FDB_MEMORY → ⊥) }
+    ensures memory { IsNone result → queue.new ≡ queue.old }
+    ensures due { IsNone result → status_at queue.old (Op.Offer request) ≡ FDB_OK }
+{
+    match offer(queue, request) {
+        Some((status, out)) => Some(shown(queue, status, out, 0)),
+        None => None,
+    }
+}
+
+/// Takes the first request out and shows what the queue then is.
+pub(crate) fn pop_shown(queue: &mut GrvQueue<u64>) -> FdbOutcome
+    ensures outcome { result ≡ outcome queue.old Op.Pop }
+    ensures after { queue.new ≡ after_op queue.old Op.Pop }
+{
+    let out = queue.pop();
+    shown(queue, FDB_OK, out, 0)
 }

@@ -6,11 +6,13 @@ ghost use Rattle.std.specs.Bool.{OnTrue};
 ghost use Rattle.fdb_queue.specs.Config.{IsConfig};
 ghost use Rattle.fdb_queue.specs.Queue.{new_queue};
 ghost use Rattle.fdb_c.specs.Queue.{after, after_op, config_of, op_of, outcome, request_of, shown};
-ghost use Rattle.fdb_c.specs.Queue.{started_at, started_by, started_each, status_at};
-ghost use Rattle.fdb_c.specs.Queue.{told, told_each};
+ghost use Rattle.fdb_c.specs.Queue.{started_at, started_by, started_each, status_at, told};
+ghost use Rattle.fdb_c.specs.Queue.{told_each};
 
-use crate::queue::{FdbOp, FdbOutcome, FdbQueueConfig, FdbRequest, Op, op_of, request_of, shown};
-use crate::queue_steps::{offer_shown, pop_shown};
+use crate::queue::{
+    FdbOp, FdbOutcome, FdbQueueConfig, FdbRequest, Op, offer_shown, op_of, pop_shown, request_of,
+    shown,
+};
 use crate::status::{FDB_BAD_CONFIG, FDB_BAD_OP, FDB_MEMORY, FDB_OK, FDB_ROOM};
 use fdb_queue::{GrvQueue, QueueConfig, QueueError, Req};
 use std::alloc::{AllocError, Global};

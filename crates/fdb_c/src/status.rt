@@ -1,4 +1,4 @@
-//! What a call answers: 0, or the number of a refusal.
+//! What a call answers: 0, or the number of a refusal; and which version of the library this is.
 
 ghost use Rattle.std.specs.Prelude.{◌≡◌, Some, if◌then◌else◌};
 ghost use Rattle.fdb_c.specs.Queue.{status_of};
@@ -106,4 +106,12 @@ pub(crate) fn status_of(cause: QueueError) -> u8
         QueueError::TagTooLong => FDB_TAG_TOO_LONG,
         QueueError::Memory => FDB_MEMORY,
     }
+}
+
+/// The version, 0.4.0: 10,000 for a major one, 100 for a minor one, 1 for a patch.
+#[unsafe(no_mangle)]
+pub extern "C" fn fdb_read_version_version() -> u32
+    ensures { result ≡ 400 }
+{
+    400
 }

@@ -4,26 +4,22 @@ ghost use Rattle.std.specs.Prelude.{◌≡◌, ◌≢◌, ◌↔◌, ◌⊎◌, 
 ghost use Rattle.std.specs.Prelude.{List, Option, Some, false, true};
 ghost use Rattle.core.specs.Str.{IsUtf8};
 ghost use Rattle.fdb_log_reader.specs.declared.error.ReadError.{ReadError};
+ghost use Rattle.fdb_audit.specs.declared.refusal.KeptRefused.{KeptRefused};
 ghost use Rattle.fdb_c.specs.Audit.{HasNoRoom, IsRefusal, IsWritten, asked_with, refused_of};
 ghost use Rattle.fdb_c.specs.Audit.{status_of};
-ghost use Rattle.fdb_audit.specs.declared.refused.KeptRefused.{KeptRefused};
 ghost use Rattle.fdb_c.specs.Watch.{HasCounted, HasLeftOut, HasTakenAll, HasTold, HasToldAll};
-ghost use Rattle.fdb_c.specs.Watch.{HasToldFault, IsKept, IsTold, kept_refused, new_watch};
-ghost use Rattle.fdb_c.specs.Watch.{no_line, opts_in, over, restored, status_of_why, unjudged_at};
-ghost use Rattle.fdb_c.specs.Watch.{wanted_in, with_bytes};
+ghost use Rattle.fdb_c.specs.Watch.{HasToldFault, IsKept, IsTold, kept_refused, new_watch, no_line};
+ghost use Rattle.fdb_c.specs.Watch.{opts_in, over, restored, status_of_why, unjudged_at, wanted_in};
+ghost use Rattle.fdb_c.specs.Watch.{with_bytes};
 
-use crate::asked::texts_of;
-use crate::audit::FdbRefused;
-use crate::audit_text::write_text;
-use crate::held::Held;
-use crate::parts::boxed;
+use crate::audit::{FdbRefused, texts_of};
+use crate::audit_listing::write_text;
+use crate::handle::{FdbWatch, Held, boxed};
 use crate::status::{
     FDB_BAD_MEMBER, FDB_FAULT, FDB_MEMORY, FDB_NOT_KEPT, FDB_OK, FDB_OVER, FDB_ROOM, FDB_UNJUDGED,
     status_of_writing,
 };
-use crate::watch_counts::FdbWatchCounted;
-use crate::watch_handle::FdbWatch;
-use crate::watch_options::FdbWatchOptions;
+use crate::watch_options::{FdbWatchCounted, FdbWatchOptions};
 use crate::watched::{Watched, refuse_kept};
 use fdb_audit::KeptRefused;
 use std::alloc::{AllocError, Global};

@@ -3,23 +3,21 @@
 ghost use Rattle.std.specs.Prelude.{◌≡◌, ◌≢◌, ◌++◌, ◌↔◌, ◌⊎◌, ℕ, Err, IfErr, IfOk, List};
 ghost use Rattle.std.specs.Prelude.{MatchOption, None, Option, Some, false, true};
 ghost use Rattle.fdb_log_reader.specs.declared.error.ReadError.{ReadError};
-ghost use Rattle.fdb_audit.specs.declared.fault.LogFault.{LogFault};
+ghost use Rattle.fdb_audit.specs.declared.printer.LogFault.{LogFault};
 ghost use Rattle.fdb_c.specs.Audit.{HasNoRoom, IsRefusal, IsWritten, asked_with, refused_of};
 ghost use Rattle.fdb_c.specs.Audit.{status_of};
 ghost use Rattle.fdb_c.specs.Watch.{HasCounted, HasLeftOut, HasTakenAll, HasTold, HasToldAll};
-ghost use Rattle.fdb_c.specs.Watch.{HasToldFault, IsKept, IsTold, kept_refused, new_watch};
-ghost use Rattle.fdb_c.specs.Watch.{opts_in, over, restored, status_of_why, unjudged_at};
-ghost use Rattle.fdb_c.specs.Watch.{wanted_in, with_bytes};
+ghost use Rattle.fdb_c.specs.Watch.{HasToldFault, IsKept, IsTold, kept_refused, new_watch, opts_in};
+ghost use Rattle.fdb_c.specs.Watch.{over, restored, status_of_why, unjudged_at, wanted_in};
+ghost use Rattle.fdb_c.specs.Watch.{with_bytes};
 
 use crate::audit::{FdbRefused, refuse};
-use crate::audit_text::write_text;
+use crate::audit_listing::write_text;
 use crate::status::{
     FDB_FAULT, FDB_MEMORY, FDB_NOT_KEPT, FDB_OK, FDB_OVER, FDB_ROOM, FDB_UNJUDGED,
     status_of_writing,
 };
-use crate::story::Story;
-use crate::watch_counts::{FdbWatchCounted, counted_of};
-use crate::watch_options::{FdbWatchOptions, asked_of};
+use crate::watch_options::{FdbWatchCounted, FdbWatchOptions, Story, asked_of, counted_of};
 use fdb_audit::{AuditArguments, Follower, KeptRefused, LogFault, Said};
 use fdb_log_reader::ReadError;
 use std::alloc::{AllocError, Global};

@@ -6,7 +6,7 @@ use Rattle.std.proofs.lemmas.List.{length-map}
 use Rattle.fdb_lines.specs.declared.fault.Fault.{Fault}
 use Rattle.fdb_lines.specs.declared.fault.Fault.TheVariants.{Order, Wrong, NotAbove, Twice, Stray}
 use Rattle.fdb_lines.specs.declared.line.Line.{Line}
-use Rattle.fdb_lines.specs.declared.opts.AuditOpts.{AuditOpts}
+use Rattle.fdb_lines.specs.declared.log.AuditOpts.{AuditOpts}
 use Rattle.fdb_lines.specs.Carried.{AreLeftBelow}
 use Rattle.fdb_lines.specs.Faults.{is_drawn, is_raised, is_reported, knows, last, some_below, stands}
 use Rattle.fdb_lines.specs.Lines.{Case, Kind, client_at, draws, is_commit, is_read, is_report, kind_at, kind_of, line_at, reports, may_be_same_client, shows, version_at, version_of, lines_in}

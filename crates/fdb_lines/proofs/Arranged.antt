@@ -18,9 +18,9 @@ use Rattle.fdb_lines.specs.contracts.slot.KeyEq.TheImpl.Laws.{laws-law}
 use Rattle.fdb_lines.specs.contracts.slot.KeyOrd.TheImpl.{cmp-value}
 use Rattle.fdb_lines.specs.contracts.slot.KeyOrd.TheImpl.Laws.{total-law, matches_eq-law}
 use Rattle.fdb_lines.specs.declared.slot.Slot.{Slot}
-use Rattle.fdb_lines.specs.declared.step.OrderStep.{OrderStep}
-use Rattle.fdb_lines.specs.declared.effect.Effect.{Effect}
-use Rattle.fdb_lines.specs.declared.effect.Effect.TheVariants.{Asks, Reports}
+use Rattle.fdb_lines.specs.declared.slot.OrderStep.{OrderStep}
+use Rattle.fdb_lines.specs.declared.slot.Effect.{Effect}
+use Rattle.fdb_lines.specs.declared.slot.Effect.TheVariants.{Asks, Reports}
 use Rattle.fdb_lines.specs.Explained.{taken, taken_by, Explains, Happens, IsMoment}
 use Rattle.fdb_lines.specs.Faults.{IsFaultless}
 use Rattle.fdb_lines.specs.Lines.{Kind, Read, Commit, Ask, Report, Learn, Case, draws, kind_at, shows, version_at}

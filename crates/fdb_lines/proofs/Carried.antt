@@ -7,7 +7,7 @@ use Rattle.std.proofs.lemmas.List.{get_or-append-add, get_or-map, get_or_append_
 use Rattle.fdb_lines.specs.declared.fault.Fault.TheVariants.{Order, NotAbove}
 use Rattle.fdb_lines.specs.declared.line.Line.{Line}
 use Rattle.fdb_lines.specs.declared.line.Times.{Times}
-use Rattle.fdb_lines.specs.declared.opts.AuditOpts.{AuditOpts}
+use Rattle.fdb_lines.specs.declared.log.AuditOpts.{AuditOpts}
 use Rattle.fdb_lines.specs.Audit.{case_of}
 use Rattle.fdb_lines.specs.Before.{began, began_of, by_time, ended, ended_before, ended_of}
 use Rattle.fdb_lines.specs.Carried.{is_past, past_by, with_times, IsCovered, MayGo, StandFor}

@@ -4,8 +4,8 @@ use Rattle.std.proofs.lemmas.Bool.{and_parts}
 use Rattle.std.proofs.lemmas.Bool.Decides.{nat_tests}
 use Rattle.std.proofs.lemmas.Option.{same_Some}
 use Rattle.fdb_lines.specs.Lines.{Case, kind_at, version_at, draws, shows, is_commit}
-use Rattle.fdb_lines.specs.declared.effect.Effect.{Effect}
-use Rattle.fdb_lines.specs.declared.effect.Effect.TheVariants.{Reports}
+use Rattle.fdb_lines.specs.declared.slot.Effect.{Effect}
+use Rattle.fdb_lines.specs.declared.slot.Effect.TheVariants.{Reports}
 use Rattle.fdb_lines.specs.declared.fault.Fault.TheVariants.{Order, NotAbove, Twice}
 use Rattle.fdb_lines.specs.Explained.{OthersMay, precedes, taken, IsMoment, Explains}
 use Rattle.fdb_lines.specs.Faults.{IsFaultless, draws_again, draws_it, reports_it}

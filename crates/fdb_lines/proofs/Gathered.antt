@@ -13,9 +13,9 @@ use Rattle.std.proofs.lemmas.List.Elements.{All-append, All-head, All-map, All-n
 use Rattle.std.proofs.lemmas.Map.Views.{All-map-IsPermutation}
 use Rattle.fdb_lines.specs.declared.fault.Fault.TheVariants.{Order}
 use Rattle.fdb_lines.specs.declared.fault.Found.{Found}
-use Rattle.fdb_lines.specs.declared.opts.AuditOpts.{AuditOpts}
-use Rattle.fdb_lines.specs.declared.reason.Finding.{Finding}
-use Rattle.fdb_lines.specs.declared.reason.Reason.TheVariants.{Unreported}
+use Rattle.fdb_lines.specs.declared.log.AuditOpts.{AuditOpts}
+use Rattle.fdb_lines.specs.declared.fault.Finding.{Finding}
+use Rattle.fdb_lines.specs.declared.fault.Reason.TheVariants.{Unreported}
 use Rattle.fdb_lines.specs.Audit.{case_of, AreExplained}
 use Rattle.fdb_lines.specs.Keys.{case_of_key, faults_at_by_key, faults_below_by_key, faults_by_key, key_at, keys_below, keys_of, lines_of_key, place_among, placed_finding, placed_found, placed_late, placed_reason, places_below, places_of, told_at, AreExplainedByKey, HasLateByKey, HasReasonByKey}
 use Rattle.fdb_lines.specs.Late.{HasLate, IsLateAt}

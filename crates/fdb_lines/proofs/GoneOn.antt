@@ -14,7 +14,7 @@ use Rattle.fdb_lines.specs.Listing.{faults_of}
 use Rattle.fdb_lines.specs.Watching.{is_due, is_watched, told_of, watched}
 use Rattle.fdb_lines.specs.private.Due.{due_at, told_below}
 use Rattle.fdb_lines.proofs.Carried.{and_one_more, one_more_is}
-use Rattle.fdb_lines.proofs.OnceTold.{all_due, below_same, told_same, window_more}
+use Rattle.fdb_lines.proofs.EntriesTell.{all_due, below_same, told_same, window_more}
 use Rattle.fdb_lines.proofs.Watched.{filtered, told_of_all, told_stays}
 
 -- ---- the lines that were kept, and those that come since, stand for all

@@ -22,7 +22,8 @@ use Rattle.fdb_lines.specs.Watching.{begins_before}
 use Rattle.fdb_lines.proofs.Carried.{and_one_more}
 use Rattle.fdb_lines.proofs.GoneOn.{numbers_on}
 use Rattle.fdb_lines.proofs.Keyed.{of_key, same_is, same_self}
-use Rattle.fdb_lines.proofs.OnceTold.{audited_there, audited_to_of, filter_same, maps_same, to_tell_still}
+use Rattle.fdb_lines.proofs.EntriesTell.{maps_same}
+use Rattle.fdb_lines.proofs.OnceTold.{audited_there, audited_to_of, filter_same, to_tell_still}
 use Rattle.fdb_lines.proofs.Permuted.{both_parts, permuted_by_key}
 use Rattle.fdb_lines.proofs.Renumbered.{audited_from_alike, places_same}
 use Rattle.fdb_lines.proofs.SeenByKey.{in_more, its_lines, other_places}

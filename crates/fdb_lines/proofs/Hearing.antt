@@ -3,10 +3,10 @@ use Rattle.std.proofs.Common.{◌≡◌, ℕ, suc, ◌<◌, ◌==◌, Bool, true
 use Rattle.std.proofs.lemmas.Bool.Decides.{nat_tests}
 use Rattle.std.proofs.lemmas.Bool.{cases_Bool, and_parts, cond-true, cond-false}
 use Rattle.fdb_lines.specs.declared.line.Line.{Line}
-use Rattle.fdb_lines.specs.declared.reason.Means.{Means}
-use Rattle.fdb_lines.specs.declared.reason.Means.TheVariants.{Own}
-use Rattle.fdb_lines.specs.declared.reason.Witness.{Witness}
-use Rattle.fdb_lines.specs.declared.exposure.Exposure.{Exposure}
+use Rattle.fdb_lines.specs.declared.fault.Means.{Means}
+use Rattle.fdb_lines.specs.declared.fault.Means.TheVariants.{Own}
+use Rattle.fdb_lines.specs.declared.fault.Witness.{Witness}
+use Rattle.fdb_lines.specs.declared.known.Exposure.{Exposure}
 use Rattle.fdb_lines.specs.Before.{is_of, has_heard, one_client, by_telling}
 use Rattle.fdb_lines.specs.Before.{heard_by as heard_at}
 use Rattle.fdb_lines.specs.Lines.{line_at, kind_of, is_learn, teller_of}

@@ -4,10 +4,10 @@ use Rattle.std.proofs.lemmas.Bool.Decides.{nat_tests}
 use Rattle.std.proofs.lemmas.Bool.{cases_lt, both_ways, and_parts}
 use Rattle.std.proofs.lemmas.List.{get_or_append_left, get_or_push}
 use Rattle.fdb_lines.specs.declared.line.Line.{Line}
-use Rattle.fdb_lines.specs.declared.reason.Means.{Means}
-use Rattle.fdb_lines.specs.declared.reason.Means.TheVariants.{Ended, Own}
-use Rattle.fdb_lines.specs.declared.reason.Witness.{Witness}
-use Rattle.fdb_lines.specs.declared.exposure.Exposure.{Exposure}
+use Rattle.fdb_lines.specs.declared.fault.Means.{Means}
+use Rattle.fdb_lines.specs.declared.fault.Means.TheVariants.{Ended, Own}
+use Rattle.fdb_lines.specs.declared.fault.Witness.{Witness}
+use Rattle.fdb_lines.specs.declared.known.Exposure.{Exposure}
 use Rattle.fdb_lines.specs.Before.{began, ended, one_client, ended_before, by_time}
 use Rattle.fdb_lines.specs.Faults.{greatest_of}
 use Rattle.fdb_lines.specs.Lines.{line_at}

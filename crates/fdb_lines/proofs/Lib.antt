@@ -1,3 +1,4 @@
+pub mod EntriesTell
 pub mod Numbers
 pub mod Sound
 pub mod Sorted

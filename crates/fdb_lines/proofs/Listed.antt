@@ -5,8 +5,8 @@ use Rattle.std.proofs.lemmas.Option.{slice_get_past}
 use Rattle.fdb_lines.specs.declared.fault.Fault.{Fault}
 use Rattle.fdb_lines.specs.declared.fault.Fault.TheVariants.{Order, Wrong, NotAbove, Twice, Stray}
 use Rattle.fdb_lines.specs.declared.fault.Found.{Found}
-use Rattle.fdb_lines.specs.declared.opts.AuditOpts.{AuditOpts}
-use Rattle.fdb_lines.specs.declared.reason.Finding.{Finding}
+use Rattle.fdb_lines.specs.declared.log.AuditOpts.{AuditOpts}
+use Rattle.fdb_lines.specs.declared.fault.Finding.{Finding}
 use Rattle.fdb_lines.specs.Audit.{case_of, AreExplained}
 use Rattle.fdb_lines.specs.Faults.{stands, IsFaultless}
 use Rattle.fdb_lines.specs.Lines.{Case, Lines}

@@ -4,9 +4,9 @@ use Rattle.std.specs.List.Sorted.{IsNonDecreasingBy}
 use Rattle.std.proofs.lemmas.Bool.{false_from_ne_true}
 use Rattle.std.proofs.lemmas.Bool.Decides.{nat_tests}
 use Rattle.fdb_lines.specs.declared.line.Line.{Line}
-use Rattle.fdb_lines.specs.declared.locator.Locator.{Locator}
-use Rattle.fdb_lines.specs.declared.reason.Witness.{Witness}
-use Rattle.fdb_lines.specs.declared.line_kind.LineKind.{LineKind}
+use Rattle.fdb_lines.specs.declared.line.Locator.{Locator}
+use Rattle.fdb_lines.specs.declared.fault.Witness.{Witness}
+use Rattle.fdb_lines.specs.declared.locators.LineKind.{LineKind}
 use Rattle.fdb_lines.specs.private.Entries.{IsFirstFrom}
 use Rattle.fdb_lines.specs.private.Locators.{is_located_at, is_named, locator_at, locator_key, name, no_locator, AreLocators, IsLocatorsFront}
 use Rattle.fdb_lines.proofs.Entries.{entry, entry_for}

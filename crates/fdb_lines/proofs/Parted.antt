@@ -7,7 +7,7 @@ use Rattle.std.proofs.lemmas.Bool.Decides.{nat_tests}
 use Rattle.std.proofs.lemmas.List.{get_or_append_left, get_or_push, get_or-map, get_or-set_other, get_or-set_same, length-map, length-set, map-set, map_push, set-get_or}
 use Rattle.std.proofs.lemmas.List.Elements.{All-append, All-cons, All-from_get_or, All-get_or, All-nil}
 use Rattle.std.proofs.lemmas.List.Sums.{sum_by_push, sum_by-set}
-use Rattle.fdb_lines.specs.declared.parts.Part.{Part}
+use Rattle.fdb_lines.specs.declared.log.Part.{Part}
 use Rattle.fdb_lines.specs.Keys.{key_at, keys_below, keys_of, place_among, places_below, places_of}
 use Rattle.fdb_lines.specs.private.Keys.{key_of, keys_in, number_of, AreNumbered, IsPartMore, IsPlaceMore}
 use Rattle.fdb_lines.specs.private.KeySums.{lines_in_all}

@@ -8,7 +8,7 @@ use Rattle.fdb_lines.specs.Before.{began, ended, one_client, by_time}
 use Rattle.fdb_lines.specs.Log.{lines_of}
 use Rattle.fdb_lines.specs.private.Slots.{slot_rank}
 use Rattle.fdb_lines.specs.Lines.{Lines, has_times, line_at}
-use Rattle.fdb_lines.specs.declared.opts.AuditOpts.{AuditOpts}
+use Rattle.fdb_lines.specs.declared.log.AuditOpts.{AuditOpts}
 use Rattle.fdb_lines.specs.Audit.{case_of}
 use Rattle.fdb_lines.specs.Order.{IsRanked, began_rank, rank_of}
 use Rattle.fdb_lines.proofs.Told as telling

@@ -5,12 +5,12 @@ use Rattle.std.proofs.lemmas.List.Folds.{list_any_at}
 use Rattle.fdb_lines.specs.declared.fault.Fault.TheVariants.{Order, Wrong, NotAbove, Twice, Stray}
 use Rattle.fdb_lines.specs.declared.line.Line.{Line}
 use Rattle.fdb_lines.specs.declared.log.Log.{Log}
-use Rattle.fdb_lines.specs.declared.opts.AuditOpts.{AuditOpts}
-use Rattle.fdb_lines.specs.declared.reason.Reason.TheVariants.{Known, Reported}
-use Rattle.fdb_lines.specs.declared.reason.Witness.{Witness}
-use Rattle.fdb_lines.specs.declared.exposure.Exposure.{Exposure}
-use Rattle.fdb_lines.specs.declared.exposure.Exposure.TheVariants.{Shown, Drawn}
-use Rattle.fdb_lines.specs.declared.line_kind.LineKind.TheVariants.{Raises, Owned, Nameless}
+use Rattle.fdb_lines.specs.declared.log.AuditOpts.{AuditOpts}
+use Rattle.fdb_lines.specs.declared.fault.Reason.TheVariants.{Known, Reported}
+use Rattle.fdb_lines.specs.declared.fault.Witness.{Witness}
+use Rattle.fdb_lines.specs.declared.known.Exposure.{Exposure}
+use Rattle.fdb_lines.specs.declared.known.Exposure.TheVariants.{Shown, Drawn}
+use Rattle.fdb_lines.specs.declared.locators.LineKind.TheVariants.{Raises, Owned, Nameless}
 use Rattle.fdb_lines.specs.declared.tables.Made.{Made}
 use Rattle.fdb_lines.specs.Audit.{case_of, start_of}
 use Rattle.fdb_lines.specs.Before.{comes_before}

@@ -10,7 +10,7 @@ use Rattle.fdb_lines.specs.declared.fault.Found.{Found}
 use Rattle.fdb_lines.specs.declared.key_part.KeyPart.{KeyPart}
 use Rattle.fdb_lines.specs.declared.key_part.SettledKey.{SettledKey}
 use Rattle.fdb_lines.specs.declared.line.Line.{Line}
-use Rattle.fdb_lines.specs.declared.reason.Finding.{Finding}
+use Rattle.fdb_lines.specs.declared.fault.Finding.{Finding}
 use Rattle.fdb_lines.specs.declared.watch.Watch.{Watch}
 use Rattle.fdb_lines.specs.Before.{began}
 use Rattle.fdb_lines.specs.KeyParts.{lines_of_one, names_of, HasSeenOne}

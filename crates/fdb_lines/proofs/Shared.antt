@@ -12,7 +12,7 @@ use Rattle.std.proofs.lemmas.List.Sums.{sum_by-append, sum_by-cons}
 use Rattle.fdb_lines.specs.contracts.slot.KeyOrd.TheImpl.{cmp-value}
 use Rattle.fdb_lines.specs.contracts.slot.KeyOrd.TheImpl.Laws.{matches_eq-law}
 use Rattle.fdb_lines.specs.declared.slot.Slot.{Slot}
-use Rattle.fdb_lines.specs.declared.step.OrderStep.{OrderStep}
+use Rattle.fdb_lines.specs.declared.slot.OrderStep.{OrderStep}
 use Rattle.fdb_lines.specs.Before.{is_of}
 use Rattle.fdb_lines.specs.Lines.{Kind, Read, Commit, Ask, Report, Learn, Case, draws, kind_at, shows, version_at}
 use Rattle.fdb_lines.specs.Order.{Item, ask_item, needs_ask, needs_report, report_item, shared_item, take_by, take_item}

@@ -25,7 +25,8 @@ use Rattle.fdb_lines.proofs.Carried.{Rising, fewer_are}
 use Rattle.fdb_lines.proofs.Gathered.{all_below}
 use Rattle.fdb_lines.proofs.GoneOnByKey.{in_both}
 use Rattle.fdb_lines.proofs.Keyed.{has_place, same_is, same_self}
-use Rattle.fdb_lines.proofs.OnceTold.{all_due, audited_of, placed_twice, told_there}
+use Rattle.fdb_lines.proofs.EntriesTell.{all_due, placed_twice, told_there}
+use Rattle.fdb_lines.proofs.OnceTold.{audited_of}
 use Rattle.fdb_lines.proofs.Renumbered.{audited_alike}
 use Rattle.fdb_lines.proofs.StandByKey.{audited_there, is_its, its, kept_are, many, there, there_are, there_within}
 

@@ -19,7 +19,8 @@ use Rattle.fdb_lines.specs.Watching.{begins_before, is_due, is_watched, opts_of,
 use Rattle.fdb_lines.proofs.Carried.{at_part, fewer_are}
 use Rattle.fdb_lines.proofs.GoneOn.{any_number, by_part}
 use Rattle.fdb_lines.proofs.Keyed.{has_place, place_is, same_is}
-use Rattle.fdb_lines.proofs.OnceTold.{at_lines, audited_of, filter_same, filters_swap, maps_same, placed_twice, told_same, told_there}
+use Rattle.fdb_lines.proofs.EntriesTell.{maps_same, placed_twice, told_same, told_there}
+use Rattle.fdb_lines.proofs.OnceTold.{at_lines, audited_of, filter_same, filters_swap}
 use Rattle.fdb_lines.proofs.Permuted.{filter_mapped, permuted_by_key}
 use Rattle.fdb_lines.proofs.Windows.{told_after}
 

@@ -6,10 +6,10 @@ use Rattle.std.proofs.lemmas.Option.{none-some, same_Some}
 use Rattle.std.specs.List.{dedup, dedup_from}
 use Rattle.fdb_lines.specs.contracts.slot.KeyEq.TheImpl.Laws.{laws-law}
 use Rattle.fdb_lines.specs.contracts.slot.KeyPartialEq.TheImpl.{eq-value}
-use Rattle.fdb_lines.specs.declared.effect.Effect.{Effect}
+use Rattle.fdb_lines.specs.declared.slot.Effect.{Effect}
 use Rattle.fdb_lines.specs.declared.slot.Key.{Key}
 use Rattle.fdb_lines.specs.declared.slot.Slot.{Slot}
-use Rattle.fdb_lines.specs.declared.step.OrderStep.{OrderStep}
+use Rattle.fdb_lines.specs.declared.slot.OrderStep.{OrderStep}
 use Rattle.fdb_lines.specs.OrderSteps.{effects_of, StandsAt}
 use Rattle.fdb_lines.specs.private.Slots.{item_of, shares, steps_from}
 

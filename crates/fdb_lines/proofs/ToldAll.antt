@@ -9,7 +9,7 @@ use Rattle.fdb_lines.specs.declared.fault.Fault.{Fault}
 use Rattle.fdb_lines.specs.declared.fault.Fault.TheVariants.{Order, Wrong, NotAbove, Twice, Stray}
 use Rattle.fdb_lines.specs.declared.fault.Found.{Found}
 use Rattle.fdb_lines.specs.declared.line.Line.{Line}
-use Rattle.fdb_lines.specs.declared.reason.Finding.{Finding}
+use Rattle.fdb_lines.specs.declared.fault.Finding.{Finding}
 use Rattle.fdb_lines.specs.declared.watch.Watch.{Watch}
 use Rattle.fdb_lines.specs.Audit.{case_of}
 use Rattle.fdb_lines.specs.Before.{began}

@@ -4,8 +4,8 @@ use Rattle.std.specs.List.{All, sum_by}
 use Rattle.std.proofs.lemmas.List.{length-map}
 use Rattle.std.proofs.lemmas.List.Elements.{All-head, All-tail}
 use Rattle.std.proofs.lemmas.List.Sums.{sum_by-cons, sum_by_more, sum_by_more_le}
-use Rattle.fdb_lines.specs.declared.opts.AuditOpts.{AuditOpts}
-use Rattle.fdb_lines.specs.declared.parts.Part.{Part}
+use Rattle.fdb_lines.specs.declared.log.AuditOpts.{AuditOpts}
+use Rattle.fdb_lines.specs.declared.log.Part.{Part}
 use Rattle.fdb_lines.specs.Audit.{case_of}
 use Rattle.fdb_lines.specs.Keys.{case_of_key, keys_of, lines_of_key, places_of}
 use Rattle.fdb_lines.specs.Lines.{line_at, part_of, Lines}

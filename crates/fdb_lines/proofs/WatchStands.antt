@@ -25,7 +25,8 @@ use Rattle.fdb_lines.specs.ToldByKey.{HasTold, audited, audited_to}
 use Rattle.fdb_lines.proofs.Carried.{later, Rising}
 use Rattle.fdb_lines.proofs.GoneOnByKey.{told_then, whole_by_key}
 use Rattle.fdb_lines.proofs.Keyed.{has_none, of_key, place_is, same_is, same_self}
-use Rattle.fdb_lines.proofs.OnceTold.{apart, is_there, maps_same, same_part, told_is}
+use Rattle.fdb_lines.proofs.EntriesTell.{apart, maps_same, same_part}
+use Rattle.fdb_lines.proofs.OnceTold.{is_there, told_is}
 use Rattle.fdb_lines.proofs.Opened.{in_filter}
 use Rattle.fdb_lines.proofs.Permuted.{none_pass}
 

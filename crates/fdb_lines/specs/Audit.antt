@@ -1,7 +1,7 @@
 -- What is asked of a log, by its lines and the options of an audit. (this product's own)
 use Rattle.std.specs.Prelude.{ℕ, Bool, true, false, List, Option, None, Some}
-use Rattle.fdb_lines.specs.declared.effect.Effect.{Effect}
-use Rattle.fdb_lines.specs.declared.opts.AuditOpts.{AuditOpts}
+use Rattle.fdb_lines.specs.declared.slot.Effect.{Effect}
+use Rattle.fdb_lines.specs.declared.log.AuditOpts.{AuditOpts}
 use Rattle.fdb_lines.specs.Lines.{Case, Lines}
 use Rattle.fdb_lines.specs.Before.{comes_before}
 use Rattle.fdb_lines.specs.Explained.{Explains}

@@ -1,7 +1,7 @@
 -- A log that is divided into parts by its keys: all lines of a key are in one of them. (this product's own)
 use Rattle.std.specs.Prelude.{◌≡◌, ℕ, zero, suc, ◌<◌, ◌==◌, false, List, [], ◌++◌, Option, length, map}
 use Rattle.fdb_lines.specs.declared.fault.Found.{Found}
-use Rattle.fdb_lines.specs.declared.opts.AuditOpts.{AuditOpts}
+use Rattle.fdb_lines.specs.declared.log.AuditOpts.{AuditOpts}
 use Rattle.fdb_lines.specs.Carried.{places_where}
 use Rattle.fdb_lines.specs.Keys.{faults_by_key, key_at, placed_found}
 use Rattle.fdb_lines.specs.Lines.{Lines, is_learn, kind_of, line_at, part_of}

@@ -1,8 +1,8 @@
 -- When lines are explained: there is an order of the calls, and of what others may have done, that register and
 -- sequencer allow, in which what comes before comes before. (linearizability of Herlihy and Wing, 1990)
 use Rattle.std.specs.Prelude.{◌≡◌, ◌≢◌, ◌⊎◌, ℕ, ◌<◌, ◌≤◌, ◌&&◌, ◌||◌, Bool, false, List, Some, slice_get, length, IsTrue}
-use Rattle.fdb_lines.specs.declared.effect.Effect.{Effect}
-use Rattle.fdb_lines.specs.declared.effect.Effect.TheVariants.{Asks, Reports, Reads}
+use Rattle.fdb_lines.specs.declared.slot.Effect.{Effect}
+use Rattle.fdb_lines.specs.declared.slot.Effect.TheVariants.{Asks, Reports, Reads}
 use Rattle.fdb_lines.specs.Lines.{Kind, Read, Commit, Ask, Report, Learn, Case, kind_at, version_at, client_at, draws, reports, shows, is_commit, may_be_same_client}
 
 -- what happens at a moment of a history, counted from 0

@@ -1,12 +1,12 @@
 -- What is found of a log: of all lines together, or of those of each key by themselves, where lines have keys. (this product's own)
 use Rattle.std.specs.Prelude.{◌≡◌, ℕ, cond, List, All, IfSome, Option, None, Some, length, map, option_map, slice_get}
 use Rattle.fdb_lines.specs.declared.fault.Found.{Found}
-use Rattle.fdb_lines.specs.declared.key_order.KeyOrder.{KeyOrder}
-use Rattle.fdb_lines.specs.declared.key_order.Order.{Order}
-use Rattle.fdb_lines.specs.declared.key_order.Order.TheVariants.{One, ByKey}
-use Rattle.fdb_lines.specs.declared.opts.AuditOpts.{AuditOpts}
-use Rattle.fdb_lines.specs.declared.reason.Finding.{Finding}
-use Rattle.fdb_lines.specs.declared.summed.Summary.{Summary}
+use Rattle.fdb_lines.specs.declared.order.KeyOrder.{KeyOrder}
+use Rattle.fdb_lines.specs.declared.order.Order.{Order}
+use Rattle.fdb_lines.specs.declared.order.Order.TheVariants.{One, ByKey}
+use Rattle.fdb_lines.specs.declared.log.AuditOpts.{AuditOpts}
+use Rattle.fdb_lines.specs.declared.fault.Finding.{Finding}
+use Rattle.fdb_lines.specs.declared.log.Summary.{Summary}
 use Rattle.fdb_lines.specs.Audit.{case_of, AreExplained}
 use Rattle.fdb_lines.specs.Keys.{faults_by_key, keys_of, AreExplainedByKey, HasLateByKey, HasReasonByKey}
 use Rattle.fdb_lines.specs.KeyOrders.{IsOrderOfKey}

@@ -1,8 +1,8 @@
 -- The orders that explain a log with keys, one for each key. (this product's own)
 use Rattle.std.specs.Prelude.{◌≡◌, ℕ, List, Option, map, option_map, slice_index}
-use Rattle.fdb_lines.specs.declared.key_order.KeyOrder.{KeyOrder}
-use Rattle.fdb_lines.specs.declared.opts.AuditOpts.{AuditOpts}
-use Rattle.fdb_lines.specs.declared.step.OrderStep.{OrderStep}
+use Rattle.fdb_lines.specs.declared.order.KeyOrder.{KeyOrder}
+use Rattle.fdb_lines.specs.declared.log.AuditOpts.{AuditOpts}
+use Rattle.fdb_lines.specs.declared.slot.OrderStep.{OrderStep}
 use Rattle.fdb_lines.specs.Keys.{case_of_key, places_of}
 use Rattle.fdb_lines.specs.Lines.{Lines}
 use Rattle.fdb_lines.specs.OrderSteps.{IsOrderOf}

@@ -1,19 +1,16 @@
 -- What an audit that watches by key has seen, and what it tells: of each key what a watch of its lines does. (this product's own)
-use Rattle.std.specs.Prelude.{◌≡◌, ◌≢◌, ◌⊎◌, ◌==◌, ℕ, ◌+◌, ◌<◌, ◌≤◌, not, cond, All, List, [], Option, None, Some, length, map, option_map, slice_index, slice_index_or}
+use Rattle.std.specs.Prelude.{◌≡◌, ◌≢◌, ◌⊎◌, ℕ, ◌+◌, ◌<◌, ◌≤◌, All, List, [], Option, None, Some, length, map, slice_index, slice_index_or}
 use Rattle.std.specs.List.{AllPairs, Contains, flat_map}
 use Rattle.fdb_lines.specs.declared.key_part.KeptLine.{KeptLine}
 use Rattle.fdb_lines.specs.declared.key_part.KeyPart.{KeyPart}
 use Rattle.fdb_lines.specs.declared.key_part.SettledKey.{SettledKey}
 use Rattle.fdb_lines.specs.declared.key_watch.KeyWatch.{KeyWatch}
 use Rattle.fdb_lines.specs.declared.line.Line.{Line}
-use Rattle.fdb_lines.specs.declared.log.LineError.TheVariants.{Memory, TooMany}
-use Rattle.fdb_lines.specs.declared.watch.WatchError.{WatchError}
-use Rattle.fdb_lines.specs.declared.watch.WatchError.TheVariants.{NoTimes, Line as OfLog}
 use Rattle.fdb_lines.specs.Carried.{open_count}
 use Rattle.fdb_lines.specs.KeyParts.{lines_of_one, names_of, HasSeenOne}
 use Rattle.fdb_lines.specs.Keys.{key_at, keys_of, places_of}
-use Rattle.fdb_lines.specs.Lines.{Lines, has_times, line_at, lines_in}
-use Rattle.fdb_lines.specs.Log.{lines_of, no_lines, refusal_of}
+use Rattle.fdb_lines.specs.Lines.{Lines, line_at, lines_in}
+use Rattle.fdb_lines.specs.Log.{lines_of, no_lines}
 use Rattle.fdb_lines.specs.Watch.{due, judged_from, IsTold}
 use Rattle.fdb_lines.specs.Watching.{told_of}
 
@@ -28,16 +25,6 @@ abbrev pub IsJudgedFrom : List KeyPart → Option ℕ → ℕ → Type 0
 IsJudgedFrom parts key at =
     ((part : KeyPart) × Contains parts part × (part.key ≡ key) × (at ≡ judged_from part.watch))
     ⊎ (((i : ℕ) → i < length (names_of parts) → key_at (names_of parts) i ≢ key) × (at ≡ 0))
-
--- Why a line is not taken, if it is not, where so many have come and these are kept of its key: the first that holds.
-abbrev pub refusal_in : ℕ → Lines → Line → Option WatchError
-refusal_in count log line =
-    cond (not (has_times line)) (Some NoTimes)
-    (cond (count == 18446744073709551615) (Some (OfLog TooMany)) (option_map OfLog (refusal_of log line)))
-
--- It is refused for that, or, where it would be taken, since memory is refused.
-abbrev pub IsRefusedFor : Option WatchError → WatchError → Type 0
-IsRefusedFor why error = (why ≡ Some error) ⊎ ((why ≡ None) × (error ≡ OfLog Memory))
 
 -- All lines that ever came, with their keys: each key that has lines has one watch, which has seen them, and no other key.
 pub record HasSeenByKey (watch : KeyWatch) (lines : List Line) (keys : List (Option ℕ)) : Type 0 where

@@ -2,14 +2,14 @@
 use Rattle.std.specs.Prelude.{◌≡◌, ℕ, zero, suc, ◌==◌, cond, List, [], ◌∷◌, ◌++◌, Option, None, Some, length, map, slice_index, slice_index_or}
 use Rattle.std.specs.Option.{option_eq}
 use Rattle.fdb_lines.specs.declared.fault.Found.{Found}
-use Rattle.fdb_lines.specs.declared.late.Late.{Late}
-use Rattle.fdb_lines.specs.declared.opts.AuditOpts.{AuditOpts}
-use Rattle.fdb_lines.specs.declared.reason.Finding.{Finding}
-use Rattle.fdb_lines.specs.declared.reason.Means.{Means}
-use Rattle.fdb_lines.specs.declared.reason.Means.TheVariants.{Ended, Own, Learnt}
-use Rattle.fdb_lines.specs.declared.reason.Reason.{Reason}
-use Rattle.fdb_lines.specs.declared.reason.Reason.TheVariants.{Known, Unreported, Reported, Drawn, Undrawn}
-use Rattle.fdb_lines.specs.declared.reason.Witness.{Witness}
+use Rattle.fdb_lines.specs.declared.fault.Late.{Late}
+use Rattle.fdb_lines.specs.declared.log.AuditOpts.{AuditOpts}
+use Rattle.fdb_lines.specs.declared.fault.Finding.{Finding}
+use Rattle.fdb_lines.specs.declared.fault.Means.{Means}
+use Rattle.fdb_lines.specs.declared.fault.Means.TheVariants.{Ended, Own, Learnt}
+use Rattle.fdb_lines.specs.declared.fault.Reason.{Reason}
+use Rattle.fdb_lines.specs.declared.fault.Reason.TheVariants.{Known, Unreported, Reported, Drawn, Undrawn}
+use Rattle.fdb_lines.specs.declared.fault.Witness.{Witness}
 use Rattle.fdb_lines.specs.Audit.{case_of, AreExplained}
 use Rattle.fdb_lines.specs.Late.{IsLateAt}
 use Rattle.fdb_lines.specs.Lines.{Case, Lines, part_of}

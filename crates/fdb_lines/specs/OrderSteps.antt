@@ -1,7 +1,7 @@
 -- An order of the effects of a log, with the lines whose effects they are. (this product's own)
 use Rattle.std.specs.Prelude.{◌≡◌, ℕ, suc, ◌<◌, List, [], ◌∷◌, cond, length, slice_get, take, IfSome, IsTrue, Some}
-use Rattle.fdb_lines.specs.declared.effect.Effect.{Effect}
-use Rattle.fdb_lines.specs.declared.step.OrderStep.{OrderStep}
+use Rattle.fdb_lines.specs.declared.slot.Effect.{Effect}
+use Rattle.fdb_lines.specs.declared.slot.OrderStep.{OrderStep}
 use Rattle.fdb_lines.specs.Explained.{Explains, Happens, IsMoment}
 use Rattle.fdb_lines.specs.Lines.{Case}
 

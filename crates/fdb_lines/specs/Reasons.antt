@@ -4,13 +4,13 @@ use Rattle.fdb_lines.specs.declared.fault.Fault.{Fault}
 use Rattle.fdb_lines.specs.declared.fault.Fault.TheVariants.{Order, Wrong, NotAbove, Twice, Stray}
 use Rattle.fdb_lines.specs.declared.fault.Found.{Found}
 use Rattle.fdb_lines.specs.declared.line.Line.{Line}
-use Rattle.fdb_lines.specs.declared.opts.AuditOpts.{AuditOpts}
-use Rattle.fdb_lines.specs.declared.reason.Finding.{Finding}
-use Rattle.fdb_lines.specs.declared.reason.Means.{Means}
-use Rattle.fdb_lines.specs.declared.reason.Means.TheVariants.{Ended, Own, Learnt}
-use Rattle.fdb_lines.specs.declared.reason.Reason.{Reason}
-use Rattle.fdb_lines.specs.declared.reason.Reason.TheVariants.{Known, Unreported, Reported, Drawn, Undrawn}
-use Rattle.fdb_lines.specs.declared.reason.Witness.{Witness}
+use Rattle.fdb_lines.specs.declared.log.AuditOpts.{AuditOpts}
+use Rattle.fdb_lines.specs.declared.fault.Finding.{Finding}
+use Rattle.fdb_lines.specs.declared.fault.Means.{Means}
+use Rattle.fdb_lines.specs.declared.fault.Means.TheVariants.{Ended, Own, Learnt}
+use Rattle.fdb_lines.specs.declared.fault.Reason.{Reason}
+use Rattle.fdb_lines.specs.declared.fault.Reason.TheVariants.{Known, Unreported, Reported, Drawn, Undrawn}
+use Rattle.fdb_lines.specs.declared.fault.Witness.{Witness}
 use Rattle.fdb_lines.specs.Audit.{case_of, start_of}
 use Rattle.fdb_lines.specs.Lines.{Kind, Lines, version_at, line_at, draws, shows, is_learn, kind_of, version_of, teller_of}
 use Rattle.fdb_lines.specs.Before.{began, comes_before, ended, has_heard, one_client}

@@ -2,7 +2,7 @@
 use Rattle.std.specs.Prelude.{ℕ, zero, suc, ◌+◌, ◌==◌, ◌&&◌, not, Bool, cond, List, Option, length, count_by}
 use Rattle.std.specs.List.{sum_by}
 use Rattle.fdb_lines.specs.declared.line.Line.{Line}
-use Rattle.fdb_lines.specs.declared.opts.AuditOpts.{AuditOpts}
+use Rattle.fdb_lines.specs.declared.log.AuditOpts.{AuditOpts}
 use Rattle.fdb_lines.specs.Faults.{is_reported, some_below}
 use Rattle.fdb_lines.specs.Keys.{case_of_key, keys_of}
 use Rattle.fdb_lines.specs.Lines.{Case, Kind, Lines, kind_at, kind_of, version_at, is_read}

@@ -1,13 +1,16 @@
 -- What an audit that watches has seen: the lines that it keeps stand for all. (this product's own)
-use Rattle.std.specs.Prelude.{◌≡◌, ℕ, ◌-◌, ◌<◌, All, Bool, List, Option, length, map}
+use Rattle.std.specs.Prelude.{◌≡◌, ◌⊎◌, ◌==◌, ℕ, ◌-◌, ◌<◌, not, cond, All, Bool, List, [], ◌∷◌, ◌++◌, Option, None, Some, length, map, option_map}
 use Rattle.fdb_lines.specs.declared.line.Line.{Line}
-use Rattle.fdb_lines.specs.declared.reason.Finding.{Finding}
+use Rattle.fdb_lines.specs.declared.fault.Finding.{Finding}
+use Rattle.fdb_lines.specs.declared.log.LineError.TheVariants.{Memory, TooMany}
 use Rattle.fdb_lines.specs.declared.watch.Watch.{Watch}
+use Rattle.fdb_lines.specs.declared.watch.WatchError.{WatchError}
+use Rattle.fdb_lines.specs.declared.watch.WatchError.TheVariants.{NoTimes, Line as OfLog}
 use Rattle.fdb_lines.specs.Carried.{with_times, StandFor}
 use Rattle.fdb_lines.specs.Keys.{placed_finding, placed_found}
 use Rattle.fdb_lines.specs.Late.{HasLate, HasLateSince}
-use Rattle.fdb_lines.specs.Lines.{lines_in}
-use Rattle.fdb_lines.specs.Log.{lines_of}
+use Rattle.fdb_lines.specs.Lines.{Lines, has_times, lines_in}
+use Rattle.fdb_lines.specs.Log.{added, lines_of, refusal_of}
 use Rattle.fdb_lines.specs.Reasons.{found_of, HasReason}
 use Rattle.fdb_lines.specs.Watching.{is_due, opts_of, told_of}
 
@@ -19,6 +22,28 @@ pub record HasSeen (watch : Watch) (lines : List Line) : Type 0 where
   pub count : watch.count ≡ length lines
   pub kept : watch.log.lines.items ≡ lines_in lines watch.numbers.items
   pub stand : StandFor watch.margin (judged_from watch) lines watch.numbers.items
+
+-- Why a line is not taken, if it is not, where so many have come and these are kept: the first that holds.
+abbrev pub refusal_in : ℕ → Lines → Line → Option WatchError
+refusal_in count log line =
+    cond (not (has_times line)) (Some NoTimes)
+    (cond (count == 18446744073709551615) (Some (OfLog TooMany)) (option_map OfLog (refusal_of log line)))
+
+-- It is refused for that, or, where it would be taken, since memory is refused.
+abbrev pub IsRefusedFor : Option WatchError → WatchError → Type 0
+IsRefusedFor why error = (why ≡ Some error) ⊎ ((why ≡ None) × (error ≡ OfLog Memory))
+
+-- A line was added: of the lines that are kept it is the last.
+pub record IsPushed (line : Line) (old new : Watch) : Type 0 where
+  pub ok : (lines : List Line) → HasSeen old lines → HasSeen new (lines ++ line ∷ [])
+  pub taken : lines_of new.log ≡ added (lines_of old.log) line
+  pub numbers : new.numbers.items ≡ old.numbers.items ++ old.count ∷ []
+
+-- Its lines are as they were.
+pub record IsUnchanged (old new : Watch) : Type 0 where
+  pub seen : (lines : List Line) → HasSeen old lines → HasSeen new lines
+  pub same : (lines_of new.log ≡ lines_of old.log) × (new.count ≡ old.count)
+  pub same_numbers : new.numbers.items ≡ old.numbers.items
 
 -- the lines that it tells of when it settles up to a moment, or all: each once, in its window or when it came late
 abbrev pub due : Watch → Option ℕ → ℕ → Line → Bool

@@ -1,21 +1,22 @@
-//! A table of calls that ended, in which the newest version before a moment is found by a search.
+//! A table of calls that ended, in which the newest version before a moment is found by a search,
+//! which begins at a guess at where its client's calls stand.
 
-ghost use Rattle.std.specs.Prelude.{◌≡◌, ◌<◌, ◌≤◌, ℕ, Bool, IfOk, IfSome, List, length};
-ghost use Rattle.std.specs.Prelude.{cond, false, nat_lt, slice_index};
+ghost use Rattle.std.specs.Prelude.{◌≡◌, ◌<◌, ◌≤◌, ℕ, Bool, IfOk, IfSome, List, length, cond};
+ghost use Rattle.std.specs.Prelude.{false, nat_lt, slice_index};
 ghost use Rattle.std.specs.List.Sorted.{IsNonDecreasingBy, IsPermutation};
 ghost use Rattle.std.specs.Ordering.{nat_cmp};
 ghost use Rattle.fdb_lines.specs.Late.{is_outdated};
 ghost use Rattle.fdb_lines.specs.Lines.{line_at};
-ghost use Rattle.fdb_lines.specs.declared.line.Line.{Line};
-ghost use Rattle.fdb_lines.specs.declared.exposure.Exposure.{Exposure};
-ghost use Rattle.fdb_lines.specs.private.EndTable.{comes_by, end_at, end_key, AreNewest};
-ghost use Rattle.fdb_lines.specs.private.EndTable.{IsFront, IsNewestAt};
+ghost use Rattle.fdb_lines.specs.private.EndTable.{comes_by, end_at, end_key, AreNewest, IsFront};
+ghost use Rattle.fdb_lines.specs.private.EndTable.{IsNewestAt};
 ghost use Rattle.fdb_lines.specs.private.Entries.{IsNewest};
 ghost use Rattle.fdb_lines.specs.private.Late.{outdates_by, sooner, IsFirstEnd};
 ghost use Rattle.fdb_lines.specs.private.Known.{moment, stands_in, version_in, AreEnds};
+ghost use Rattle.fdb_lines.specs.declared.line.Line.{Line};
+ghost use Rattle.fdb_lines.specs.declared.known.Exposure.{Exposure};
 
-use crate::end::End;
 use crate::fault::Fault;
+use crate::line::End;
 use std::alloc::{AllocError, Global};
 use std::cmp::Ordering;
 
@@ -232,5 +233,33 @@ fn newer_of(ends: &[End], one: u32, other: u32) -> u32
         other
     } else {
         one
+    }
+}
+
+/// How many guesses there are at most. Clients whose numbers differ by a multiple share one.
+const GUESSES: usize = 4_096;
+
+/// For each client, where the last search for a call of it ended. The next one begins there.
+#[derive(Drop)]
+pub(crate) struct Hints {
+    places: Vec<usize>,
+    ghost some: { 0 < length places.items },
+}
+
+impl Hints {
+    /// The front of the table, for each client, with no more guesses than there are lines.
+    pub(crate) fn new(alloc: Global, lines: usize) -> Result<Self, AllocError> {
+        let mut places = Vec::new(alloc);
+        places.push(0)?;
+        for _guess in 1..lines.min(GUESSES) {
+            places.push(0)?;
+        }
+        Ok(Hints { places })
+    }
+
+    /// The guess of a client, which a search may write.
+    pub(crate) fn of(&mut self, client: u32) -> &mut usize {
+        let guess = client as usize % self.places.len();
+        &mut self.places[guess]
     }
 }

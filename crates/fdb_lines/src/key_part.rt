@@ -1,14 +1,14 @@
 //! A key of a log that is watched, with the watch of its lines.
 
-ghost use Rattle.std.specs.Prelude.{◌≡◌, ◌++◌, All, List, IfErr, IfOk, OnErr, OnOk};
-ghost use Rattle.std.specs.Prelude.{[], false, length, true};
-ghost use Rattle.fdb_lines.specs.declared.line.Line.{Line};
+ghost use Rattle.std.specs.Prelude.{◌≡◌, ◌++◌, All, List, IfErr, IfOk, OnErr, OnOk, [], false};
+ghost use Rattle.std.specs.Prelude.{length, true};
 ghost use Rattle.fdb_lines.specs.Watch.{HasSeen, IsTold};
 ghost use Rattle.fdb_lines.specs.private.Quiet.{IsQuiet};
+ghost use Rattle.fdb_lines.specs.declared.line.Line.{Line};
 
+use crate::fault::Finding;
 use crate::line::Line;
 use crate::log::LineError;
-use crate::reason::Finding;
 use crate::watch::{Settled, Watch, WatchError, numbers_at};
 use std::alloc::{AllocError, Global};
 use std::mem::replace;

@@ -1,14 +1,10 @@
 //! An audit that watches a log with keys: each key is watched by itself.
 
-ghost use Rattle.std.specs.Prelude.{◌≡◌, ◌⊎◌, ◌<◌, ◌≤◌, ◌++◌, ◌∷◌, ℕ, All, List, IfErr, IfOk};
-ghost use Rattle.std.specs.Prelude.{[], IfSome, None, OnErr, OnOk, Option, Some, false, true};
-ghost use Rattle.std.specs.Prelude.{◌↔◌, ◌==◌, cond, length, max, slice_index_or};
-ghost use Rattle.std.specs.Prelude.{IsPermutation};
+ghost use Rattle.std.specs.Prelude.{◌≡◌, ◌⊎◌, ◌<◌, ◌≤◌, ◌++◌, ◌∷◌, ℕ, All, List, IfErr, IfOk, []};
+ghost use Rattle.std.specs.Prelude.{IfSome, None, OnErr, OnOk, Option, Some, false, true, ◌↔◌};
+ghost use Rattle.std.specs.Prelude.{◌==◌, cond, length, max, slice_index_or, IsPermutation};
 ghost use Rattle.std.specs.BTreeMap.{get};
 ghost use Rattle.std.specs.Ordering.{nat_cmp};
-ghost use Rattle.fdb_lines.specs.declared.fault.Found.{Found};
-ghost use Rattle.fdb_lines.specs.declared.key_part.KeyPart.{KeyPart};
-ghost use Rattle.fdb_lines.specs.declared.line.Line.{Line};
 ghost use Rattle.fdb_lines.specs.Before.{began};
 ghost use Rattle.fdb_lines.specs.KeyParts.{names_of, HaveStayed};
 ghost use Rattle.fdb_lines.specs.Keys.{key_at};
@@ -16,12 +12,14 @@ ghost use Rattle.fdb_lines.specs.Lines.{has_times, Lines};
 ghost use Rattle.fdb_lines.specs.Log.{refusal_of};
 ghost use Rattle.fdb_lines.specs.private.Keys.{number_of, AreNumbered};
 ghost use Rattle.fdb_lines.specs.private.KeyParts.{flags_of, AreOpen, IsAlike};
+ghost use Rattle.fdb_lines.specs.declared.fault.Found.{Found};
+ghost use Rattle.fdb_lines.specs.declared.key_part.KeyPart.{KeyPart};
+ghost use Rattle.fdb_lines.specs.declared.line.Line.{Line};
 
 use crate::key_part::{KeptLine, KeyPart, SettledKey};
 use crate::key_parts::{add_line, finish_parts, keep_open, kept_lines, next_parts, put_parts};
 use crate::line::Line;
-use crate::log::{LineError, Log};
-use crate::parts::number_of;
+use crate::log::{LineError, Log, number_of};
 use crate::watch::WatchError;
 use std::alloc::{AllocError, Global};
 use std::collections::BTreeMap;
@@ -52,7 +50,8 @@ impl KeyWatch {
     ghost use Rattle.fdb_lines.specs.declared.watch.WatchError.TheVariants.{NoTimes};
     ghost use Rattle.fdb_lines.specs.KeyWatch.{AreKept, AreTold, GoesOn, HasEntry};
     ghost use Rattle.fdb_lines.specs.KeyWatch.{HasNothingToTell, HasSeenByKey, IsLogOf, KeepsOn};
-    ghost use Rattle.fdb_lines.specs.KeyWatch.{refusal_in, IsJudgedFrom, IsRefusedFor};
+    ghost use Rattle.fdb_lines.specs.KeyWatch.{IsJudgedFrom};
+    ghost use Rattle.fdb_lines.specs.Watch.{refusal_in, IsRefusedFor};
     ghost use Rattle.fdb_lines.specs.ToldByKey.{audited, told_by_all, HasTold};
 
     /// A watch that has seen no line. Margin and horizon are in the unit of the times: the clocks

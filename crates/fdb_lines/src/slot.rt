@@ -1,9 +1,30 @@
-//! Where an effect stands in an order.
+//! What the register and the sequencer are asked, one after another, as the steps of an order, and
+//! where in it each stands.
 
 ghost use Rattle.std.specs.Prelude.{◌≡◌, ◌<◌, ◌^◌, Some, option_map};
 
-use crate::effect::Effect;
 use crate::line::{Line, Operation};
+
+/// An effect of a history, with its version. A commit is two of them: it asks, and reports.
+#[derive(Clone, Copy, Debug, PartialEq, Eq)]
+pub enum Effect {
+    /// The sequencer draws a commit version (`GetCommitVersionRequest`).
+    Asks(u64),
+    /// A version is reported as committed (`reportLiveCommittedVersion`).
+    Reports(u64),
+    /// The newest version that was reported is read (`getLiveCommittedVersion`).
+    Reads(u64),
+}
+
+/// An effect of an order, and the line whose effect it is.
+#[derive(Clone, Copy, Debug, PartialEq, Eq)]
+pub struct OrderStep {
+    pub effect: Effect,
+    /// The line, counted from 0. There is none where others did this, who logged nothing.
+    pub line: Option<u32>,
+    /// Whether this is the effect of the step above once more: commits may share a version.
+    pub shared: bool,
+}
 
 /// Where effects stand among those of a level: the version, or of a late report what was known.
 #[derive(Clone, Copy, Debug, PartialEq, Eq, PartialOrd, Ord)]

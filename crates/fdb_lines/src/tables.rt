@@ -6,22 +6,19 @@ ghost use Rattle.fdb_lines.specs.Faults.{is_reported, is_twice, knows, last, rep
 ghost use Rattle.fdb_lines.specs.Late.{outdates};
 ghost use Rattle.fdb_lines.specs.Lines.{version_at};
 ghost use Rattle.fdb_lines.specs.Log.{lines_of};
-ghost use Rattle.fdb_lines.specs.declared.exposure.Exposure.TheVariants.{Drawn, Shown};
 ghost use Rattle.fdb_lines.specs.private.Entries.{other, IsFirstFrom};
 ghost use Rattle.fdb_lines.specs.private.Known.{of_version};
 ghost use Rattle.fdb_lines.specs.private.Late.{IsFirstEnd};
 ghost use Rattle.fdb_lines.specs.private.Tables.{asked_of, case_in, AreTables, IsFirstDrawn};
 ghost use Rattle.fdb_lines.specs.private.Tables.{IsFoundIn};
+ghost use Rattle.fdb_lines.specs.declared.known.Exposure.TheVariants.{Drawn, Shown};
 
-use crate::end::End;
 use crate::end_table::{EndTable, sooner};
-use crate::fault::Fault;
+use crate::fault::{Fault, Witness};
 use crate::known::{by_at, version_by, version_in};
-use crate::line::Line;
+use crate::line::{End, Line};
 use crate::locators::{Locators, knows_at};
-use crate::log::Log;
-use crate::opts::AuditOpts;
-use crate::reason::Witness;
+use crate::log::{AuditOpts, Log};
 use std::marker::Model;
 
 /// What each line knows of what was drawn, and the ends of the lines that draw a version.

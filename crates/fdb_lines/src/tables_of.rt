@@ -3,22 +3,19 @@
 ghost use Rattle.std.specs.Prelude.{◌≡◌, ◌≤◌, IfOk, false, length, true};
 ghost use Rattle.std.specs.Thread.{IsSync};
 ghost use Rattle.fdb_lines.specs.Log.{lines_of};
-ghost use Rattle.fdb_lines.specs.declared.exposure.Exposure.TheVariants.{Drawn, Shown};
 ghost use Rattle.fdb_lines.specs.private.Known.{AreEnds};
 ghost use Rattle.fdb_lines.specs.private.Tables.{has_ask, AreDrawnIn, AreKnownIn, AreLocated};
 ghost use Rattle.fdb_lines.specs.private.Tables.{AreTables};
+ghost use Rattle.fdb_lines.specs.declared.known.Exposure.TheVariants.{Drawn, Shown};
 
 use crate::end_table::EndTable;
-use crate::exposure::Exposure;
-use crate::known::{add_own, known_of_all, table_of};
+use crate::fault::Witness;
+use crate::known::{Exposure, add_own, known_by_telling, known_of_all, table_of};
 use crate::line::Line;
-use crate::line_kind::LineKind::{self, Asks, Draws, Nameless, Owned, Raises, Reports};
+use crate::locators::LineKind::{self, Asks, Draws, Nameless, Owned, Raises, Reports};
 use crate::locators::Locators;
-use crate::log::Log;
-use crate::opts::AuditOpts;
-use crate::reason::Witness;
+use crate::log::{AuditOpts, Log};
 use crate::tables::{DrawTables, Made};
-use crate::telling::known_by_telling;
 use std::alloc::{AllocError, Global};
 use std::thread::{Threads, join};
 
@@ -53,7 +50,7 @@ pub(crate) fn tables_of(alloc: Global, log: &Log, opts: &AuditOpts) -> Result<Ma
 }
 
 /// The tables of a log, made in threads side by side.
-pub(crate) fn tables_by<R: Threads + Sync>(
+pub(crate) fn tables_in_threads<R: Threads + Sync>(
     rt: &R,
     alloc: Global,
     log: &Log,
@@ -62,13 +59,7 @@ pub(crate) fn tables_by<R: Threads + Sync>(
     ensures { IfOk result (λ made. AreTables (lines_of log.now) opts.now made) }
 {
     let lines = log.lines();
-    let (firsts, own) = join(
-        rt,
-        || table_of(alloc, lines, Exposure::Shown, false),
-        || table_of(alloc, lines, Exposure::Shown, true),
-    );
-    let firsts = firsts?;
-    let own = own?;
+    let (firsts, own) = two_tables(rt, alloc, lines)?;
     let (ends, of_each) = (&firsts, &own);
     let (shown, drawn) = join(
         rt,
@@ -80,22 +71,18 @@ pub(crate) fn tables_by<R: Threads + Sync>(
     let drawn = drawn?;
     let start = opts.start();
     let known = shown.as_slice();
-    let ((reports, raises), (draws, owned)) = join(
+    let (one, other) = join(
         rt,
-        || -> (Result<Locators, AllocError>, Result<Locators, AllocError>)
+        || -> Result<(Locators, Locators), AllocError>
             requires { IsSync R.row × (length lines.now ≤ 4294967295) }
         { two_locators(rt, alloc, start, lines, known, Reports, Raises) },
-        || -> (Result<Locators, AllocError>, Result<Locators, AllocError>)
+        || -> Result<(Locators, Locators), AllocError>
             requires { IsSync R.row × (length lines.now ≤ 4294967295) }
         { two_locators(rt, alloc, start, lines, known, Draws, Owned) },
     );
-    let (asks, nameless) = two_locators(rt, alloc, start, lines, known, Asks, Nameless);
-    let reports = reports?;
-    let raises = raises?;
-    let draws = draws?;
-    let asks = asks?;
-    let owned = owned?;
-    let nameless = nameless?;
+    let (reports, raises) = one?;
+    let (draws, owned) = other?;
+    let (asks, nameless) = two_locators(rt, alloc, start, lines, known, Asks, Nameless)?;
     Ok(Made {
         shown,
         drawn,
@@ -109,6 +96,28 @@ pub(crate) fn tables_by<R: Threads + Sync>(
     })
 }
 
+/// The ends of the lines that show their versions, of all and by client, in two threads.
+fn two_tables<R: Threads + Sync>(
+    rt: &R,
+    alloc: Global,
+    lines: &[Line],
+) -> Result<(EndTable, EndTable), AllocError>
+    requires { length lines.now ≤ 4294967295 }
+    ensures ends { IfOk result (λ both. AreEnds false Shown lines.now (length lines.now)
+        both.0.ends.items) }
+    ensures own { IfOk result (λ both. AreEnds true Shown lines.now (length lines.now)
+        both.1.ends.items) }
+{
+    let (ends, own) = join(
+        rt,
+        || table_of(alloc, lines, Exposure::Shown, false),
+        || table_of(alloc, lines, Exposure::Shown, true),
+    );
+    let ends = ends?;
+    let own = own?;
+    Ok((ends, own))
+}
+
 /// The locators of two sorts, made in two threads.
 fn two_locators<R: Threads + Sync>(
     rt: &R,
@@ -118,16 +127,19 @@ fn two_locators<R: Threads + Sync>(
     known: &[Option<Witness>],
     one: LineKind,
     other: LineKind,
-) -> (Result<Locators, AllocError>, Result<Locators, AllocError>)
+) -> Result<(Locators, Locators), AllocError>
     requires { length lines.now ≤ 4294967295 }
-    ensures one { IfOk result.0 (AreLocated start lines.now known.now one) }
-    ensures other { IfOk result.1 (AreLocated start lines.now known.now other) }
+    ensures one { IfOk result (λ both. AreLocated start lines.now known.now one both.0) }
+    ensures other { IfOk result (λ both. AreLocated start lines.now known.now other both.1) }
 {
-    join(
+    let (of_one, of_other) = join(
         rt,
         || Locators::new(alloc, start, lines, known, one),
         || Locators::new(alloc, start, lines, known, other),
-    )
+    );
+    let of_one = of_one?;
+    let of_other = of_other?;
+    Ok((of_one, of_other))
 }
 
 /// For each line the newest of the lines before it that let their versions be known, if there are

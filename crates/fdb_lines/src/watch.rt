@@ -1,20 +1,25 @@
-//! An audit that watches a log with times as it grows, in the memory of the lines that are open.
+//! An audit that watches a log with times as it grows, in the memory of the lines that are open,
+//! and what it tells of the lines that it keeps.
 
 ghost use Rattle.std.specs.Prelude.{◌≡◌, ◌+◌, ◌-◌, ◌<◌, ◌≤◌, ◌++◌, ◌∷◌, [], All, List, IfErr, IfOk};
 ghost use Rattle.std.specs.Prelude.{None, OnErr, OnOk, Some, length, map, max, slice_index, true};
-ghost use Rattle.std.specs.Prelude.{false, IsTrue};
-ghost use Rattle.std.specs.Prelude.{◌↔◌, ◌⊎◌, ℕ};
-ghost use Rattle.fdb_lines.specs.declared.line.Line.{Line};
+ghost use Rattle.std.specs.Prelude.{false, IsTrue, ◌↔◌, ◌⊎◌, ℕ};
 ghost use Rattle.fdb_lines.specs.Carried.{open_count};
 ghost use Rattle.fdb_lines.specs.Lines.{has_times};
 ghost use Rattle.fdb_lines.specs.Log.{lines_of, refusal_of};
+ghost use Rattle.fdb_lines.specs.Audit.{case_of};
+ghost use Rattle.fdb_lines.specs.Late.{HasLate};
+ghost use Rattle.fdb_lines.specs.Reasons.{found_of, HasReason};
+ghost use Rattle.fdb_lines.specs.private.Due.{due_at, is_due_by, told_below};
+ghost use Rattle.fdb_lines.specs.declared.line.Line.{Line};
 
-use crate::carrying::standing;
-use crate::due::{Due, findings_due};
+use crate::fault::{Fault, Finding};
+use crate::finding::add_finding;
 use crate::line::Line;
-use crate::log::{LineError, Log};
-use crate::opts::AuditOpts;
-use crate::reason::Finding;
+use crate::log::{AuditOpts, LineError, Log};
+use crate::standing_lines::standing;
+use crate::tables::Tables;
+use crate::tables_of::tables_of;
 use std::alloc::{AllocError, Global};
 use std::error::Error;
 use std::fmt;
@@ -107,8 +112,8 @@ pub(crate) struct Next {
 
 impl Watch {
     ghost use Rattle.fdb_lines.specs.declared.watch.WatchError.TheVariants.{NoTimes};
-    ghost use Rattle.fdb_lines.specs.Watch.{judged_from, HasSeen, IsTold};
-    ghost use Rattle.fdb_lines.specs.Log.{added};
+    ghost use Rattle.fdb_lines.specs.Watch.{judged_from, refusal_in, HasSeen, IsPushed, IsTold};
+    ghost use Rattle.fdb_lines.specs.Watch.{IsRefusedFor, IsUnchanged};
     ghost use Rattle.fdb_lines.specs.private.Quiet.{IsQuiet};
 
     /// A watch that has seen no line. Margin and horizon are in the unit of the times.
@@ -145,24 +150,12 @@ impl Watch {
 
     /// Adds a line. An error says why it is refused; all is as it was then.
     pub fn push(&mut self, line: Line) -> Result<(), WatchError>
-        ensures ok { OnOk result ((lines : List Line) → HasSeen self.old lines
-            → HasSeen self.new (lines ++ line ∷ [])) }
-        ensures taken { OnOk result ((has_times line ≡ true)
-            × (refusal_of (lines_of self.old.log) line ≡ None)
-            × (lines_of self.new.log ≡ added (lines_of self.old.log) line)) }
-        ensures numbers { OnOk result
-            (self.new.numbers.items ≡ self.old.numbers.items ++ self.old.count ∷ []) }
-        ensures err { OnErr result ((lines : List Line) → HasSeen self.old lines
-            → HasSeen self.new lines) }
-        ensures same { OnErr result ((lines_of self.new.log ≡ lines_of self.old.log)
-            × (self.new.count ≡ self.old.count)) }
-        ensures same_numbers { OnErr result
-            (self.new.numbers.items ≡ self.old.numbers.items) }
-        ensures untimed { IfErr result (λ error. error ≡ NoTimes ↔ (has_times line ≡ false)) }
-        ensures refused { IfErr result (λ error. (why : LineError) → error ≡ WatchError.Line why
-            → ((why ≡ LineError.Memory) × (refusal_of (lines_of self.old.log) line ≡ None))
-            ⊎ ((why ≡ LineError.TooMany) × (self.old.count ≡ 18446744073709551615))
-            ⊎ (refusal_of (lines_of self.old.log) line ≡ Some why)) }
+        ensures pushed { OnOk result (IsPushed line self.old self.new) }
+        ensures free { OnOk result
+            (refusal_in self.old.count (lines_of self.old.log) line ≡ None) }
+        ensures refused { IfErr result
+            (IsRefusedFor (refusal_in self.old.count (lines_of self.old.log) line)) }
+        ensures err { OnErr result (IsUnchanged self.old self.new) }
         ensures settled { (self.new.from ≡ self.old.from)
             × (self.new.settled ≡ self.old.settled) }
         ensures margin { (self.new.margin ≡ self.old.margin)
@@ -325,4 +318,55 @@ pub(crate) fn numbers_at(
         some.push(numbers[*place as usize])?;
     }
     Ok(some)
+}
+
+/// Of which lines it is time to tell: those that began from a moment on and before another, if one
+/// is given; and of those whose number is not below one, as they came late, those that began from
+/// an earlier moment on.
+#[derive(Clone, Copy, Debug)]
+pub(crate) struct Due {
+    pub(crate) from: u64,
+    pub(crate) early: u64,
+    pub(crate) since: u64,
+    pub(crate) to: Option<u64>,
+}
+
+impl Due {
+    /// Whether it is time to tell of a line, by its number.
+    fn has(&self, number: u64, line: &Line) -> bool
+        ensures { result ≡ is_due_by self.now number line.now }
+    {
+        let began = line.began();
+        self.to.is_none_or(|to| began < to)
+            && (self.from <= began || self.since <= number && self.early <= began)
+    }
+}
+
+/// The stale reads, and the versions that are not above what was known, at the lines of which it is
+/// time to tell, by their places in the log.
+pub(crate) fn findings_due(
+    alloc: Global,
+    log: &Log,
+    numbers: &[u64],
+    opts: &AuditOpts,
+    due: &Due,
+) -> Result<Vec<Finding>, AllocError>
+    requires { length numbers.now ≡ length (lines_of log.now).lines }
+    ensures told { let lines = (lines_of log.now).lines in IfOk result
+        (λ found. map found_of found.items ≡ told_below (due_at (is_due_by due.now) numbers.now lines)
+        (case_of (lines_of log.now) opts.now) (length lines)) }
+    ensures reasons { IfOk result
+        (λ found. All (HasReason (lines_of log.now) opts.now) found.items) }
+    ensures late { IfOk result (λ found. All (HasLate (lines_of log.now) opts.now) found.items) }
+{
+    let made = tables_of(alloc, log, opts)?;
+    let tables = Tables::new(log, opts, &made);
+    let mut found = Vec::new(alloc);
+    for place in 0..numbers.len() {
+        if due.has(numbers[place], &log.lines()[place]) {
+            add_finding(&mut found, &tables, place, Fault::Order)?;
+            add_finding(&mut found, &tables, place, Fault::NotAbove)?;
+        }
+    }
+    Ok(found)
 }

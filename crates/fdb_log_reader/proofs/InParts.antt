@@ -1,12 +1,12 @@
 -- Each line of a log that is cut is of one part, under its number.
-use Rattle.std.proofs.Common.{◌≡◌, ◌∙◌, ℕ, ◌+◌, suc, ◌<◌, nat_le, nat_lt, Bool, true, false, List, [], ◌∷◌, ◌++◌, length, map, Option, None, Some, option_map, Result, Ok, Err, refl, ap, sym, subst, arith, if◌then◌else◌}
+use Rattle.std.proofs.Common.{◌≡◌, ◌∙◌, ℕ, ◌+◌, ◌<◌, nat_le, nat_lt, Bool, true, false, List, [], ◌∷◌, length, map, Option, None, Some, option_map, Result, Ok, Err, refl, ap, sym, subst, arith, if◌then◌else◌}
 use Rattle.std.specs.List.{All, range_with_len}
 use Rattle.std.proofs.lemmas.List.Elements.{All-cons, All-nil}
 use Rattle.serde_json.specs.Find.{get}
-use Rattle.fdb_log_reader.specs.declared.above.Above.{Above}
+use Rattle.fdb_log_reader.specs.declared.part_text.Above.{Above}
 use Rattle.fdb_log_reader.specs.declared.error.Why.{Why}
 use Rattle.fdb_log_reader.specs.declared.error.Why.TheVariants.{TooLong, TooMany}
-use Rattle.fdb_log_reader.specs.declared.keyed_line.KeyedLine.{KeyedLine}
+use Rattle.fdb_log_reader.specs.declared.part_text.KeyedLine.{KeyedLine}
 use Rattle.fdb_log_reader.specs.declared.reader.TheConstants.{MAX_LINE_BYTES}
 use Rattle.fdb_log_reader.specs.Members.{and_then, member_of}
 use Rattle.fdb_log_reader.specs.Parts.{SaidParts, parts_said}

@@ -1,10 +1,10 @@
 -- What is kept of a line of a log that is cut.
 use Rattle.std.proofs.Common.{◌≡◌, ◌∙◌, ◌⊎◌, ℕ, List, [], Some, Result, Ok, Err, MatchResult, ap, inr}
 use Rattle.serde_json.specs.Find.{get}
-use Rattle.fdb_log_reader.specs.declared.above.Above.{Above}
+use Rattle.fdb_log_reader.specs.declared.part_text.Above.{Above}
 use Rattle.fdb_log_reader.specs.declared.error.Why.{Why}
 use Rattle.fdb_log_reader.specs.declared.error.Why.TheVariants.{Memory}
-use Rattle.fdb_log_reader.specs.declared.keyed_line.KeyedLine.{KeyedLine}
+use Rattle.fdb_log_reader.specs.declared.part_text.KeyedLine.{KeyedLine}
 use Rattle.fdb_log_reader.specs.declared.usual.Usual.{Usual}
 use Rattle.fdb_log_reader.specs.Members.{and_then, member_of}
 use Rattle.fdb_log_reader.specs.ReadLine.{unless}

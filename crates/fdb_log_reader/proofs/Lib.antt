@@ -1,4 +1,5 @@
 pub mod Digits
+pub mod Times
 pub mod Codes
 pub mod Naming
 pub mod Room

@@ -13,7 +13,7 @@ use Rattle.std.specs.List.{position_from, position_or_len}
 use Rattle.std.specs.Option.{option_or}
 use Rattle.std.specs.Str.{bytes_eq}
 use Rattle.json.specs.Strict.{AreDistinct}
-use Rattle.fdb_log_reader.specs.declared.name_numbers.NameNumbers.{NameNumbers}
+use Rattle.fdb_log_reader.specs.declared.names.NameNumbers.{NameNumbers}
 use Rattle.fdb_log_reader.specs.Numbers.{number_in}
 use Rattle.fdb_log_reader.specs.private.Codes.{number_at, AreBytes}
 

@@ -1,16 +1,16 @@
 -- Lines come to the parts of a log one by one, wherever its text is cut.
-use Rattle.std.proofs.Common.{◌≡◌, ◌∙◌, ◌⊎◌, ℕ, ◌+◌, suc, ◌<◌, ◌==◌, Bool, true, false, cond, get_or, nat_lt, set, zero, List, [], ◌∷◌, ◌++◌, length, length-append, map, string_bytes, slice_index, slice_index_or, IfOk, MatchResult, Result, Ok, Err, refl, ap, sym, subst, inl, inr, arith, append_assoc, append-nil, if◌then◌else◌}
+use Rattle.std.proofs.Common.{◌≡◌, ◌∙◌, ◌⊎◌, ℕ, ◌+◌, ◌<◌, ◌==◌, true, false, cond, get_or, nat_lt, set, List, [], ◌∷◌, ◌++◌, length, length-append, string_bytes, slice_index, slice_index_or, IfOk, MatchResult, Result, Ok, Err, refl, ap, sym, subst, inl, inr, arith, append_assoc, append-nil}
 use Rattle.std.proofs.lemmas.Bool.{cases_eq}
 use Rattle.std.proofs.lemmas.Bool.Decides.{nat_tests}
 use Rattle.std.proofs.lemmas.List.{get_or-map, get_or-set_other, get_or-set_same, length-map, length-set, map-set}
 use Rattle.std.proofs.lemmas.List.Concat.{flat_map-append}
 use Rattle.std.proofs.lemmas.List.Elements.{All-append, filter-append}
-use Rattle.std.specs.List.{filter, flat_map}
+use Rattle.std.specs.List.{flat_map}
 use Rattle.fdb_log_reader.specs.declared.error.ReadError.{ReadError}
 use Rattle.fdb_log_reader.specs.declared.error.Why.{Why}
 use Rattle.fdb_log_reader.specs.declared.error.Why.TheVariants.{Memory, TooLong}
 use Rattle.fdb_log_reader.specs.declared.part_text.PartText.{PartText}
-use Rattle.fdb_log_reader.specs.declared.placer.Placer.{Placer}
+use Rattle.fdb_log_reader.specs.declared.splitter.Placer.{Placer}
 use Rattle.fdb_log_reader.specs.declared.reader.TheConstants.{MAX_LINE_BYTES}
 use Rattle.fdb_log_reader.specs.declared.splitter.Splitter.{Splitter}
 use Rattle.fdb_log_reader.specs.Reading.{is_line_feed, lines_in, without_empty_end}
@@ -214,23 +214,12 @@ goes_on old now new bytes rest line after placed so is read = record {
   come = come_on placed (read.0 ∷ []) old.placer.parts.items now.placer.parts.items new.placer.parts.items so.come read.2;
 }
 
-pub stops : (old now : Splitter) (bytes rest line after : List ℕ) (placed : List Placed) (error : ReadError) → Goes old bytes placed now rest → rest ≡ line ++ 10 ∷ after
-    → PlacesLine now line (Err error) → (error.why ≡ Memory) ⊎ ((more : List ℕ) → placed_on old (bytes ++ more) ≡ Err error)
-stops old now bytes rest line after placed error so is (inl memory) = inl memory
-stops old now bytes rest line after placed error so is (inr refused) = inr (λ more.
-    so.goes more ∙ ap (in_front placed) (behind_line now rest line after more is ∙ refused (after ++ more)))
-
 -- the last of them are kept
 pub fed : (old now it : Splitter) (bytes rest : List ℕ) (placed : List Placed) → Goes old bytes placed now rest → KeepsBytes now rest (Ok it) → HasPlaced old bytes placed it
 fed old now it bytes rest placed so kept = record {
   goes = λ more. so.goes more ∙ ap (in_front placed) (kept.0 more);
   come = subst (λ (placer : Placer). HaveCome placed old.placer.parts.items placer.parts.items) (sym kept.1) so.come;
 }
-
-pub not_fed : (old now : Splitter) (bytes rest : List ℕ) (placed : List Placed) (error : ReadError) → Goes old bytes placed now rest → KeepsBytes now rest (Err error)
-    → (error.why ≡ Memory) ⊎ ((more : List ℕ) → placed_on old (bytes ++ more) ≡ Err error)
-not_fed old now bytes rest placed error so (inl memory) = inl memory
-not_fed old now bytes rest placed error so (inr refused) = inr (λ more. so.goes more ∙ ap (in_front placed) (refused more))
 
 -- ---- the end
 
@@ -257,8 +246,3 @@ pub finished : (old : Splitter) (result : Result Splitter ReadError) → 0 < len
     → MatchResult result (λ it. (placed : List Placed) × HasPlacedAll old placed it) (λ error. (error.why ≡ Memory) ⊎ (placed_on old [] ≡ Err error))
 finished old (Ok it) some none read = (read.0 ∷ [], all_placed old it some read none)
 finished old (Err error) some none read = last_refused old error some read
-
-pub all_fed : (old now : Splitter) (bytes rest : List ℕ) (placed : List Placed) (result : Result Splitter ReadError) → Goes old bytes placed now rest → KeepsBytes now rest result
-    → MatchResult result (λ it. (placed : List Placed) × HasPlaced old bytes placed it) (λ error. (error.why ≡ Memory) ⊎ ((more : List ℕ) → placed_on old (bytes ++ more) ≡ Err error))
-all_fed old now bytes rest placed (Ok it) so kept = (placed, fed old now it bytes rest placed so kept)
-all_fed old now bytes rest placed (Err error) so kept = not_fed old now bytes rest placed error so kept

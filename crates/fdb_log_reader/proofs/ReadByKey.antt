@@ -1,5 +1,5 @@
 -- What is known of a log that was read with the keys of its lines.
-use Rattle.std.proofs.Common.{◌≡◌, ◌∙◌, ◌+◌, ◌==◌, ◌&&◌, ℕ, append-nil, map, ◌<◌, Bool, true, false, cond, nat_le, nat_lt, not, List, [], ◌∷◌, ◌++◌, length, length-append, Option, None, Some, IfSome, is_some, option_and_then, option_map, Result, Ok, Err, All, ap, arith, if◌then◌else◌, refl, subst, sym}
+use Rattle.std.proofs.Common.{◌≡◌, ◌∙◌, ◌+◌, ◌==◌, ◌&&◌, ℕ, append-nil, map, ◌<◌, Bool, true, false, cond, nat_le, nat_lt, not, List, [], ◌∷◌, ◌++◌, length, length-append, Option, None, Some, IfSome, option_map, Result, Ok, Err, All, ap, arith, if◌then◌else◌, refl, subst, sym}
 use Rattle.std.specs.Bool.{beq}
 use Rattle.std.proofs.lemmas.Bool.Decides.{nat_tests}
 use Rattle.std.proofs.lemmas.List.Elements.{All-append, All-cons, All-nil}
@@ -7,8 +7,6 @@ use Rattle.std.proofs.lemmas.Option.{slice_get_within}
 use Rattle.serde_json.specs.Data.{Data}
 use Rattle.serde_json.specs.Find.{get}
 use Rattle.fdb_lines.specs.declared.line.Line.{Line}
-use Rattle.fdb_lines.specs.declared.line.Operation.{Operation}
-use Rattle.fdb_lines.specs.declared.line.Times.{Times}
 use Rattle.fdb_lines.specs.declared.log.LineError.{LineError}
 use Rattle.fdb_lines.specs.declared.log.TheConstants.{MAX_LINES}
 use Rattle.fdb_lines.specs.Lines.{Lines, has_times, is_learn, kind_of}
@@ -21,10 +19,9 @@ use Rattle.fdb_log_reader.specs.declared.member.Member.TheVariants.{Learn}
 use Rattle.fdb_log_reader.specs.ByKey.{IsReadByKey}
 use Rattle.fdb_log_reader.specs.Columns.{KeyColumn, NumberColumn, ShownColumn, all_shown, key_in, most_bytes, no_keys, nothing_shown, numbered_on, with_key}
 use Rattle.fdb_log_reader.specs.Members.{and_then, call_of, client_of, member_of, times_of}
-use Rattle.fdb_log_reader.specs.Named.{StandOnce}
-use Rattle.fdb_log_reader.specs.Numbers.{AreWithin, IsMore, client_in, with_client}
+use Rattle.fdb_log_reader.specs.Numbers.{IsMore, client_in, with_client}
 use Rattle.fdb_log_reader.specs.Parts.{SaidParts, key_said, parts_said}
-use Rattle.fdb_log_reader.specs.Reading.{Reading, added_unless, at_end, lines_in, nothing, or_refused, pushed, reading_with, value_of, with_line, with_lines, with_own_number, with_parts, with_said, with_value}
+use Rattle.fdb_log_reader.specs.Reading.{Reading, added_unless, lines_in, nothing, or_refused, pushed, reading_with, value_of, with_line, with_lines, with_own_number, with_parts, with_said, with_value}
 use Rattle.fdb_log_reader.proofs.Behind.{once_none}
 use Rattle.fdb_log_reader.proofs.NamedOnce.{has_own, once_with}
 use Rattle.fdb_log_reader.proofs.ShownTexts.{more_names, within_kept, within_some}

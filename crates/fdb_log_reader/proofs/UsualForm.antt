@@ -22,7 +22,7 @@ use Rattle.fdb_log_reader.specs.declared.error.Why.{Why}
 use Rattle.fdb_lines.specs.declared.line.Operation.{Operation}
 use Rattle.fdb_lines.specs.Lines.{is_learn, kind_of}
 use Rattle.fdb_log_reader.specs.declared.member.Member.{Member}
-use Rattle.fdb_log_reader.specs.declared.member.Member.TheVariants.{Client, Read, Commit, Ask, Report, Learn, Began, Ended}
+use Rattle.fdb_log_reader.specs.declared.member.Member.TheVariants.{Learn}
 use Rattle.fdb_log_reader.specs.declared.usual.Told.{Told}
 use Rattle.fdb_log_reader.specs.declared.usual.Told.TheVariants.{Number, Text, Null}
 use Rattle.fdb_log_reader.specs.declared.usual.Usual.{Usual}
@@ -35,22 +35,19 @@ use Rattle.fdb_log_reader.specs.Parts.{SaidParts, key_said, parts_said}
 use Rattle.fdb_log_reader.specs.Reading.{Reading, or_not_json, pushed, reading_of, value_of, with_line, with_own_number, with_said, with_value}
 use Rattle.fdb_log_reader.specs.declared.named_log.NamedLog.{NamedLog}
 use Rattle.fdb_log_reader.specs.private.{shows}
-use Rattle.fdb_log_reader.specs.private.Usual.{IsReadAs, IsSmall, IsTold, Reads, Says, SaysFurther, SaysMember, StandsFor, beside_of, says_of, told_data, told_json, told_text, with_told}
+use Rattle.fdb_log_reader.specs.private.Usual.{IsReadAs, IsSmall, IsTold, Reads, Says, SaysFurther, StandsFor, beside_of, says_of, told_data, told_json, told_text}
 
 told_reads : (told : Told) → IsSmall told → of_json (told_json told) ≡ Some (told_data told)
 told_reads (Number n) small = ap (option_map number) (number_of-decimal n small)
-told_reads (Text text) small = refl
-told_reads Null small = refl
+told_reads _ small = refl
 
 told_number : (told : Told) → IsSmall told → HasNumbers (told_json told)
 told_number (Number n) small = IsNumber-decimal n small
-told_number (Text text) small = tt
-told_number Null small = tt
+told_number _ small = tt
 
 told_depth : (told : Told) → depth (told_json told) ≡ 0
-told_depth (Number n) = refl
-told_depth (Text text) = refl
 told_depth Null = refl
+told_depth _ = refl
 
 -- ---- texts
 
@@ -103,107 +100,6 @@ put_says : (further : Option (List ℕ)) (name : List ℕ) (told : Told) (found 
     → Says further name told line next → IsTold (λ q. get_member q (put name (told_data told) found)) further next
 put_says further name told found line next says more =
     (λ m. put_said name (name_of m) told found (says_of line m) (says_of next m) (says.0 m) (more.0 m), put_further further name told found line next says.1 more.1)
-
-says_with : (line : Usual) (told : Told) (member m : Member) → says_of (with_told line member told) m ≡ (if bytes_eq (name_of member) (name_of m) then Some (told_data told) else says_of line m)
-says_with line told Client Client = refl
-says_with line told Client Read = refl
-says_with line told Client Commit = refl
-says_with line told Client Ask = refl
-says_with line told Client Report = refl
-says_with line told Client Learn = refl
-says_with line told Client Began = refl
-says_with line told Client Ended = refl
-says_with line told Read Client = refl
-says_with line told Read Read = refl
-says_with line told Read Commit = refl
-says_with line told Read Ask = refl
-says_with line told Read Report = refl
-says_with line told Read Learn = refl
-says_with line told Read Began = refl
-says_with line told Read Ended = refl
-says_with line told Commit Client = refl
-says_with line told Commit Read = refl
-says_with line told Commit Commit = refl
-says_with line told Commit Ask = refl
-says_with line told Commit Report = refl
-says_with line told Commit Learn = refl
-says_with line told Commit Began = refl
-says_with line told Commit Ended = refl
-says_with line told Ask Client = refl
-says_with line told Ask Read = refl
-says_with line told Ask Commit = refl
-says_with line told Ask Ask = refl
-says_with line told Ask Report = refl
-says_with line told Ask Learn = refl
-says_with line told Ask Began = refl
-says_with line told Ask Ended = refl
-says_with line told Report Client = refl
-says_with line told Report Read = refl
-says_with line told Report Commit = refl
-says_with line told Report Ask = refl
-says_with line told Report Report = refl
-says_with line told Report Learn = refl
-says_with line told Report Began = refl
-says_with line told Report Ended = refl
-says_with line told Learn Client = refl
-says_with line told Learn Read = refl
-says_with line told Learn Commit = refl
-says_with line told Learn Ask = refl
-says_with line told Learn Report = refl
-says_with line told Learn Learn = refl
-says_with line told Learn Began = refl
-says_with line told Learn Ended = refl
-says_with line told Began Client = refl
-says_with line told Began Read = refl
-says_with line told Began Commit = refl
-says_with line told Began Ask = refl
-says_with line told Began Report = refl
-says_with line told Began Learn = refl
-says_with line told Began Began = refl
-says_with line told Began Ended = refl
-says_with line told Ended Client = refl
-says_with line told Ended Read = refl
-says_with line told Ended Commit = refl
-says_with line told Ended Ask = refl
-says_with line told Ended Report = refl
-says_with line told Ended Learn = refl
-says_with line told Ended Began = refl
-says_with line told Ended Ended = refl
-
-pub named : (line : Usual) (name : List ℕ) (told : Told) (member : Member) → name ≡ name_of member → SaysMember name told line (with_told line member told)
-named line name told member is m = says_with line told member m ∙ ap (λ n. if bytes_eq n (name_of m) then Some (told_data told) else says_of line m) (sym is)
-
-pub unnamed : (line : Usual) (name : List ℕ) (told : Told) → ((m : Member) → bytes_eq name (name_of m) ≡ false) → SaysMember name told line line
-unnamed line name told none m = ap (λ b. if b then Some (told_data told) else says_of line m) (sym (none m))
-
-pub same_further : (line : Usual) (told : Told) (member : Member) → (with_told line member told).further ≡ line.further
-same_further line told Client = refl
-same_further line told Read = refl
-same_further line told Commit = refl
-same_further line told Ask = refl
-same_further line told Report = refl
-same_further line told Learn = refl
-same_further line told Began = refl
-same_further line told Ended = refl
-
--- what the members say does not change with the further one
-pub same_members : (line : Usual) (further : Option Told) (member : Member) → says_of (record { client = line.client; read = line.read; commit = line.commit; ask = line.ask; report = line.report; learn = line.learn; began = line.began; ended = line.ended; further = further }) member ≡ says_of line member
-same_members line further Client = refl
-same_members line further Read = refl
-same_members line further Commit = refl
-same_members line further Ask = refl
-same_members line further Report = refl
-same_members line further Learn = refl
-same_members line further Began = refl
-same_members line further Ended = refl
-
-pub both : (further : Option (List ℕ)) (name : List ℕ) (told : Told) (line between next : Usual) → SaysMember name told line between → between.further ≡ line.further
-    → SaysFurther further name told between next → ((m : Member) → says_of next m ≡ says_of between m) → Says further name told line next
-both further name told line between next said same more others = (λ m. others m ∙ said m, of_further further more)
-  where
-    of_further : (further : Option (List ℕ)) → SaysFurther further name told between next → SaysFurther further name told line next
-    of_further None more = tt
-    of_further (Some kept) more = more ∙ ap (λ o. if bytes_eq name kept then Some (told_data told) else option_map told_data o) same
 
 -- ---- a member at a time
 

@@ -1,5 +1,5 @@
 -- What is known of a log that was read with the keys of its lines. (this product's own)
-use Rattle.std.specs.Prelude.{◌≡◌, ℕ, ◌<◌, All, IfSome, Some, false, length}
+use Rattle.std.specs.Prelude.{◌≡◌, ◌<◌, All, IfSome, Some, false, length}
 use Rattle.fdb_lines.specs.declared.line.Line.{Line}
 use Rattle.fdb_lines.specs.Lines.{has_times, is_learn, kind_of}
 use Rattle.fdb_log_reader.specs.Columns.{KeyColumn}

@@ -7,9 +7,9 @@ use Rattle.serde_json.specs.Read.{read}
 use Rattle.fdb_lines.specs.Lines.{Lines}
 use Rattle.fdb_log_reader.specs.declared.error.Why.{Why}
 use Rattle.fdb_log_reader.specs.declared.error.Why.TheVariants.{BadKey, BadNumber}
-use Rattle.fdb_log_reader.specs.declared.keys.Keys.{Keys}
-use Rattle.fdb_log_reader.specs.declared.own_numbers.OwnNumbers.{OwnNumbers}
-use Rattle.fdb_log_reader.specs.declared.own_numbers.TheConstants.{NUMBER_BYTES}
+use Rattle.fdb_log_reader.specs.declared.columns.Keys.{Keys}
+use Rattle.fdb_log_reader.specs.declared.columns.OwnNumbers.{OwnNumbers}
+use Rattle.fdb_log_reader.specs.declared.columns.TheConstants.{NUMBER_BYTES}
 use Rattle.fdb_log_reader.specs.declared.reader.TheConstants.{MAX_LINE_BYTES}
 use Rattle.fdb_log_reader.specs.declared.shown.Shown.{Shown}
 use Rattle.fdb_log_reader.specs.Members.{and_then, as_count, as_name}

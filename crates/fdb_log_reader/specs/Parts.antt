@@ -8,7 +8,7 @@ use Rattle.fdb_log_reader.specs.declared.error.Why.{Why}
 use Rattle.fdb_log_reader.specs.declared.error.Why.TheVariants.{BadMember}
 use Rattle.fdb_log_reader.specs.declared.member.Member.{Member}
 use Rattle.fdb_log_reader.specs.declared.member.Member.TheVariants.{Learn}
-use Rattle.fdb_log_reader.specs.declared.parts.Parts.{Parts}
+use Rattle.fdb_log_reader.specs.declared.parsing.Parts.{Parts}
 use Rattle.fdb_log_reader.specs.Columns.{key_in}
 use Rattle.fdb_log_reader.specs.Members.{and_then, call_of, client_of, times_of}
 

@@ -9,8 +9,8 @@ use Rattle.fdb_lines.specs.declared.log.TheConstants.{MAX_LINES}
 use Rattle.fdb_lines.specs.Lines.{are_known, has_times, is_learn, kind_of}
 use Rattle.fdb_log_reader.specs.declared.error.Why.{Why}
 use Rattle.fdb_log_reader.specs.declared.error.Why.TheVariants.{BadMember, SomeTimes, TooLong, TooMany}
-use Rattle.fdb_log_reader.specs.declared.known_names.KnownKeys.{KnownKeys}
-use Rattle.fdb_log_reader.specs.declared.known_names.KnownNames.{KnownNames}
+use Rattle.fdb_log_reader.specs.declared.read_line.KnownKeys.{KnownKeys}
+use Rattle.fdb_log_reader.specs.declared.read_line.KnownNames.{KnownNames}
 use Rattle.fdb_log_reader.specs.declared.member.Member.{Member}
 use Rattle.fdb_log_reader.specs.declared.member.Member.TheVariants.{Learn}
 use Rattle.fdb_log_reader.specs.declared.read_line.ReadLine.{ReadLine}

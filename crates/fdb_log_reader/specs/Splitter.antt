@@ -1,8 +1,8 @@
 -- What becomes of a log that is cut into parts as it is read. (this product's own)
 use Rattle.std.specs.Prelude.{◌≡◌, ℕ, ◌+◌, ◌<◌, List, [], ◌++◌, length, map, slice_index, slice_index_or, string_bytes, Ok}
-use Rattle.fdb_log_reader.specs.declared.above.Above.{Above}
+use Rattle.fdb_log_reader.specs.declared.part_text.Above.{Above}
 use Rattle.fdb_log_reader.specs.declared.part_text.PartText.{PartText}
-use Rattle.fdb_log_reader.specs.declared.placer.Placer.{Placer}
+use Rattle.fdb_log_reader.specs.declared.splitter.Placer.{Placer}
 use Rattle.fdb_log_reader.specs.declared.splitter.Splitter.{Splitter}
 use Rattle.fdb_log_reader.specs.Reading.{lines_in}
 use Rattle.fdb_log_reader.specs.Split.{AllPlaced, Placed, in_front, of_part, placed_lines, text_of_part}

@@ -5,7 +5,7 @@ ghost use Rattle.std.specs.Prelude.{Ok, Option, Some, String, decimal, false, le
 ghost use Rattle.std.specs.Prelude.{option_and_then, string_bytes};
 ghost use Rattle.std.specs.List.{range_with_len};
 ghost use Rattle.std.specs.declared.alloc.Global.{Global};
-ghost use Rattle.fdb_log_reader.specs.declared.above.Above.{Above};
+ghost use Rattle.fdb_log_reader.specs.declared.part_text.Above.{Above};
 ghost use Rattle.fdb_log_reader.specs.declared.line_reader.LineReader.{LineReader};
 ghost use Rattle.fdb_log_reader.specs.ByKey.{IsReadByKey};
 ghost use Rattle.fdb_log_reader.specs.Columns.{KeyColumn};

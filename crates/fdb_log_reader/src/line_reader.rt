@@ -6,9 +6,8 @@ ghost use Rattle.fdb_log_reader.specs.ReadLine.{known_of, ReadsLine};
 ghost use Rattle.fdb_log_reader.specs.private.{IsOneLine};
 
 use crate::error::Why;
-use crate::known_names::KnownNames;
 use crate::names::Names;
-use crate::read_line::{ReadLine, read_line};
+use crate::read_line::{KnownNames, ReadLine, read_line};
 use crate::reader::{MAX_LINE_BYTES, split_line};
 use std::alloc::{AllocError, Global};
 

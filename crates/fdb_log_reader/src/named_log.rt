@@ -1,8 +1,10 @@
 //! A log with the names of its clients, and how a line is added to it.
 
-ghost use Rattle.std.specs.Prelude.{◌≡◌, ◌⊎◌, ◌+◌, ◌≤◌, ◌<◌, ℕ, List, Option, Err, Ok};
-ghost use Rattle.std.specs.Prelude.{IfOk, IfSome, OnOk, MatchResult, length, option_map};
+ghost use Rattle.std.specs.Prelude.{◌≡◌, ◌⊎◌, ◌+◌, ◌≤◌, ◌<◌, ℕ, List, Option, Err, Ok, IfOk};
+ghost use Rattle.std.specs.Prelude.{IfSome, OnOk, MatchResult, length, option_map};
 ghost use Rattle.serde_json.specs.Data.{Data};
+ghost use Rattle.serde_json.specs.Find.{get};
+ghost use Rattle.serde_json.specs.View.{view};
 ghost use Rattle.fdb_log_reader.specs.Columns.{all_shown, column_of, most_bytes, numbered_on};
 ghost use Rattle.fdb_log_reader.specs.Columns.{numbers_in, with_key};
 ghost use Rattle.fdb_log_reader.specs.Names.{names_of};
@@ -11,17 +13,12 @@ ghost use Rattle.fdb_log_reader.specs.Parts.{parts_of};
 ghost use Rattle.fdb_log_reader.specs.Reading.{reading_of, value_of, with_line, with_parts};
 ghost use Rattle.fdb_log_reader.specs.Reading.{with_said, with_value};
 ghost use Rattle.fdb_log_reader.specs.private.{HasPlaces, HasRoom, IsFlat, shows};
-ghost use Rattle.serde_json.specs.Find.{get};
-ghost use Rattle.serde_json.specs.View.{view};
 
+use crate::columns::{Keys, OwnNumbers, add_shown};
 use crate::error::Why;
-use crate::keys::Keys;
+use crate::member::Said;
 use crate::names::Names;
-use crate::own_numbers::OwnNumbers;
-use crate::parsing::{count_beside, value_of};
-use crate::parts::{Parts, parts_of};
-use crate::said::Said;
-use crate::showing::add_shown;
+use crate::parsing::{Parts, count_beside, parts_of, value_of};
 use crate::shown::Shown;
 use crate::usual::usual_of;
 use fdb_lines::{Line, Log, MAX_LINES};

@@ -1,22 +1,21 @@
-//! What a line says, by the members of its JSON value.
+//! What a line says by the members of its JSON value, before anything of it is kept.
 
-ghost use Rattle.std.specs.Prelude.{◌≡◌, ◌⊎◌, ◌≤◌, IfOk, MatchResult, length};
-ghost use Rattle.std.specs.Prelude.{option_and_then, option_map};
+ghost use Rattle.std.specs.Prelude.{◌≡◌, ◌⊎◌, ◌≤◌, IfOk, MatchResult, length, option_and_then};
+ghost use Rattle.std.specs.Prelude.{option_map, Err, Ok};
 ghost use Rattle.serde_json.specs.Data.{depth};
 ghost use Rattle.serde_json.specs.Read.{max_depth};
 ghost use Rattle.serde_json.specs.View.{view};
 ghost use Rattle.fdb_log_reader.specs.Columns.{key_in};
-ghost use Rattle.fdb_log_reader.specs.Members.{as_count, as_name, written};
-ghost use Rattle.fdb_log_reader.specs.Members.{call_count, call_named, call_of, client_of};
-ghost use Rattle.fdb_log_reader.specs.Members.{end_of, number_of, teller_of};
-ghost use Rattle.fdb_log_reader.specs.Members.{times_of, times_with};
+ghost use Rattle.fdb_log_reader.specs.Members.{as_count, as_name, written, call_count, call_named};
+ghost use Rattle.fdb_log_reader.specs.Members.{call_of, client_of, end_of, number_of, teller_of};
+ghost use Rattle.fdb_log_reader.specs.Members.{times_of};
 ghost use Rattle.fdb_log_reader.specs.Names.{names_of};
 ghost use Rattle.fdb_log_reader.specs.Reading.{value_of};
+ghost use Rattle.fdb_log_reader.specs.Parts.{key_said, parts_of, parts_said};
 
 use crate::error::Why;
-use crate::member::Member;
+use crate::member::{Member, Said};
 use crate::names::Names;
-use crate::said::Said;
 use fdb_lines::{MAX_LINES, Operation, Times};
 use itoa::Buffer;
 use serde_json::Value;
@@ -201,24 +200,18 @@ fn teller_of<S: Said>(line: &S, names: &Names) -> Result<u32, Why>
 }
 
 /// When the call began and ended; none where a line has neither member.
+#[tactic(auto, using(crate::proofs::Times::taken, crate::proofs::Times::refused))]
 pub(crate) fn times_of<S: Said>(line: &S) -> Result<Option<Times>, Why>
     ensures { result ≡ times_of (S.says line.now) }
 {
     if line.has(Member::Began) || line.has(Member::Ended) {
         let began = number_of(line, Member::Began)?;
         let ended = end_of(line).ok_or(Why::BadMember(Member::Ended))?;
-        let times = times_with(began, ended).ok_or(Why::BadMember(Member::Ended))?;
+        let times = Times::new(began, ended).ok_or(Why::BadMember(Member::Ended))?;
         Ok(Some(times))
     } else {
         Ok(None)
     }
-}
-
-/// Times, unless the call ended before it began.
-fn times_with(began: u64, ended: Option<u64>) -> Option<Times>
-    ensures { result ≡ times_with began ended }
-{
-    Times::new(began, ended)
 }
 
 /// When it ended, or that this is not known.
@@ -229,4 +222,64 @@ fn end_of<S: Said>(line: &S) -> Option<Option<u64>>
         return Some(None);
     }
     count_in(line, Member::Ended).map(Some)
+}
+
+/// What a line says.
+#[derive(Clone, Copy, Debug)]
+pub(crate) struct Parts<'a> {
+    pub(crate) client: Option<&'a str>,
+    pub(crate) call: Operation,
+    pub(crate) times: Option<Times>,
+    /// What the member says that has the keys, where keys are kept.
+    pub(crate) key: Option<&'a str>,
+}
+
+/// What a line says, where a member of the name has the keys, if they are kept. The digits of a
+/// client or of a key that is a number go to the buffers.
+pub(crate) fn parts_of<'a, S: Said>(
+    line: &'a S,
+    names: &Names,
+    member: Option<&str>,
+    digits: &'a mut Buffer,
+    key_digits: &'a mut Buffer,
+) -> Result<Parts<'a>, Why>
+    requires few { length (names_of names.now) ≤ MAX_LINES }
+    ensures { MatchResult result
+        (λ parts. parts_said (names_of names.now) (option_map (λ name. name.now) member.entry)
+        (S.says line.now) (S.says_beside line.now) ≡ Ok (parts_of parts))
+        (λ why. parts_said (names_of names.now) (option_map (λ name. name.now) member.entry)
+        (S.says line.now) (S.says_beside line.now) ≡ Err why) }
+{
+    let client = client_of(line, digits)?;
+    let call = call_of(line, names)?;
+    let times = times_of(line)?;
+    let key = key_of(line, member, &call, key_digits)?;
+    Ok(Parts {
+        client,
+        call,
+        times,
+        key,
+    })
+}
+
+/// The key of a line, if it has one, where keys are kept.
+fn key_of<'a, S: Said>(
+    line: &'a S,
+    member: Option<&str>,
+    call: &Operation,
+    digits: &'a mut Buffer,
+) -> Result<Option<&'a str>, Why>
+    ensures { MatchResult result
+        (λ key. key_said (option_map (λ name. name.now) member.entry) call.now
+        (S.says_beside line.now) ≡ Ok (option_map (λ name. name.now) key))
+        (λ why. key_said (option_map (λ name. name.now) member.entry) call.now
+        (S.says_beside line.now) ≡ Err why) }
+{
+    let Some(member) = member else {
+        return Ok(None);
+    };
+    if matches!(call, Operation::Learn(_)) {
+        return Err(Why::BadMember(Member::Learn));
+    }
+    key_in(line, member, digits)
 }

@@ -1,13 +1,26 @@
-//! The text of a part of a log, as far as it is held, and how a line comes to it.
+//! A line of a log that is cut into parts, of whose key the hash is kept, what stands above it, and
+//! the text of a part, as far as it is held.
 
-ghost use Rattle.std.specs.Prelude.{◌≡◌, ◌+◌, ◌∷◌, ◌++◌, ◌<◌, [], IfOk, MatchOption, OnOk};
-ghost use Rattle.std.specs.Prelude.{ℕ, false, length, slice_index, slice_index_or};
+ghost use Rattle.std.specs.Prelude.{◌≡◌, ◌+◌, ◌∷◌, ◌++◌, ◌<◌, [], IfOk, MatchOption, OnOk, ℕ};
+ghost use Rattle.std.specs.Prelude.{false, length, slice_index, slice_index_or, ◌⊎◌, Err};
+ghost use Rattle.std.specs.Prelude.{MatchResult, Ok, option_map};
 ghost use Rattle.std.specs.List.{list_any};
-ghost use Rattle.fdb_log_reader.specs.Split.{is_brace, number_member, with_number};
+ghost use Rattle.serde_json.specs.Find.{get};
+ghost use Rattle.serde_json.specs.View.{view};
+ghost use Rattle.fdb_log_reader.specs.Split.{is_brace, number_member, with_number, hash_of};
+ghost use Rattle.fdb_log_reader.specs.Split.{keyed_line, keyed_said, refusal_below};
 ghost use Rattle.fdb_log_reader.specs.Splitter.{HaveCome, counts_in, texts_in};
 ghost use Rattle.fdb_log_reader.specs.private.Counting.{AreBelow};
 ghost use Rattle.fdb_log_reader.specs.private.Placing.{IsSplitAtBrace};
+ghost use Rattle.fdb_log_reader.specs.Members.{member_of};
+ghost use Rattle.fdb_log_reader.specs.Parts.{parts_of};
+ghost use Rattle.fdb_log_reader.specs.ReadLine.{unless};
 
+use crate::error::Why;
+use crate::member::{Member, Said};
+use crate::names::Names;
+use crate::parsing::{Parts, parts_of, value_of};
+use crate::usual::usual_of;
 use itoa::Buffer;
 use memchr::memrchr;
 use std::alloc::{AllocError, Global};
@@ -118,4 +131,132 @@ pub(crate) fn no_lines(alloc: Global, count: usize) -> Result<Vec<PartText>, All
         parts.push(PartText::new(alloc))?;
     }
     Ok(parts)
+}
+
+/// Where the hash of a key begins, and by what it is multiplied at each byte.
+const HASH_BASIS: u64 = 0xcbf2_9ce4_8422_2325;
+
+const HASH_PRIME: u64 = 0x100_0000_01b3;
+
+/// What is kept of a line.
+#[derive(Clone, Copy, Debug, PartialEq, Eq)]
+pub(crate) struct KeyedLine {
+    /// The hash of its key, if it names one.
+    pub(crate) hash: Option<u64>,
+    pub(crate) is_timed: bool,
+}
+
+/// Reads a line, where a member of this name has its key, below others.
+pub(crate) fn keyed_line(
+    alloc: Global,
+    member: &str,
+    above: Above,
+    bytes: &[u8],
+) -> Result<KeyedLine, Why>
+    ensures { MatchResult result (λ it. keyed_line member.now above bytes.now ≡ Ok it)
+        (λ why. (why ≡ Why.Memory) ⊎ (keyed_line member.now above bytes.now ≡ Err why)) }
+{
+    if let Some(line) = usual_of(bytes, Some(member)) {
+        return keyed_said(alloc, member, above, &line);
+    }
+    let value = value_of(alloc, bytes)?;
+    keyed_said(alloc, member, above, &value)
+}
+
+/// The same by what its members say.
+fn keyed_said<S: Said>(
+    alloc: Global,
+    member: &str,
+    above: Above,
+    line: &S,
+) -> Result<KeyedLine, Why>
+    ensures { MatchResult result
+        (λ it. keyed_said member.now above (S.says line.now) (S.says_beside line.now) ≡ Ok it)
+        (λ why. keyed_said member.now above (S.says line.now) (S.says_beside line.now) ≡ Err why) }
+{
+    let names = Names::new(alloc);
+    let mut digits = Buffer::new();
+    let mut key_digits = Buffer::new();
+    let parts = parts_of(line, &names, Some(member), &mut digits, &mut key_digits)?;
+    fits_below(above, &parts)?;
+    Ok(KeyedLine {
+        hash: parts.key.map(hash_of),
+        is_timed: parts.times.is_some(),
+    })
+}
+
+/// Whether a line may stand below others: with times as they, or without.
+fn fits_below(above: Above, parts: &Parts<'_>) -> Result<(), Why>
+    ensures { result ≡ unless (refusal_below above (parts_of parts.now)) tt }
+{
+    let is_timed = parts.times.is_some();
+    if above.is_other(is_timed) {
+        return Err(Why::SomeTimes);
+    }
+    if !is_timed && parts.client.is_none() {
+        return Err(Why::BadMember(Member::Client));
+    }
+    Ok(())
+}
+
+/// The hash of a key, FNV-1a of 64 bits.
+fn hash_of(key: &str) -> u64
+    ensures { result ≡ hash_of key.now }
+{
+    let mut hash = HASH_BASIS;
+    for byte in key.as_bytes() {
+        hash = (hash ^ *byte as u64).wrapping_mul(HASH_PRIME);
+    }
+    hash
+}
+
+/// What stands above a line of a log: how many lines, and the numbers, counted from 1, of the first
+/// of these lines that has times and of the first that has none.
+#[derive(Clone, Copy, Debug, PartialEq, Eq)]
+pub struct Above {
+    pub count: u64,
+    pub timed: Option<u64>,
+    pub untimed: Option<u64>,
+}
+
+impl Above {
+    ghost use Rattle.fdb_log_reader.specs.Split.{below, is_other, last_number, next_above};
+
+    /// So many lines, of which nothing is known.
+    pub(crate) fn of(count: u64) -> Self
+        ensures { result ≡ below count }
+    {
+        Above {
+            count,
+            timed: None,
+            untimed: None,
+        }
+    }
+
+    /// With a line more.
+    pub(crate) fn next(self, is_timed: bool) -> Self
+        requires { self.count < last_number }
+        ensures { result ≡ next_above self is_timed }
+    {
+        let number = Some(self.count + 1);
+        let mut next = self;
+        next.count += 1;
+        if is_timed {
+            next.timed = self.timed.or(number);
+        } else {
+            next.untimed = self.untimed.or(number);
+        }
+        next
+    }
+
+    /// Whether a line has times and one above it has none, or the other way round.
+    pub(crate) fn is_other(self, is_timed: bool) -> bool
+        ensures { result ≡ is_other self is_timed }
+    {
+        if is_timed {
+            self.untimed.is_some()
+        } else {
+            self.timed.is_some()
+        }
+    }
 }

@@ -1,7 +1,8 @@
-//! A line that is read by itself, and how it is read.
+//! A line that is read by itself, how it is read, and the names that such lines have had.
 
 ghost use Rattle.std.specs.Prelude.{◌≡◌, ◌⊎◌, ◌≤◌, ℕ, List, [], All, Err, IfOk, IfSome};
-ghost use Rattle.std.specs.Prelude.{MatchResult, Ok, false, map, option_map, string_bytes};
+ghost use Rattle.std.specs.Prelude.{MatchResult, Ok, false, map, option_map, string_bytes, ◌<◌};
+ghost use Rattle.std.specs.Prelude.{OnOk, length};
 ghost use Rattle.serde_json.specs.Data.{depth};
 ghost use Rattle.serde_json.specs.Find.{get};
 ghost use Rattle.serde_json.specs.Read.{max_depth};
@@ -11,18 +12,17 @@ ghost use Rattle.fdb_log_reader.specs.Members.{member_of};
 ghost use Rattle.fdb_log_reader.specs.Parts.{parts_of};
 ghost use Rattle.fdb_log_reader.specs.ReadLine.{are_full, known_of, line_read, line_said, said_by};
 ghost use Rattle.fdb_log_reader.specs.ReadLine.{refusal_alone, showing, text_says, unless};
-ghost use Rattle.fdb_log_reader.specs.ReadLine.{HasTexts};
+ghost use Rattle.fdb_log_reader.specs.ReadLine.{HasTexts, key_number, keys_of, with_known};
 ghost use Rattle.fdb_log_reader.specs.private.{IsFlat};
 
 use crate::error::Why;
-use crate::known_names::KnownNames;
-use crate::member::Member;
-use crate::parsing::value_of;
-use crate::parts::{Parts, parts_of};
+use crate::member::{Member, Said};
+use crate::named_log::add_client;
+use crate::names::Names;
+use crate::parsing::{Parts, parts_of, value_of};
 use crate::reader::MAX_LINE_BYTES;
-use crate::said::Said;
 use crate::usual::usual_of;
-use fdb_lines::Line;
+use fdb_lines::{Line, MAX_LINES};
 use itoa::Buffer;
 use serde_json::Value;
 use std::alloc::{AllocError, Global};
@@ -58,7 +58,7 @@ pub(crate) fn read_line(
     if bytes.len() > MAX_LINE_BYTES {
         return Err(Why::TooLong);
     }
-    if names.are_full() {
+    if names.clients.count() >= MAX_LINES || names.key_count() >= MAX_LINES {
         return Err(Why::TooMany);
     }
     if shown.is_empty()
@@ -158,6 +158,103 @@ fn text_of(alloc: Global, said: Option<&Value>) -> Result<Option<String>, AllocE
 {
     match said {
         Some(value) => Ok(Some(value.to_string(alloc)?)),
+        None => Ok(None),
+    }
+}
+
+/// The keys, and the member that has them.
+#[derive(Drop)]
+pub(crate) struct KnownKeys {
+    pub(crate) member: String,
+    pub(crate) names: Names,
+}
+
+/// The names of clients, and the keys, if they are kept.
+#[derive(Drop)]
+pub(crate) struct KnownNames {
+    pub(crate) clients: Names,
+    pub(crate) keys: Option<KnownKeys>,
+}
+
+impl KnownNames {
+    ghost use Rattle.fdb_log_reader.specs.ReadLine.{are_full, known_of, member_in};
+    ghost use Rattle.fdb_log_reader.specs.ReadLine.{key_count, no_names, numbered, said_by};
+    ghost use Rattle.fdb_log_reader.specs.ReadLine.{with_names};
+
+    /// Of no line, where a member of the name has the keys, if they are to be kept.
+    pub(crate) fn new(alloc: Global, key: Option<&str>) -> Result<Self, AllocError>
+        ensures { IfOk result
+            (λ names. known_of names ≡ no_names (option_map (λ key. key.now) key.entry)) }
+    {
+        let keys = match key {
+            Some(member) => Some(KnownKeys {
+                member: String::from_str(alloc, member)?,
+                names: Names::new(alloc),
+            }),
+            None => None,
+        };
+        Ok(KnownNames {
+            clients: Names::new(alloc),
+            keys,
+        })
+    }
+
+    /// The name of the member that has the keys, where they are kept.
+    pub(crate) fn member(&self) -> Option<&str>
+        ensures { option_map (λ member. member.now) result ≡ member_in (known_of self.now) }
+    {
+        match &self.keys {
+            Some(keys) => Some(keys.member.as_str()),
+            None => None,
+        }
+    }
+
+    fn key_count(&self) -> usize
+        ensures { result ≡ key_count (known_of self.now).keys }
+    {
+        match &self.keys {
+            Some(keys) => keys.names.count(),
+            None => 0,
+        }
+    }
+
+    /// Adds the names of a line. Answers the line, but not what is shown of it.
+    pub(crate) fn add(&mut self, alloc: Global, parts: Parts<'_>) -> Result<ReadLine, AllocError>
+        requires { are_full (known_of self.old) ≡ false }
+        ensures added { OnOk result
+            (known_of self.new ≡ with_names (known_of self.old) (parts_of parts.entry)) }
+        ensures read { IfOk result
+            (λ read. said_by read ≡ numbered (known_of self.new) (parts_of parts.entry) []) }
+    {
+        let key = add_known(&mut self.keys, alloc, parts.key)?;
+        let client = add_client(&mut self.clients, alloc, parts.client)?;
+        Ok(ReadLine {
+            line: Line {
+                client,
+                call: parts.call,
+                times: parts.times,
+            },
+            key,
+            shown: Vec::new(alloc),
+        })
+    }
+}
+
+/// Adds the key of a line, if it has one, where keys are kept. Answers its number.
+fn add_known(
+    keys: &mut Option<KnownKeys>,
+    alloc: Global,
+    key: Option<&str>,
+) -> Result<Option<u32>, AllocError>
+    requires { IfSome keys.old (λ keys. length (keys_of keys).names < MAX_LINES) }
+    ensures added { OnOk result (option_map keys_of keys.new
+        ≡ option_map (with_known (option_map (λ key. key.now) key.entry))
+        (option_map keys_of keys.old)) }
+    ensures number { IfOk result (λ number. number
+        ≡ key_number (option_map keys_of keys.new) (option_map (λ key. key.now) key.entry)) }
+{
+    match keys {
+        Some(keys) => add_client(&mut keys.names, alloc, key),
         None => Ok(None),
     }
 }

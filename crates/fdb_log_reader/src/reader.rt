@@ -1,21 +1,19 @@
 //! A log that is read piece by piece.
 
-ghost use Rattle.std.specs.Prelude.{◌≡◌, ◌⊎◌, ◌++◌, ◌∷◌, ◌+◌, ◌≤◌, ℕ, List, [], Err, IfOk};
-ghost use Rattle.std.specs.Prelude.{IfSome, MatchOption, MatchResult, length, map, option_map};
+ghost use Rattle.std.specs.Prelude.{◌≡◌, ◌⊎◌, ◌++◌, ◌∷◌, ◌+◌, ◌≤◌, ℕ, List, [], Err, IfOk, IfSome};
+ghost use Rattle.std.specs.Prelude.{MatchOption, MatchResult, length, map, option_map};
 ghost use Rattle.std.specs.Prelude.{string_bytes};
+ghost use Rattle.std.proofs.Props.{props};
 ghost use Rattle.fdb_log_reader.specs.Columns.{HasCells, column_of, most_bytes, no_keys};
 ghost use Rattle.fdb_log_reader.specs.Columns.{no_numbers, numbers_in, shown_of};
 ghost use Rattle.fdb_log_reader.specs.Reading.{ReadsAs, StandsFor, lines_in, nothing, reading_in};
 ghost use Rattle.fdb_log_reader.specs.Reading.{reading_of, reading_with, with_lines};
 ghost use Rattle.fdb_log_reader.specs.private.{HasRoom, HaveCells, IsOneLine};
-ghost use Rattle.std.proofs.Props.{props};
 
+use crate::columns::{Keys, OwnNumbers, most_bytes, no_columns};
 use crate::error::{ReadError, Why};
-use crate::keys::Keys;
 use crate::named_log::{NamedLog, add_line};
 use crate::names::Names;
-use crate::own_numbers::{OwnNumbers, most_bytes};
-use crate::showing::no_columns;
 use crate::shown::Shown;
 use fdb_lines::Log;
 use memchr::memchr;

@@ -11,8 +11,8 @@ ghost use Rattle.fdb_log_reader.specs.Names.{names_of};
 ghost use Rattle.fdb_log_reader.specs.Numbers.{AreWithin};
 ghost use Rattle.fdb_log_reader.specs.private.Texts.{AreJson};
 
+use crate::columns::add_text;
 use crate::names::Names;
-use crate::showing::add_text;
 use fdb_lines::MAX_LINES;
 use serde_json::Value;
 use std::alloc::{AllocError, Global};

@@ -1,16 +1,17 @@
-//! Lines in the usual form, which are read without a JSON value.
+//! Lines in the usual form, which are read from their bytes, without a JSON value.
 
-ghost use Rattle.std.specs.Prelude.{◌≡◌, IfSome, Some, None, MatchOption, false, option_map};
+ghost use Rattle.std.specs.Prelude.{◌≡◌, IfSome, Some, None, MatchOption, false, option_map, ◌++◌};
+ghost use Rattle.std.specs.Prelude.{◌∷◌, ◌<◌, ◌≤◌, ℕ, decimal, length, slice_index, true};
 ghost use Rattle.std.specs.Str.{bytes_eq};
+ghost use Rattle.json.specs.Print.{escape, quoted};
+ghost use Rattle.json.specs.Run.{is_plain};
 ghost use Rattle.fdb_log_reader.specs.Members.{name_of};
-ghost use Rattle.fdb_log_reader.specs.private.Usual.{beside_of, says_of, told_of, with_told};
+ghost use Rattle.fdb_log_reader.specs.private.Usual.{beside_of, says_of, told_of};
 ghost use Rattle.fdb_log_reader.specs.private.Usual.{IsBehind, IsReadAs, Says, StandsFor};
-ghost use Rattle.fdb_log_reader.specs.private.Usual.{SaysFurther, SaysMember};
+ghost use Rattle.fdb_log_reader.specs.private.Usual.{SaysMember, told_text, IsSmall};
 ghost use Rattle.fdb_log_reader.specs.declared.member.Member.{Member};
 
-use crate::member::Member;
-use crate::said::Said;
-use crate::scanning::{split_member, strip};
+use crate::member::{Member, Said};
 
 /// What a member says.
 #[derive(Clone, Copy, Debug)]
@@ -20,15 +21,12 @@ pub(crate) enum Told<'a> {
     Null,
 }
 
-/// A line in the usual form: what each of its members says, where it is there.
-#[derive(Clone, Copy, Debug)]
+/// A line in the usual form: what its members say, where they are there.
+#[derive(Clone, Copy, Debug, Default)]
 pub(crate) struct Usual<'a> {
     pub(crate) client: Option<Told<'a>>,
-    pub(crate) read: Option<Told<'a>>,
-    pub(crate) commit: Option<Told<'a>>,
-    pub(crate) ask: Option<Told<'a>>,
-    pub(crate) report: Option<Told<'a>>,
-    pub(crate) learn: Option<Told<'a>>,
+    /// The one member from `Read` to `Learn`, which names the call, and what it says.
+    pub(crate) call: Option<(Member, Told<'a>)>,
     pub(crate) began: Option<Told<'a>>,
     pub(crate) ended: Option<Told<'a>>,
     /// What the one further member says that is kept.
@@ -36,58 +34,42 @@ pub(crate) struct Usual<'a> {
 }
 
 impl<'a> Usual<'a> {
-    /// A line that says nothing.
-    fn new() -> Self
-        ensures members { (m : Member) → says_of result m ≡ None }
-        ensures further { result.further ≡ None }
-    {
-        Usual {
-            client: None,
-            read: None,
-            commit: None,
-            ask: None,
-            report: None,
-            learn: None,
-            began: None,
-            ended: None,
-            further: None,
-        }
-    }
-
-    /// Adds what a member says.
+    /// Adds what a member says; none if the line names another call.
     // Not inlined: else all that the line says is moved from place to place at each member.
     #[inline(never)]
-    fn add(&mut self, member: Member, told: Told<'a>)
-        ensures { self.new ≡ with_told self.old member told.entry }
+    fn add(&mut self, member: Member, told: Told<'a>) -> Option<()>
+        ensures said { IfSome result
+            (λ _. SaysMember (name_of member) told.entry self.old self.new) }
+        ensures further { self.new.further ≡ self.old.further }
     {
-        let told = Some(told);
         match member {
-            Member::Client => self.client = told,
-            Member::Read => self.read = told,
-            Member::Commit => self.commit = told,
-            Member::Ask => self.ask = told,
-            Member::Report => self.report = told,
-            Member::Learn => self.learn = told,
-            Member::Began => self.began = told,
-            Member::Ended => self.ended = told,
+            Member::Client => self.client = Some(told),
+            Member::Began => self.began = Some(told),
+            Member::Ended => self.ended = Some(told),
+            _ => {
+                if let Some((call, _)) = self.call
+                    && call != member
+                {
+                    return None;
+                }
+                self.call = Some((member, told));
+            }
         }
+        Some(())
     }
-}
 
-impl<'a> Usual<'a> {
     /// What a member says.
     fn told(&self, member: Member) -> Option<Told<'a>>
         ensures { result ≡ told_of self.now member }
     {
         match member {
             Member::Client => self.client,
-            Member::Read => self.read,
-            Member::Commit => self.commit,
-            Member::Ask => self.ask,
-            Member::Report => self.report,
-            Member::Learn => self.learn,
             Member::Began => self.began,
             Member::Ended => self.ended,
+            _ => {
+                let (call, told) = self.call?;
+                if call == member { Some(told) } else { None }
+            }
         }
     }
 }
@@ -140,37 +122,24 @@ impl Said for Usual<'_> {
 }
 
 /// Adds what the member of a name says. Others are ignored, but for the further one that is kept.
-#[tactic(auto, using(crate::proofs::UsualForm::both))]
-fn add_told<'a>(line: &mut Usual<'a>, name: &[u8], told: Told<'a>, further: Option<&str>)
-    ensures { Says (option_map (λ kept. kept.now) further.entry) name.now told.entry
-        line.old line.new }
-{
-    add_member(line, name, told);
-    add_further(line, name, told, further);
-}
-
-/// The same of the members that have a name of their own.
-#[tactic(auto, using(crate::proofs::UsualForm::named, crate::proofs::UsualForm::unnamed, crate::proofs::UsualForm::same_further))]
-fn add_member<'a>(line: &mut Usual<'a>, name: &[u8], told: Told<'a>)
-    ensures said { SaysMember name.now told.entry line.old line.new }
-    ensures further { line.new.further ≡ line.old.further }
-{
-    if let Some(member) = member_named(name) {
-        line.add(member, told);
-    }
-}
-
-/// The same of the further member that is kept.
-#[tactic(auto, using(crate::proofs::UsualForm::same_members))]
-fn add_further<'a>(line: &mut Usual<'a>, name: &[u8], told: Told<'a>, further: Option<&str>)
-    ensures said { SaysFurther (option_map (λ kept. kept.now) further.entry) name.now told.entry
-        line.old line.new }
-    ensures others { (m : Member) → says_of line.new m ≡ says_of line.old m }
+/// None if the line names two calls.
+fn add_told<'a>(
+    line: &mut Usual<'a>,
+    name: &[u8],
+    told: Told<'a>,
+    further: Option<&str>,
+) -> Option<()>
+    ensures { IfSome result (λ _. Says (option_map (λ kept. kept.now) further.entry) name.now
+        told.entry line.old line.new) }
 {
     if let Some(kept) = further
         && kept.as_bytes() == name
     {
         line.further = Some(told);
+    }
+    match member_named(name) {
+        Some(member) => line.add(member, told),
+        None => Some(()),
     }
 }
 
@@ -236,9 +205,9 @@ fn usual_in<'a>(bytes: &'a [u8], further: Option<&str>) -> Option<Usual<'a>>
         (λ line. IsReadAs bytes.now (option_map (λ kept. kept.now) further.entry) line) }
 {
     let mut rest = strip(bytes, b'{')?;
-    let mut line = Usual::new();
+    let mut line = Usual::default();
     'members: while let Some((name, told, after)) = split_member(rest) {
-        add_told(&mut line, name, told, further);
+        add_told(&mut line, name, told, further)?;
         match what_follows(after) {
             Behind::More(more) => rest = more,
             Behind::End => return Some(line),
@@ -246,4 +215,105 @@ fn usual_in<'a>(bytes: &'a [u8], further: Option<&str>) -> Option<Usual<'a>>
         }
     }
     None
+}
+
+/// What comes behind a byte, where that is first.
+pub(crate) fn strip(bytes: &[u8], byte: u8) -> Option<&[u8]>
+    ensures { IfSome result (λ after. bytes.now ≡ byte ∷ after.now) }
+{
+    let (first, after) = bytes.split_first()?;
+    if *first == byte { Some(after) } else { None }
+}
+
+/// Whether a byte stands for itself in a JSON string.
+fn is_plain(byte: u8) -> bool
+    ensures { result ≡ is_plain byte }
+{
+    !(byte == b'"' || byte == b'\\' || byte < 32)
+}
+
+/// How many of the first bytes stand for themselves.
+fn plain_len(bytes: &[u8]) -> usize
+    ensures bound { result ≤ length bytes.now }
+    ensures plain { (k : ℕ) → k < result → is_plain (slice_index bytes.now k) ≡ true }
+{
+    let mut end = 0;
+    'plain: while end < bytes.len() && is_plain(bytes[end]) {
+        end += 1;
+    }
+    end
+}
+
+/// A text's bytes and what comes behind its closing quote, where no byte of it is escaped.
+#[tactic(auto, using(crate::proofs::Scanned::text_ends))]
+fn split_text(bytes: &[u8]) -> Option<(&[u8], &[u8])>
+    ensures { IfSome result (λ parts. bytes.now ≡ escape parts.0.now ++ 34 ∷ parts.1.now) }
+{
+    let end = plain_len(bytes);
+    if end < bytes.len() && bytes[end] == b'"' {
+        Some((&bytes[..end], &bytes[end + 1..]))
+    } else {
+        None
+    }
+}
+
+/// A whole number below 2^64 and what comes behind it, where no zero stands before its digits.
+#[tactic(auto, using(crate::proofs::Scanned::digits_more))]
+fn split_number(bytes: &[u8]) -> Option<(u64, &[u8])>
+    ensures { IfSome result (λ parts. bytes.now ≡ decimal parts.0 ++ parts.1.now) }
+{
+    let mut number: u64 = 0;
+    let mut end = 0;
+    'digits: while end < bytes.len() && bytes[end] >= b'0' && bytes[end] <= b'9' {
+        if end > 0 && number == 0 {
+            return None;
+        }
+        let digit = bytes[end] - b'0';
+        number = number.checked_mul(10)?.checked_add(digit as u64)?;
+        end += 1;
+    }
+    if end == 0 {
+        return None;
+    }
+    Some((number, &bytes[end..]))
+}
+
+/// What a member says, and what comes behind it.
+#[tactic(auto, using(crate::proofs::Scanned::quoted_then))]
+fn split_told(bytes: &[u8]) -> Option<(Told<'_>, &[u8])>
+    ensures text { IfSome result (λ parts. bytes.now ≡ told_text parts.0 ++ parts.1.now) }
+    ensures small { IfSome result (λ parts. IsSmall parts.0) }
+{
+    let (first, after) = bytes.split_first()?;
+    match *first {
+        b'"' => {
+            let (text, after) = split_text(after)?;
+            match std::str::from_utf8(text) {
+                Ok(text) => Some((Told::Text(text), after)),
+                Err(_) => None,
+            }
+        }
+        b'n' => {
+            let after = strip(after, b'u')?;
+            let after = strip(after, b'l')?;
+            let after = strip(after, b'l')?;
+            Some((Told::Null, after))
+        }
+        _ => {
+            let (number, after) = split_number(bytes)?;
+            Some((Told::Number(number), after))
+        }
+    }
+}
+
+/// A member's name, what it says, and what comes behind it.
+#[tactic(auto, using(crate::proofs::Scanned::quoted_then))]
+pub(crate) fn split_member(bytes: &[u8]) -> Option<(&[u8], Told<'_>, &[u8])>
+    ensures text { IfSome result (λ parts. bytes.now
+        ≡ quoted parts.0.now ++ 58 ∷ (told_text parts.1 ++ parts.2.now)) }
+    ensures small { IfSome result (λ parts. IsSmall parts.1) }
+{
+    let (name, rest) = split_text(strip(bytes, b'"')?)?;
+    let (told, after) = split_told(strip(rest, b':')?)?;
+    Some((name, told, after))
 }

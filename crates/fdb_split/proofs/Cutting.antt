@@ -3,7 +3,7 @@ use Rattle.std.proofs.Common.{◌≡◌, ◌∙◌, ◌⊎◌, ℕ, zero, suc, �
 use Rattle.std.specs.List.{filter}
 use Rattle.std.proofs.lemmas.List.{length-map}
 use Rattle.std.proofs.lemmas.List.Elements.{filter-append}
-use Rattle.fdb_log_reader.specs.declared.above.Above.{Above}
+use Rattle.fdb_log_reader.specs.declared.part_text.Above.{Above}
 use Rattle.fdb_log_reader.specs.declared.error.ReadError.{ReadError}
 use Rattle.fdb_log_reader.specs.declared.part_text.PartText.{PartText}
 use Rattle.fdb_log_reader.specs.declared.splitter.Splitter.{Splitter}
@@ -12,7 +12,7 @@ use Rattle.fdb_log_reader.specs.Split.{AllPlaced, Placed, below, in_front, of_pa
 use Rattle.fdb_log_reader.specs.Splitter.{HasPlaced, HasPlacedAll, HaveCome, above_of, counts_in, counts_of, placed_on, texts_in, texts_of}
 use Rattle.fdb_split.specs.Program.{HasCut, Prints, cut}
 use Rattle.fdb_split.specs.Text.{counts_listed, object_of, split_text}
-use Rattle.fdb_split.specs.declared.asked.SplitArguments.{SplitArguments}
+use Rattle.fdb_split.specs.declared.split_arguments.SplitArguments.{SplitArguments}
 use Rattle.fdb_split.specs.private.{HasReleased}
 
 none_in_front : (placed : AllPlaced) → in_front [] placed ≡ placed

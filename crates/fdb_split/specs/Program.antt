@@ -7,9 +7,9 @@ use Rattle.fdb_command.specs.Arguments.{command_of, file_rule, flag_rule, is_set
 use Rattle.fdb_command.specs.Driving.{Promise}
 use Rattle.fdb_command.specs.declared.failure.Failure.TheVariants.{Writing}
 use Rattle.fdb_audit.specs.Program.{text_rule}
-use Rattle.fdb_audit.specs.declared.refused.LogsRefused.{LogsRefused}
-use Rattle.fdb_audit.specs.declared.refused.LogsRefused.TheVariants.{Early, Kept, Log}
-use Rattle.fdb_log_reader.specs.declared.above.Above.{Above}
+use Rattle.fdb_audit.specs.declared.refusal.LogsRefused.{LogsRefused}
+use Rattle.fdb_audit.specs.declared.refusal.LogsRefused.TheVariants.{Early, Kept, Log}
+use Rattle.fdb_log_reader.specs.declared.part_text.Above.{Above}
 use Rattle.fdb_log_reader.specs.declared.error.Why.TheVariants.{Memory}
 use Rattle.fdb_log_reader.specs.declared.splitter.Splitter.{Splitter}
 use Rattle.fdb_log_reader.specs.Members.{written}
@@ -17,7 +17,7 @@ use Rattle.fdb_log_reader.specs.Reading.{lines_in}
 use Rattle.fdb_log_reader.specs.Split.{AllPlaced, Placed, below, in_front, of_part, placed_lines}
 use Rattle.fdb_log_reader.specs.Splitter.{counts_of, placed_on, texts_of}
 use Rattle.fdb_split.specs.Text.{split_text}
-use Rattle.fdb_split.specs.declared.asked.SplitArguments.{SplitArguments}
+use Rattle.fdb_split.specs.declared.split_arguments.SplitArguments.{SplitArguments}
 use Rattle.fdb_split.specs.declared.split_program.TheConstants.{MAX_SPLIT_BYTES}
 use Rattle.fdb_split.specs.declared.splitting.Splitting.{Splitting}
 
@@ -46,7 +46,7 @@ abbrev pub first_named : List Text → Option ℕ
 first_named arguments = count_in (text_named (codes "first") arguments)
 
 -- what the arguments say
-pub record IsAsked (arguments : List Text) (asked : SplitArguments) : Type 0 where
+pub record AskFor (arguments : List Text) (asked : SplitArguments) : Type 0 where
   pub parts : parts_named arguments ≡ Some asked.parts
   pub into : text_named (codes "into") arguments ≡ Some (string_bytes asked.into)
   pub key : text_named (codes "key") arguments ≡ Some (string_bytes asked.key)
@@ -93,13 +93,13 @@ split = record {
   app = command;
   most = MAX_SPLIT_BYTES;
   suits = suits;
-  asks = IsAsked;
+  asks = AskFor;
   tells = λ arguments. is_set (codes "progress") command arguments;
   warns = λ arguments. false;
   fails = λ arguments fault. fault ≡ Writing;
   taken = HasTaken;
   prints = λ arguments bytes text found refused. (found ≡ None) × (refused ≡ None)
-      × (asked : SplitArguments) × IsAsked arguments asked × Prints asked bytes text;
-  refuses = λ arguments bytes refused. (asked : SplitArguments) × IsAsked arguments asked × RefusesLog asked bytes refused;
+      × (asked : SplitArguments) × AskFor arguments asked × Prints asked bytes text;
+  refuses = λ arguments bytes refused. (asked : SplitArguments) × AskFor arguments asked × RefusesLog asked bytes refused;
   finds = λ arguments bytes found. ⊥;
 }

@@ -1,7 +1,7 @@
 -- What is printed of a log that was cut into parts. (this product's own)
 use Rattle.std.specs.Prelude.{ℕ, zero, suc, ◌++◌, ◌∷◌, ◌==◌, List, [], codes, decimal, length, if◌then◌else◌}
 use Rattle.fdb_audit.specs.Figures.{number_or_null}
-use Rattle.fdb_log_reader.specs.declared.above.Above.{Above}
+use Rattle.fdb_log_reader.specs.declared.part_text.Above.{Above}
 use Rattle.fdb_log_reader.specs.Split.{Placed, of_part}
 
 -- how many lines each of the first n parts has, parted by commas

@@ -2,12 +2,11 @@
 #![tactic(auto)]
 
 mod arguments;
-mod asked;
 mod counts_text;
-mod part_files;
+mod split_arguments;
 mod split_program;
 mod splitting;
 
-pub use asked::SplitArguments;
+pub use split_arguments::SplitArguments;
 pub use split_program::{MAX_SPLIT_BYTES, Split, drive};
 pub use splitting::Splitting;

@@ -1,17 +1,16 @@
 //! The program that cuts a log into parts.
 
-ghost use Rattle.std.specs.Prelude.{◌≡◌, ◌≢◌, ◌⊎◌, ℕ, [], IfErr, List, MatchResult, None};
-ghost use Rattle.std.specs.Prelude.{map, string_bytes};
+ghost use Rattle.std.specs.Prelude.{◌≡◌, ◌≢◌, ◌⊎◌, ℕ, [], IfErr, List, MatchResult, None, map};
+ghost use Rattle.std.specs.Prelude.{string_bytes};
 ghost use Rattle.clap.specs.Words.{Text};
 ghost use Rattle.fdb_command.specs.Driving.{IsDriven, Stops};
-ghost use Rattle.fdb_split.specs.Program.{split, HasCut, HasTaken, IsAsked, Prints};
+ghost use Rattle.fdb_split.specs.Program.{split, HasCut, HasTaken, AskFor, Prints};
 ghost use Rattle.fdb_split.specs.private.{HasReleased};
 
 use crate::arguments::{command, first_of, parts_of, text};
-use crate::asked::SplitArguments;
 use crate::counts_text::object_text;
-use crate::part_files::PartFiles;
-use crate::splitting::{Splitting, Stop, unwritten};
+use crate::split_arguments::SplitArguments;
+use crate::splitting::{PartFiles, Splitting, Stop, unwritten};
 use clap::{ArgMatches, Command};
 use fdb_audit::LogsRefused;
 use fdb_command::{ArgumentsFault, Failure, Output, Program, is_given};
@@ -20,8 +19,7 @@ use std::alloc::{AllocError, Global};
 use std::cell::OnceCell;
 use std::convert::Infallible;
 use std::fs::{File, Files};
-use std::io;
-use std::io::{Read, Write};
+use std::io::{self, Read, Write};
 use std::time::Clock;
 
 /// The most bytes of a log.
@@ -198,7 +196,7 @@ fn driven<R: Files<File = File> + Clock, I: Read, O: Write, E: Write>(
         Output<LogsRefused, Infallible>,
         Stop,
     >
-        ensures { (arguments : List Text) → (bytes : List ℕ) → IsAsked arguments asked
+        ensures { (arguments : List Text) → (bytes : List ℕ) → AskFor arguments asked
             → HasCut asked cut.splitter bytes → MatchResult result
             (λ answer. Prints asked bytes answer.text.items × (answer.found ≡ None)
             × (answer.refused ≡ None) × (answer.warnings.items ≡ []))
@@ -216,7 +214,7 @@ fn finished<R: Files>(
     asked: &SplitArguments,
     cut: Splitting,
 ) -> Result<Output<LogsRefused, Infallible>, Stop>
-    ensures { (arguments : List Text) → (bytes : List ℕ) → IsAsked arguments asked.now
+    ensures { (arguments : List Text) → (bytes : List ℕ) → AskFor arguments asked.now
         → HasCut asked.now cut.splitter bytes → MatchResult result
         (λ answer. Prints asked.now bytes answer.text.items × (answer.found ≡ None)
         × (answer.refused ≡ None) × (answer.warnings.items ≡ []))

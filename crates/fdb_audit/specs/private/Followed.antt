@@ -7,18 +7,18 @@ use Rattle.fdb_log_reader.specs.declared.error.Why.{Why}
 use Rattle.fdb_log_reader.specs.ReadLine.{SaidLine}
 use Rattle.fdb_log_reader.specs.LineReader.{line_names, lines_on, names_on}
 use Rattle.fdb_audit.specs.declared.arguments.AuditArguments.{AuditArguments}
-use Rattle.fdb_audit.specs.declared.carried.Carried.{Carried}
-use Rattle.fdb_audit.specs.declared.counts.Came.{Came}
-use Rattle.fdb_audit.specs.declared.counts.Counts.{Counts}
+use Rattle.fdb_audit.specs.declared.progress.Carried.{Carried}
+use Rattle.fdb_audit.specs.declared.progress.Came.{Came}
+use Rattle.fdb_audit.specs.declared.progress.Counts.{Counts}
 use Rattle.fdb_audit.specs.declared.follower.Follower.{Follower}
 pub use Rattle.fdb_audit.specs.Taken.{AreCounted, AreNumbered, AreTaken, HasCounted, HasTotals, HasTotalsIn, HasWarned, IsCarried, counted_in, counted_of}
 use Rattle.std.specs.Int.{is_power_of_two}
 use Rattle.fdb_lines.specs.Before.{began}
-use Rattle.fdb_audit.specs.declared.taking.Taking.{Taking}
+use Rattle.fdb_audit.specs.declared.taken_lines.Taking.{Taking}
 use Rattle.fdb_audit.specs.declared.teller.Teller.{Teller}
-use Rattle.fdb_audit.specs.declared.warning.CountedLine.{CountedLine}
-use Rattle.fdb_audit.specs.declared.warning.Warning.{Warning}
-use Rattle.fdb_audit.specs.declared.warning.Warning.TheVariants.{Ahead, Early}
+use Rattle.fdb_audit.specs.declared.refusal.CountedLine.{CountedLine}
+use Rattle.fdb_audit.specs.declared.refusal.Warning.{Warning}
+use Rattle.fdb_audit.specs.declared.refusal.Warning.TheVariants.{Ahead, Early}
 use Rattle.fdb_audit.specs.private.Clocks.{Hears, ahead_of}
 use Rattle.fdb_audit.specs.Warned.{AreEarly, warning_line}
 use Rattle.fdb_audit.specs.GoingOn.{GoesOn}

@@ -7,9 +7,9 @@ use Rattle.fdb_audit.specs.Kept.{number_kept}
 use Rattle.fdb_audit.specs.KeptFile.{KeepingFails, NamesFile}
 use Rattle.fdb_command.specs.declared.failure.Failure.{Failure}
 use Rattle.fdb_command.specs.declared.failure.Failure.TheVariants.{Refused, Arguments, Memory, Found, Reading, Writing, OwnFile}
-use Rattle.fdb_audit.specs.declared.fault.LogFault.{LogFault}
-use Rattle.fdb_audit.specs.declared.refused.LogsRefused.{LogsRefused}
-use Rattle.fdb_audit.specs.declared.refused.LogsRefused.TheVariants.{Early, Kept, Log}
+use Rattle.fdb_audit.specs.declared.printer.LogFault.{LogFault}
+use Rattle.fdb_audit.specs.declared.refusal.LogsRefused.{LogsRefused}
+use Rattle.fdb_audit.specs.declared.refusal.LogsRefused.TheVariants.{Early, Kept, Log}
 
 -- memory was refused, or the file in which lines are kept failed
 abbrev pub MayFail : Option Text → Failure LogsRefused LogFault → Type 0

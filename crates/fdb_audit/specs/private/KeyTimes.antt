@@ -1,7 +1,7 @@
 -- Which keys are to be forgotten, by when their lines came. (this product's own)
-use Rattle.std.specs.Prelude.{ℕ, ◌-◌, ◌&&◌, ◌||◌, nat_le, Bool, true, MatchOption, Option, None, Some, slice_get}
-use Rattle.fdb_audit.specs.declared.key_times.KeyTimes.{KeyTimes}
-use Rattle.fdb_audit.specs.declared.key_times.LastLine.{LastLine}
+use Rattle.std.specs.Prelude.{ℕ, ◌-◌, ◌&&◌, ◌||◌, nat_le, Bool, true, Option, None, Some, slice_get}
+use Rattle.fdb_audit.specs.declared.clocks.KeyTimes.{KeyTimes}
+use Rattle.fdb_audit.specs.declared.clocks.LastLine.{LastLine}
 
 -- the last line of a key came within a while, or has an end that is as near
 abbrev pub is_near : (after believed : ℕ) → LastLine → Bool

@@ -1,6 +1,6 @@
 -- What is told of lines, one after another.
 use Rattle.std.specs.Prelude.{ℕ, zero, suc, cond, Bool, List, [], ◌++◌, slice_index}
-use Rattle.fdb_lines.specs.declared.due.Due.{Due}
+use Rattle.fdb_lines.specs.declared.watch.Due.{Due}
 use Rattle.fdb_lines.specs.declared.fault.Fault.TheVariants.{Order, NotAbove}
 use Rattle.fdb_lines.specs.declared.fault.Found.{Found}
 use Rattle.fdb_lines.specs.declared.line.Line.{Line}

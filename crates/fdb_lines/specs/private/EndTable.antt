@@ -1,7 +1,7 @@
 -- A table of calls that ended, by group, time and place.
 use Rattle.std.specs.Prelude.{◌≡◌, ℕ, suc, ◌+◌, ◌*◌, ◌^◌, ◌<◌, ◌≤◌, ◌==◌, ◌&&◌, ◌||◌, nat_lt, Bool, List, Some, length, slice_index, slice_index_or}
 use Rattle.std.proofs.Math.Dec.{lit<}
-use Rattle.fdb_lines.specs.declared.end.End.{End}
+use Rattle.fdb_lines.specs.declared.line.End.{End}
 use Rattle.fdb_lines.specs.private.Entries.{IsNewest}
 
 -- one number for group, time and place, which orders as they do

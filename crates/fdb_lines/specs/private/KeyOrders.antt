@@ -1,7 +1,7 @@
 -- The orders of some keys.
 use Rattle.std.specs.Prelude.{◌≡◌, ℕ, List, Option, All, map}
-use Rattle.fdb_lines.specs.declared.key_order.KeyOrder.{KeyOrder}
-use Rattle.fdb_lines.specs.declared.opts.AuditOpts.{AuditOpts}
+use Rattle.fdb_lines.specs.declared.order.KeyOrder.{KeyOrder}
+use Rattle.fdb_lines.specs.declared.log.AuditOpts.{AuditOpts}
 use Rattle.fdb_lines.specs.KeyOrders.{IsOrderOfKey}
 use Rattle.fdb_lines.specs.Lines.{Lines}
 

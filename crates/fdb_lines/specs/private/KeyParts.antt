@@ -5,7 +5,7 @@ use Rattle.fdb_lines.specs.declared.key_part.KeptLine.{KeptLine}
 use Rattle.fdb_lines.specs.declared.key_part.KeyPart.{KeyPart}
 use Rattle.fdb_lines.specs.declared.key_part.SettledKey.{SettledKey}
 use Rattle.fdb_lines.specs.declared.line.Line.{Line}
-use Rattle.fdb_lines.specs.declared.reason.Finding.{Finding}
+use Rattle.fdb_lines.specs.declared.fault.Finding.{Finding}
 use Rattle.fdb_lines.specs.Carried.{open_count}
 use Rattle.fdb_lines.specs.KeyParts.{HasStayed}
 use Rattle.fdb_lines.specs.Lines.{line_at}

@@ -1,9 +1,9 @@
 -- What is counted of the lines of each part of a log.
 use Rattle.std.specs.Prelude.{◌≡◌, ℕ, ◌<◌, ◌≤◌, List, All, Option, None, Some, cond, length, slice_index}
 use Rattle.std.specs.List.{sum_by}
-use Rattle.fdb_lines.specs.declared.opts.AuditOpts.{AuditOpts}
-use Rattle.fdb_lines.specs.declared.parts.Part.{Part}
-use Rattle.fdb_lines.specs.declared.summing.Sums.{Sums}
+use Rattle.fdb_lines.specs.declared.log.AuditOpts.{AuditOpts}
+use Rattle.fdb_lines.specs.declared.log.Part.{Part}
+use Rattle.fdb_lines.specs.declared.sums.Sums.{Sums}
 use Rattle.fdb_lines.specs.Audit.{case_of}
 use Rattle.fdb_lines.specs.Judged.{ordered_in, unreported_in}
 use Rattle.fdb_lines.specs.Lines.{Lines, part_of}

@@ -1,10 +1,10 @@
 -- What each line knows: a line before it whose version is newest, and how it is known.
 use Rattle.std.specs.Prelude.{◌≡◌, ℕ, ◌<◌, ◌≤◌, ◌==◌, ◌-◌, ◌&&◌, nat_lt, Bool, true, false, cond, List, Option, None, Some, length, slice_index_or}
-use Rattle.fdb_lines.specs.declared.end.End.{End}
+use Rattle.fdb_lines.specs.declared.line.End.{End}
 use Rattle.fdb_lines.specs.declared.line.Line.{Line}
-use Rattle.fdb_lines.specs.declared.reason.Means.{Means}
-use Rattle.fdb_lines.specs.declared.reason.Witness.{Witness}
-use Rattle.fdb_lines.specs.declared.exposure.Exposure.{Exposure}
+use Rattle.fdb_lines.specs.declared.fault.Means.{Means}
+use Rattle.fdb_lines.specs.declared.fault.Witness.{Witness}
+use Rattle.fdb_lines.specs.declared.known.Exposure.{Exposure}
 use Rattle.fdb_lines.specs.Lines.{line_at, kind_of, version_of}
 use Rattle.fdb_lines.specs.Before.{began, ended, one_client}
 use Rattle.fdb_lines.specs.Faults.{greatest_of}

@@ -1,9 +1,9 @@
 -- The first end of a table that outdates a version.
 use Rattle.std.specs.Prelude.{◌≡◌, ℕ, ◌<◌, ◌&&◌, nat_lt, Bool, List, Option, None, Some, cond, true, length}
-use Rattle.fdb_lines.specs.declared.end.End.{End}
+use Rattle.fdb_lines.specs.declared.line.End.{End}
 use Rattle.fdb_lines.specs.declared.fault.Fault.{Fault}
 use Rattle.fdb_lines.specs.declared.line.Line.{Line}
-use Rattle.fdb_lines.specs.declared.exposure.Exposure.{Exposure}
+use Rattle.fdb_lines.specs.declared.known.Exposure.{Exposure}
 use Rattle.fdb_lines.specs.Before.{ended}
 use Rattle.fdb_lines.specs.Late.{is_outdated, IsFirstThat}
 use Rattle.fdb_lines.specs.Lines.{line_at}

@@ -2,10 +2,10 @@
 use Rattle.std.specs.Prelude.{ℕ, max, ◌+◌, ◌*◌, ◌^◌, ◌==◌, nat_lt, ◌&&◌, Bool, List, Option, is_none, is_some, unwrap_or, slice_index_or}
 use Rattle.std.proofs.Math.Dec.{lit<}
 use Rattle.fdb_lines.specs.declared.line.Line.{Line}
-use Rattle.fdb_lines.specs.declared.locator.Locator.{Locator}
-use Rattle.fdb_lines.specs.declared.reason.Witness.{Witness}
-use Rattle.fdb_lines.specs.declared.line_kind.LineKind.{LineKind}
-use Rattle.fdb_lines.specs.declared.line_kind.LineKind.TheVariants.{Reports, Raises, Draws, Asks, Owned, Nameless}
+use Rattle.fdb_lines.specs.declared.line.Locator.{Locator}
+use Rattle.fdb_lines.specs.declared.fault.Witness.{Witness}
+use Rattle.fdb_lines.specs.declared.locators.LineKind.{LineKind}
+use Rattle.fdb_lines.specs.declared.locators.LineKind.TheVariants.{Reports, Raises, Draws, Asks, Owned, Nameless}
 use Rattle.fdb_lines.specs.Lines.{line_at, kind_of, version_of, draws, is_ask, reports}
 use Rattle.fdb_lines.specs.private.Entries.{AreEntries, IsEntry, IsFrontBy}
 use Rattle.fdb_lines.specs.private.Known.{by_at, version_by}

@@ -1,13 +1,13 @@
 -- Slots: effects, and where they stand in an order.
 use Rattle.std.specs.Option.{option_eq}
 use Rattle.std.specs.Prelude.{ℕ, zero, suc, ◌+◌, ◌*◌, ◌^◌, ◌==◌, ◌&&◌, Bool, not, cond, List, [], ◌∷◌, ◌++◌, Option, None, Some, option_to_list, is_some}
-use Rattle.fdb_lines.specs.declared.effect.Effect.{Effect}
+use Rattle.fdb_lines.specs.declared.slot.Effect.{Effect}
 use Rattle.fdb_lines.specs.declared.line.Line.{Line}
 use Rattle.fdb_lines.specs.declared.slot.Key.{Key}
 use Rattle.fdb_lines.specs.declared.slot.Slot.{Slot}
 use Rattle.fdb_lines.specs.declared.slot.Stage.{Stage}
 use Rattle.fdb_lines.specs.declared.slot.Stage.TheVariants.{Asked, Shared, Raising, Shown}
-use Rattle.fdb_lines.specs.declared.step.OrderStep.{OrderStep}
+use Rattle.fdb_lines.specs.declared.slot.OrderStep.{OrderStep}
 use Rattle.fdb_lines.specs.contracts.slot.KeyPartialEq.TheImpl.{eq-value}
 use Rattle.fdb_lines.specs.Before.{began}
 use Rattle.fdb_lines.specs.Faults.{is_reported, knows}

@@ -1,25 +1,25 @@
 -- The tables of a log.
 use Rattle.std.specs.Prelude.{◌≡◌, ◌⊎◌, ℕ, ◌++◌, ◌∷◌, Bool, true, false, List, Option, None, Some, IfSome, length, map, option_map}
 use Rattle.std.specs.List.{All, list_any}
-use Rattle.fdb_lines.specs.declared.end.End.{End}
+use Rattle.fdb_lines.specs.declared.line.End.{End}
 use Rattle.fdb_lines.specs.declared.fault.Fault.{Fault}
 use Rattle.fdb_lines.specs.declared.fault.Fault.TheVariants.{NotAbove}
 use Rattle.fdb_lines.specs.declared.line.Line.{Line}
 use Rattle.fdb_lines.specs.declared.log.Log.{Log}
-use Rattle.fdb_lines.specs.declared.opts.AuditOpts.{AuditOpts}
-use Rattle.fdb_lines.specs.declared.reason.Reason.{Reason}
-use Rattle.fdb_lines.specs.declared.reason.Reason.TheVariants.{Drawn as DrawnBy, Undrawn}
-use Rattle.fdb_lines.specs.declared.exposure.Exposure.{Exposure}
-use Rattle.fdb_lines.specs.declared.exposure.Exposure.TheVariants.{Shown, Drawn}
-use Rattle.fdb_lines.specs.declared.line_kind.LineKind.{LineKind}
-use Rattle.fdb_lines.specs.declared.line_kind.LineKind.TheVariants.{Reports, Raises, Draws, Asks, Owned, Nameless}
+use Rattle.fdb_lines.specs.declared.log.AuditOpts.{AuditOpts}
+use Rattle.fdb_lines.specs.declared.fault.Reason.{Reason}
+use Rattle.fdb_lines.specs.declared.fault.Reason.TheVariants.{Drawn as DrawnBy, Undrawn}
+use Rattle.fdb_lines.specs.declared.known.Exposure.{Exposure}
+use Rattle.fdb_lines.specs.declared.known.Exposure.TheVariants.{Shown, Drawn}
+use Rattle.fdb_lines.specs.declared.locators.LineKind.{LineKind}
+use Rattle.fdb_lines.specs.declared.locators.LineKind.TheVariants.{Reports, Raises, Draws, Asks, Owned, Nameless}
 use Rattle.fdb_lines.specs.declared.tables.DrawTables.{DrawTables}
 use Rattle.fdb_lines.specs.declared.tables.Made.{Made}
 use Rattle.fdb_lines.specs.declared.fault.Found.{Found}
-use Rattle.fdb_lines.specs.declared.reason.Finding.{Finding}
-use Rattle.fdb_lines.specs.declared.locator.Locator.{Locator}
+use Rattle.fdb_lines.specs.declared.fault.Finding.{Finding}
+use Rattle.fdb_lines.specs.declared.line.Locator.{Locator}
 use Rattle.fdb_lines.specs.declared.locators.Locators.{Locators}
-use Rattle.fdb_lines.specs.declared.reason.Witness.{Witness}
+use Rattle.fdb_lines.specs.declared.fault.Witness.{Witness}
 use Rattle.fdb_lines.specs.Audit.{case_of, start_of}
 use Rattle.fdb_lines.specs.Before.{comes_before}
 use Rattle.fdb_lines.specs.Faults.{stands}

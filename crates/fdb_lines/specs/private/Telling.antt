@@ -2,10 +2,10 @@
 use Rattle.std.specs.Prelude.{◌≡◌, ℕ, ◌<◌, ◌&&◌, true, cond, List, Option, None, Some}
 use Rattle.fdb_lines.specs.declared.line.Operation.{Operation}
 use Rattle.fdb_lines.specs.declared.line.Line.{Line}
-use Rattle.fdb_lines.specs.declared.reason.Means.{Means}
-use Rattle.fdb_lines.specs.declared.reason.Means.TheVariants.{Ended, Own, Learnt}
-use Rattle.fdb_lines.specs.declared.reason.Witness.{Witness}
-use Rattle.fdb_lines.specs.declared.exposure.Exposure.{Exposure}
+use Rattle.fdb_lines.specs.declared.fault.Means.{Means}
+use Rattle.fdb_lines.specs.declared.fault.Means.TheVariants.{Ended, Own, Learnt}
+use Rattle.fdb_lines.specs.declared.fault.Witness.{Witness}
+use Rattle.fdb_lines.specs.declared.known.Exposure.{Exposure}
 use Rattle.fdb_lines.specs.Before.{has_heard, one_client}
 use Rattle.fdb_lines.specs.Lines.{line_at, kind_of, is_learn, teller_of}
 use Rattle.fdb_lines.specs.private.Known.{counts_at, IsKnownBy}

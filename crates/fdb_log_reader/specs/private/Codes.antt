@@ -2,7 +2,7 @@
 use Rattle.std.specs.Prelude.{ℕ, zero, suc, ◌+◌, ◌*◌, ◌<◌, List, Option, cond, length, nat_lt, slice_index}
 use Rattle.std.specs.BTreeMap.{get, get_by_text}
 use Rattle.std.specs.Ordering.{nat_cmp}
-use Rattle.fdb_log_reader.specs.declared.name_numbers.NameNumbers.{NameNumbers}
+use Rattle.fdb_log_reader.specs.declared.names.NameNumbers.{NameNumbers}
 
 abbrev pub AreBytes : List ℕ → Type 0
 AreBytes bytes = (k : ℕ) → slice_index bytes k < 256

@@ -1,10 +1,9 @@
 -- How the lines of a log come to its parts. (this product's own)
-use Rattle.std.specs.Prelude.{◌≡◌, ◌⊎◌, ℕ, ◌<◌, false, List, [], ◌∷◌, ◌++◌, All, length, string_bytes, Result, Ok, Err}
+use Rattle.std.specs.Prelude.{◌≡◌, ◌⊎◌, ℕ, false, List, [], ◌∷◌, ◌++◌, length, string_bytes, Result, Ok, Err}
 use Rattle.std.specs.List.{list_any}
 use Rattle.fdb_log_reader.specs.declared.error.ReadError.{ReadError}
 use Rattle.fdb_log_reader.specs.declared.error.Why.TheVariants.{Memory}
-use Rattle.fdb_log_reader.specs.declared.part_text.PartText.{PartText}
-use Rattle.fdb_log_reader.specs.declared.placer.Placer.{Placer}
+use Rattle.fdb_log_reader.specs.declared.splitter.Placer.{Placer}
 use Rattle.fdb_log_reader.specs.declared.splitter.Splitter.{Splitter}
 use Rattle.fdb_log_reader.specs.Split.{Placed, in_front, is_brace, line_placed}
 use Rattle.fdb_log_reader.specs.Splitter.{HaveCome, placed_on}

@@ -1,5 +1,5 @@
 -- Lines in the usual form, and what their members say. (this product's own)
-use Rattle.std.specs.Prelude.{◌≡◌, ℕ, ◌^◌, ◌<◌, ◌≤◌, List, [], ◌∷◌, ⊤, Option, Some, IfSome, Ok, option_map, decimal, false, if◌then◌else◌}
+use Rattle.std.specs.Prelude.{◌≡◌, ℕ, ◌^◌, ◌<◌, ◌≤◌, List, [], ◌∷◌, ⊤, Option, None, Some, IfSome, Ok, option_map, decimal, false, if◌then◌else◌}
 use Rattle.std.specs.Str.{bytes_eq}
 use Rattle.json.specs.Json as json
 use Rattle.json.specs.Print.{print_from, quoted}
@@ -8,7 +8,7 @@ use Rattle.serde_json.specs.Data.{Data, Members, null, number, object, string, u
 use Rattle.serde_json.specs.Find.{get, get_member}
 use Rattle.serde_json.specs.Read.{of_members, read}
 use Rattle.fdb_log_reader.specs.declared.member.Member.{Member}
-use Rattle.fdb_log_reader.specs.declared.member.Member.TheVariants.{Client, Read, Commit, Ask, Report, Learn, Began, Ended}
+use Rattle.fdb_log_reader.specs.declared.member.Member.TheVariants.{Client, Began, Ended}
 use Rattle.fdb_log_reader.specs.declared.usual.Behind.{Behind}
 use Rattle.fdb_log_reader.specs.declared.usual.Behind.TheVariants.{More, End, Other}
 use Rattle.fdb_log_reader.specs.declared.usual.Told.{Told}
@@ -40,16 +40,17 @@ IsSmall (Number n) = n < 2 ^ 64
 IsSmall (Text text) = ⊤
 IsSmall Null = ⊤
 
+-- what the member says that names the call, where it is this one
+abbrev pub call_says : Option (Member × Told) → Member → Option Told
+call_says None member = None
+call_says (Some call) member = if bytes_eq (name_of call.0) (name_of member) then Some call.1 else None
+
 -- what a member of a line says, where it is there
 abbrev pub told_of : Usual → Member → Option Told
 told_of line Client = line.client
-told_of line Read = line.read
-told_of line Commit = line.commit
-told_of line Ask = line.ask
-told_of line Report = line.report
-told_of line Learn = line.learn
 told_of line Began = line.began
 told_of line Ended = line.ended
+told_of line member = call_says line.call member
 
 abbrev pub says_of : Usual → Member → Option Data
 says_of line member = option_map told_data (told_of line member)
@@ -57,17 +58,6 @@ says_of line member = option_map told_data (told_of line member)
 -- what it says beside these: the one further member that is kept, by any name
 abbrev pub beside_of : Usual → List ℕ → Option Data
 beside_of line name = option_map told_data line.further
-
--- the line, with what a member says
-abbrev pub with_told : Usual → Member → Told → Usual
-with_told line Client told = record { client = Some told; read = line.read; commit = line.commit; ask = line.ask; report = line.report; learn = line.learn; began = line.began; ended = line.ended; further = line.further }
-with_told line Read told = record { client = line.client; read = Some told; commit = line.commit; ask = line.ask; report = line.report; learn = line.learn; began = line.began; ended = line.ended; further = line.further }
-with_told line Commit told = record { client = line.client; read = line.read; commit = Some told; ask = line.ask; report = line.report; learn = line.learn; began = line.began; ended = line.ended; further = line.further }
-with_told line Ask told = record { client = line.client; read = line.read; commit = line.commit; ask = Some told; report = line.report; learn = line.learn; began = line.began; ended = line.ended; further = line.further }
-with_told line Report told = record { client = line.client; read = line.read; commit = line.commit; ask = line.ask; report = Some told; learn = line.learn; began = line.began; ended = line.ended; further = line.further }
-with_told line Learn told = record { client = line.client; read = line.read; commit = line.commit; ask = line.ask; report = line.report; learn = Some told; began = line.began; ended = line.ended; further = line.further }
-with_told line Began told = record { client = line.client; read = line.read; commit = line.commit; ask = line.ask; report = line.report; learn = line.learn; began = Some told; ended = line.ended; further = line.further }
-with_told line Ended told = record { client = line.client; read = line.read; commit = line.commit; ask = line.ask; report = line.report; learn = line.learn; began = line.began; ended = Some told; further = line.further }
 
 -- what is said by the members' names is what the line says, and so by that of the further one, if one is kept
 abbrev pub IsTold : (List ℕ → Option Data) → Option (List ℕ) → Usual → Type 0

@@ -3,7 +3,7 @@ use Rattle.std.proofs.lemmas.List.{map-append}
 use Rattle.std.proofs.lemmas.Str.Pattern.{split_parts}
 use Rattle.std.specs.List.{slice_split}
 use Rattle.fdb_audit.specs.Program.{is_comma}
-use Rattle.fdb_audit.proofs.Members.{first_part, one_part}
+use Rattle.fdb_audit.proofs.NamedMembers.{first_part, one_part}
 use Rattle.fdb_audit.proofs.arguments.members_in.Goals as goal
 
 pub loop-member-preserved : goal.loop-member-preserved

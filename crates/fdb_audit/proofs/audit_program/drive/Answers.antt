@@ -1,77 +1,40 @@
-use Rattle.std.proofs.Common.{◌≡◌, ◌++◌, ◌∙◌, ℕ, false, List, [], IfSome, MatchResult, None, Option, Some, Ok, Err, Result, ap, is_some, map, not, refl, string_bytes, subst, sym}
+use Rattle.std.proofs.Common.{◌≡◌, ◌++◌, ◌∙◌, ℕ, false, List, [], IfSome, MatchResult, None, Option, Some, Ok, Err, Result, ap, is_some, map, refl, string_bytes, subst, sym}
 use Rattle.std.proofs.lemmas.Bool.{false≢true}
 use Rattle.std.proofs.lemmas.Result.{IfOk-weaker}
 use Rattle.clap.specs.Words.{Text}
 use Rattle.fdb_command.specs.Driving.{MayAnswer, RefusesWhole, Stops, TellsNothing}
 use Rattle.fdb_command.specs.declared.failure.Failure.{Failure}
 use Rattle.fdb_command.specs.declared.program.Output.{Output}
-use Rattle.fdb_log_reader.specs.declared.error.ReadError.{ReadError}
-use Rattle.fdb_audit.specs.Program.{HasTaken, IsAsked, IsWhole, PrintsBy, RefusesBy, audit, refusal_of, started}
-use Rattle.fdb_audit.specs.Progress.{IsPrinted}
-use Rattle.fdb_audit.specs.declared.refused.KeptFault.{KeptFault}
+use Rattle.fdb_audit.specs.Program.{HasTaken, AskFor, IsWhole, PrintsBy, RefusesBy, audit}
 use Rattle.fdb_audit.specs.declared.arguments.AuditArguments.{AuditArguments}
-use Rattle.fdb_audit.specs.declared.fault.LogFault.{LogFault}
+use Rattle.fdb_audit.specs.declared.printer.LogFault.{LogFault}
 use Rattle.fdb_audit.specs.declared.audit_program.AuditIntake.{AuditIntake}
 use Rattle.fdb_audit.specs.declared.audit_program.AuditIntake.TheVariants.{Followed, Whole}
-use Rattle.fdb_audit.specs.declared.refused.LogsRefused.{LogsRefused}
-use Rattle.fdb_audit.specs.declared.refused.LogsRefused.TheVariants.{Early, Kept, Log}
+use Rattle.fdb_audit.specs.declared.refusal.LogsRefused.{LogsRefused}
+use Rattle.fdb_audit.specs.declared.refusal.LogsRefused.TheVariants.{Early, Kept, Log}
+use Rattle.fdb_audit.proofs.Refusing.{not_both, not_kept}
 use Rattle.fdb_audit.proofs.audit_program.drive.Goals as goal
 
 is_none : {X : Type 0} (it : Option X) → is_some it ≡ false → it ≡ None
 is_none None is = refl
 is_none (Some x) is = absurd (false≢true (sym is))
 
-not_both : {X : Type 0} (x : X) → Some x ≡ None → ⊥
-not_both x is = false≢true (sym (ap is_some is))
-
--- what is refused of a log is the line's error, or else the last line that came early
-abbrev error_of : Option LogsRefused → Option ReadError
-error_of None = None
-error_of (Some (Log error)) = Some error
-error_of (Some (Early number)) = None
-error_of (Some (Kept refused)) = None
-
-abbrev early_of : Option LogsRefused → Option ℕ
-early_of None = None
-early_of (Some (Log error)) = None
-early_of (Some (Early number)) = Some number
-early_of (Some (Kept refused)) = None
-
-log_error : (o : Option ReadError) (last : Option ℕ) (error : ReadError) → Some (Log error) ≡ refusal_of o last → o ≡ Some error
-log_error None None error is = absurd (not_both (Log error) is)
-log_error None (Some number) error is = absurd (false≢true (sym (ap is_some (ap error_of is))))
-log_error (Some other) last error is = sym (ap error_of is)
-
-early_error : (o : Option ReadError) (last : Option ℕ) (number : ℕ) → Some (Early number) ≡ refusal_of o last → (o ≡ None) × (last ≡ Some number)
-early_error None None number is = absurd (not_both (Early number) is)
-early_error None (Some other) number is = (refl, sym (ap early_of is))
-early_error (Some error) last number is = absurd (false≢true (ap is_some (ap error_of is)))
-
-not_kept : (o : Option ReadError) (last : Option ℕ) (refused : KeptFault) → Some (Kept refused) ≡ refusal_of o last → ⊥
-not_kept None None refused is = not_both (Kept refused) is
-not_kept None (Some number) refused is = false≢true (ap is_some (ap early_of is))
-not_kept (Some error) last refused is = false≢true (ap is_some (ap error_of is))
-
 -- what is refused of what is printed so is refused so
 part_refused : (follow : Option ℕ) (asked : AuditArguments) (bytes text : List ℕ) (found : Option LogFault) (refused : Option LogsRefused)
     → PrintsBy follow asked bytes text found refused → IfSome refused (RefusesBy follow asked bytes)
 part_refused follow asked bytes text found None is = tt
 part_refused None asked bytes text found (Some error) is = absurd (not_both error is.1)
-part_refused (Some behind) asked bytes text found (Some (Log error)) (kept, for, left, last, printed, is) =
-    (kept, for, text, found, last, subst (λ left. IsPrinted asked (started asked behind kept) (not (is_some asked.keep)) (kept ++ bytes) text found left last) (log_error left last error is) printed)
-part_refused (Some behind) asked bytes text found (Some (Early number)) (kept, for, left, last, printed, is) =
-    let (none, early) = early_error left last number is in
-    let Its = λ (left : Option ReadError) (last : Option ℕ). IsPrinted asked (started asked behind kept) (not (is_some asked.keep)) (kept ++ bytes) text found left last in
-    (kept, for, text, found, subst (λ left. Its left (Some number)) none (subst (Its left) early printed))
+part_refused (Some behind) asked bytes text found (Some (Log error)) printed = (text, found, printed)
+part_refused (Some behind) asked bytes text found (Some (Early number)) printed = (text, found, printed)
 part_refused (Some behind) asked bytes text found (Some (Kept error)) (kept, for, left, last, printed, is) = absurd (not_kept left last error is)
 
-refused_so : (arguments : List Text) (asked : AuditArguments) (bytes : List ℕ) (refused : Option LogsRefused) → IsAsked arguments asked
+refused_so : (arguments : List Text) (asked : AuditArguments) (bytes : List ℕ) (refused : Option LogsRefused) → AskFor arguments asked
     → IfSome refused (RefusesBy asked.follow asked bytes) → IfSome refused (audit.refuses arguments bytes)
 refused_so arguments asked bytes None is refuses = tt
 refused_so arguments asked bytes (Some error) is refuses = (asked, is, refuses)
 
 -- what was judged or told as the flags say is what the program promises to print
-promised : (arguments : List Text) (asked : AuditArguments) (bytes told : List ℕ) (made : Result (Output LogsRefused LogFault) (Failure LogsRefused LogFault)) → IsAsked arguments asked
+promised : (arguments : List Text) (asked : AuditArguments) (bytes told : List ℕ) (made : Result (Output LogsRefused LogFault) (Failure LogsRefused LogFault)) → AskFor arguments asked
     → MatchResult made (λ answer. PrintsBy asked.follow asked bytes (told ++ answer.text.items) answer.found answer.refused × (asked.follow ≡ None → answer.warnings.items ≡ [])) (Stops audit arguments bytes)
     → MatchResult made (MayAnswer audit arguments bytes told) (Stops audit arguments bytes)
 promised arguments asked bytes told (Ok answer) is judged = (

@@ -4,10 +4,10 @@ use Rattle.fdb_log_reader.specs.declared.error.ReadError.{ReadError}
 use Rattle.fdb_audit.specs.Following.{Start}
 use Rattle.fdb_audit.specs.Progress.{HasPrinted, IsPrinted}
 use Rattle.fdb_audit.specs.declared.arguments.AuditArguments.{AuditArguments}
-use Rattle.fdb_audit.specs.declared.fault.LogFault.{LogFault}
-use Rattle.fdb_audit.specs.declared.follower.Followed.{Followed}
+use Rattle.fdb_audit.specs.declared.printer.LogFault.{LogFault}
+use Rattle.fdb_audit.specs.declared.teller.Followed.{Followed}
 use Rattle.fdb_audit.specs.declared.followed_log.FollowedLog.{FollowedLog}
-use Rattle.fdb_audit.specs.declared.refused.LogsRefused.{LogsRefused}
+use Rattle.fdb_audit.specs.declared.refusal.LogsRefused.{LogsRefused}
 use Rattle.fdb_audit.specs.Program.{refusal_of}
 use Rattle.fdb_audit.proofs.audit_program.followed.Goals as goal
 

@@ -6,10 +6,10 @@ use Rattle.fdb_audit.proofs.Refusing.{stops}
 use Rattle.fdb_audit.proofs.audit_program.judged.Goals as goal
 
 -- what was read to its end is what the bytes stand for
-pub returns-in-Ok-judge_named_by : goal.returns-in-Ok-judge_named_by
-returns-in-Ok-judge_named_by g c = λ arguments bytes is whole has.
-    let same : c.into_bytes.result.items ≡ string_bytes c.in-Ok-judge_named_by.field-0.text = ap (λ (v : Vec ℕ Global). v.items) c.into_bytes.ensures.value in
-    ((reading_of c.in-Ok.named, ap (reading_asked c.args.asked.now) (sym (append-nil bytes)) ∙ (sym (has []) ∙ c.in-Ok.ensures.read), c.in-Ok-judge_named_by.field-0.fault, c.told.ensures ∙ ap (λ (numbers : List ℕ). option_map (fault_of numbers) c.in-Ok-judge_named_by.field-0.fault) c.own_numbers.ensures, rw same c.in-Ok-judge_named_by.ensures), refl, c.new.ensures.items)
+pub returns-in-Ok-judge_named_in_threads : goal.returns-in-Ok-judge_named_in_threads
+returns-in-Ok-judge_named_in_threads g c = λ arguments bytes is whole has.
+    let same : c.into_bytes.result.items ≡ string_bytes c.in-Ok-judge_named_in_threads.field-0.text = ap (λ (v : Vec ℕ Global). v.items) c.into_bytes.ensures.value in
+    ((reading_of c.in-Ok.named, ap (reading_asked c.args.asked.now) (sym (append-nil bytes)) ∙ (sym (has []) ∙ c.in-Ok.ensures.read), c.in-Ok-judge_named_in_threads.field-0.fault, c.told.ensures ∙ ap (λ (numbers : List ℕ). option_map (fault_of numbers) c.in-Ok-judge_named_in_threads.field-0.fault) c.own_numbers.ensures, rw same c.in-Ok-judge_named_in_threads.ensures), refl, c.new.ensures.items)
 
 pub returns-in-Err : goal.returns-in-Err
 returns-in-Err g c = λ arguments bytes is whole has.

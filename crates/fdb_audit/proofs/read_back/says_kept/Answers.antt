@@ -1,4 +1,4 @@
-use Rattle.std.proofs.Common.{◌≡◌, ◌∙◌, ◌<◌, ◌+◌, ◌-◌, ◌≤◌, ℕ, ap, arith, if◌then◌else◌, length, map, nat_lt, subst}
+use Rattle.std.proofs.Common.{◌≡◌, ◌∙◌, ◌<◌, ◌+◌, ◌-◌, ◌≤◌, ℕ, ap, arith, if◌then◌else◌, length, map, nat_lt, rules, subst}
 use Rattle.std.specs.Prelude.{count_by}
 use Rattle.std.proofs.lemmas.List.Elements.{All-weaker}
 use Rattle.fdb_audit.specs.Following.{KeptNumbers, number_in, taken}
@@ -16,7 +16,8 @@ returns c = λ is start read told are within.
     let numbers : c.in_ok-numbers.numbers.items ≡ map (number_in start.numbers read) places =
     subst (λ (before : KeptNumbers). AreNumbersOf before taking.numbering.above.items places c.in_ok-numbers.numbers.items) are.numbered.front c.in_ok-numbers.ensures
     read are.numbered.above are.numbered.few (All-weaker (λ place. place < length (taken read)) (λ place. place ≤ length (taken read)) (λ place lt. omega (arith, lt)) places within) in
-    let told_is : said.told ≡ count_by (λ place. nat_lt place taking.settled) places = same.1 ∙ c.count_below-come.ensures in
+    let come : c.count-come.result ≡ count_by (λ place. nat_lt place taking.settled) places = search rules in
+    let told_is : said.told ≡ count_by (λ place. nat_lt place taking.settled) places = same.1 ∙ come in
     let more_is : said.more ≡ length read + start.numbers.more - length places =
     (let is = same.2 in
     let sub = c.saturating_sub-more.ensures in
@@ -29,7 +30,7 @@ returns c = λ is start read told are within.
     omega (arith, is, sub, lines, count, above, all, more, few)) in
     let settled_is : said.settled ≡ (if nat_lt 0 (count_by (λ place. nat_lt place taking.settled) places) then taking.watch.from else 0) =
     same.3 ∙ (c.settled_if-at.ensures
-    ∙ (ap (λ n. if nat_lt 0 n then c.settled_to.result else 0) c.count_below-come.ensures
+    ∙ (ap (λ n. if nat_lt 0 n then c.settled_to.result else 0) come
     ∙ ap (λ (at : ℕ). if nat_lt 0 (count_by (λ place. nat_lt place taking.settled) places) then at else 0) c.settled_to.ensures)) in
     said_same said.numbers.items (map (number_in start.numbers read) places) said.more _ said.told _ said.settled _
     (same.0 ∙ (c.deref.ensures.value ∙ numbers)) more_is told_is settled_is

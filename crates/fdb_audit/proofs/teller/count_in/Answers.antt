@@ -1,5 +1,5 @@
 use Rattle.std.proofs.Common.{◌++◌, List, map, subst, take_all}
-use Rattle.fdb_lines.specs.declared.reason.Finding.{Finding}
+use Rattle.fdb_lines.specs.declared.fault.Finding.{Finding}
 use Rattle.fdb_audit.specs.ToldFaults.{ToldFault, told_at}
 use Rattle.fdb_audit.specs.private.{shown_in}
 use Rattle.fdb_audit.specs.private.Followed.{HasCounted}

@@ -1,7 +1,7 @@
 use Rattle.std.proofs.Common.{ap, arith, length, refl, string_bytes, sym}
 use Rattle.std.proofs.lemmas.List.{length-map}
 use Rattle.fdb_audit.specs.ToldFaults.{text_of}
-use Rattle.fdb_audit.specs.declared.text_groups.TextGroups.{TextGroups}
+use Rattle.fdb_audit.specs.declared.told_faults.TextGroups.{TextGroups}
 use Rattle.fdb_audit.proofs.AddingTexts.{adding_all, adding_first, adding_more}
 use Rattle.fdb_audit.proofs.told_faults.add_texts.Goals as goal
 

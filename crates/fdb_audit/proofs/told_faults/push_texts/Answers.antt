@@ -1,7 +1,7 @@
 use Rattle.std.proofs.Common.{◌≡◌, ◌+◌, ◌<◌, ◌++◌, ◌∙◌, ◌∷◌, ℕ, [], List, ap, append-nil, append_assoc, arith, drop, length, map, refl, slice_index_or, string_bytes, subst, sym}
 use Rattle.std.proofs.lemmas.List.{at_drop_more, drop_all, get_or-map, length-map}
 use Rattle.fdb_audit.specs.ToldFaults.{AreMostByText, by_text, text_of}
-use Rattle.fdb_audit.specs.declared.text_groups.TextGroups.{TextGroups}
+use Rattle.fdb_audit.specs.declared.told_faults.TextGroups.{TextGroups}
 use Rattle.fdb_audit.specs.private.{beside_in}
 use Rattle.fdb_audit.specs.Tallied.{HasTexts}
 use Rattle.fdb_audit.proofs.AddingTexts.{most_of_texts}

@@ -4,7 +4,7 @@ use Rattle.std.specs.Option.{option_flatten}
 use Rattle.std.specs.Slice.{IsGetResult}
 use Rattle.fdb_log_reader.specs.Columns.{text_at}
 use Rattle.fdb_audit.specs.Text.{Beside}
-use Rattle.fdb_audit.specs.declared.beside.Column.{Column}
+use Rattle.fdb_audit.specs.declared.members.Column.{Column}
 use Rattle.fdb_audit.specs.private.{beside_of}
 use Rattle.fdb_audit.proofs.told_faults.text_at.Goals as goal
 

@@ -1,9 +1,9 @@
-use Rattle.std.proofs.Common.{◌≡◌, ◌∙◌, ◌+◌, ◌++◌, ◌∷◌, ℕ, [], List, ap, arith, inl, inr, length, map, slice_index_or, string_bytes, subst, sym, take}
+use Rattle.std.proofs.Common.{◌≡◌, ◌∙◌, ◌+◌, ◌++◌, ◌∷◌, [], ap, arith, inl, inr, length, slice_index_or, string_bytes, subst, sym, take}
 use Rattle.std.proofs.lemmas.Bool.{cases_lt}
 use Rattle.std.proofs.lemmas.List.{get_or_append_left, get_or_push, length_push, map_more, map_push}
-use Rattle.fdb_audit.specs.declared.beside.Column.{Column}
+use Rattle.fdb_audit.specs.declared.members.Column.{Column}
 use Rattle.fdb_audit.specs.ToldFaults.{text_of}
-use Rattle.fdb_audit.specs.declared.text_groups.TextGroups.{TextGroups}
+use Rattle.fdb_audit.specs.declared.told_faults.TextGroups.{TextGroups}
 use Rattle.fdb_audit.specs.private.{members_of}
 use Rattle.fdb_audit.specs.Tallied.{HasTexts, HasTextsIn}
 use Rattle.fdb_audit.proofs.told_faults.texts_of.Goals as goal

@@ -5,8 +5,8 @@ use Rattle.fdb_lines.specs.Audit.{AreExplained, case_of}
 use Rattle.fdb_lines.specs.Judged.{AreAll}
 use Rattle.fdb_lines.specs.Lines.{Lines}
 use Rattle.fdb_lines.specs.Log.{lines_of}
-use Rattle.fdb_lines.specs.declared.opts.AuditOpts.{AuditOpts}
-use Rattle.fdb_lines.specs.declared.reason.Finding.{Finding}
+use Rattle.fdb_lines.specs.declared.log.AuditOpts.{AuditOpts}
+use Rattle.fdb_lines.specs.declared.fault.Finding.{Finding}
 use Rattle.fdb_c.specs.Audit.{told}
 use Rattle.fdb_c.proofs.audit_listing.list.Goals as goal
 

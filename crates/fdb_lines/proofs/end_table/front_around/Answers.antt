@@ -1,7 +1,7 @@
 use Rattle.std.proofs.Common.{◌≡◌, ℕ, ◌+◌, ◌-◌, ◌<◌, ◌≤◌, List, length, drop, get_or, slice_range, ap, ◌∙◌, arith, rules}
 use Rattle.std.proofs.lemmas.List.{get_or-take, get_or-drop, get_or_default}
 use Rattle.std.specs.List.Sorted.{IsNonDecreasingBy}
-use Rattle.fdb_lines.specs.declared.end.End.{End}
+use Rattle.fdb_lines.specs.declared.line.End.{End}
 use Rattle.fdb_lines.specs.private.EndTable.{IsFront, end_at, end_key, no_end}
 use Rattle.fdb_lines.proofs.end_table.front_around.Goals as goal
 

@@ -1,6 +1,6 @@
 use Rattle.std.proofs.Common.{nat_lt, rules}
 use Rattle.std.proofs.lemmas.List.Sorted.{IsPartitionPoint-from_clause, IsPartitionedBy-ltb}
-use Rattle.fdb_lines.specs.declared.end.End.{End}
+use Rattle.fdb_lines.specs.declared.line.End.{End}
 use Rattle.fdb_lines.specs.private.EndTable.{no_end, end_key}
 use Rattle.fdb_lines.proofs.Entries.{front_is}
 use Rattle.fdb_lines.proofs.end_table.front_of.Goals as goal

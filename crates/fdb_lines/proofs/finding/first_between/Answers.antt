@@ -1,5 +1,5 @@
 use Rattle.std.proofs.Common.{◌≡◌, ℕ, suc, ◌<◌, List, [], ◌∷◌, ◌++◌, Option, Some, None, option_map, map, slice_get, refl, ap, sym, subst, ◌∙◌, add-one, append-nil, arith, rules}
-use Rattle.fdb_lines.specs.declared.reason.Finding.{Finding}
+use Rattle.fdb_lines.specs.declared.fault.Finding.{Finding}
 use Rattle.fdb_lines.specs.Lines.{Case}
 use Rattle.fdb_lines.specs.Listing.{faults_at, faults_below}
 use Rattle.fdb_lines.specs.Reasons.{found_of}

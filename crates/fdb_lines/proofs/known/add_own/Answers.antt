@@ -1,7 +1,7 @@
 use Rattle.std.proofs.Common.{◌≡◌, ◌<◌, None, length, ◌∙◌, inl, inr, arith}
 use Rattle.std.proofs.lemmas.Bool.{cases_eq}
 use Rattle.std.proofs.lemmas.List.{get_or_default, get_or-set_same, get_or-set_other, length-set}
-use Rattle.fdb_lines.specs.declared.reason.Means.TheVariants.{Own}
+use Rattle.fdb_lines.specs.declared.fault.Means.TheVariants.{Own}
 use Rattle.fdb_lines.specs.Before.{by_time}
 use Rattle.fdb_lines.specs.Lines.{nobody, line_at}
 use Rattle.fdb_lines.specs.private.Known.{by_at, lets_know, of_own, witness, KnowsOf}

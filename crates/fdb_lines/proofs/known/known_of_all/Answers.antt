@@ -1,6 +1,6 @@
 use Rattle.std.proofs.Common.{◌≡◌, false, ◌∙◌}
 use Rattle.std.proofs.lemmas.List.{get_or_default}
-use Rattle.fdb_lines.specs.declared.reason.Means.TheVariants.{Ended}
+use Rattle.fdb_lines.specs.declared.fault.Means.TheVariants.{Ended}
 use Rattle.fdb_lines.specs.Lines.{nobody, line_at}
 use Rattle.fdb_lines.specs.private.Known.{of_all}
 use Rattle.fdb_lines.proofs.Knowing.{ended_means, known_more, known_so}

@@ -1,7 +1,7 @@
 use Rattle.std.proofs.Common.{◌≡◌, ◌+◌, ◌≤◌, ◌++◌, ◌∷◌, [], List, Option, Some, None, length, option_to_list, ◌∙◌, arith, append-nil, length-append}
 use Rattle.std.proofs.lemmas.List.{get_or_default}
 use Rattle.std.proofs.lemmas.Result.{IfOk-weaker}
-use Rattle.fdb_lines.specs.declared.end.End.{End}
+use Rattle.fdb_lines.specs.declared.line.End.{End}
 use Rattle.fdb_lines.specs.Lines.{nobody, line_at}
 use Rattle.fdb_lines.specs.private.Known.{AreEnds, IsEndOf}
 use Rattle.fdb_lines.proofs.Entries.{more, moved}

@@ -1,6 +1,6 @@
 use Rattle.std.proofs.Common.{nat_lt, rules}
 use Rattle.std.proofs.lemmas.List.Sorted.{IsPartitionPoint-from_clause, IsPartitionedBy-ltb}
-use Rattle.fdb_lines.specs.declared.locator.Locator.{Locator}
+use Rattle.fdb_lines.specs.declared.line.Locator.{Locator}
 use Rattle.fdb_lines.specs.private.Locators.{no_locator, locator_key}
 use Rattle.fdb_lines.proofs.Entries.{front_is}
 use Rattle.fdb_lines.proofs.locators.front_of.Goals as goal

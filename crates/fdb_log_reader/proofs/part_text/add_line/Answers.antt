@@ -1,4 +1,3 @@
-use Rattle.std.proofs.Common.{◌∙◌}
 use Rattle.fdb_log_reader.proofs.Placed.{one_come}
 use Rattle.fdb_log_reader.proofs.part_text.add_line.Goals as goal
 

@@ -1,4 +1,4 @@
-use Rattle.std.proofs.Common.{◌≡◌, ◌∙◌, ◌∷◌, ◌++◌, List, ℕ, ap, append_assoc, sym}
+use Rattle.std.proofs.Common.{◌∙◌, ◌++◌, List, ℕ, ap, append_assoc, sym}
 use Rattle.fdb_log_reader.specs.Split.{number_member, with_behind}
 use Rattle.fdb_log_reader.proofs.Braces.{in_front_of_brace, without_brace}
 use Rattle.fdb_log_reader.proofs.part_text.add_numbered.Goals as goal

@@ -1,5 +1,5 @@
 use Rattle.std.proofs.Common.{◌∙◌, ap}
-use Rattle.fdb_audit.specs.declared.judged.Wanted.{Wanted}
+use Rattle.fdb_audit.specs.declared.judgement.Wanted.{Wanted}
 use Rattle.fdb_audit.proofs.PrintedOn.{none_printed}
 use Rattle.fdb_audit.proofs.followed_log.FollowedLog.new.Goals as goal
 

@@ -1,22 +1,9 @@
-use Rattle.std.proofs.Common.{◌++◌, false, append_assoc, string_bytes, subst, sym}
-use Rattle.fdb_audit.specs.Progress.{IsPrinted}
-use Rattle.fdb_audit.proofs.PrintedOn.{printed_last}
+use Rattle.std.proofs.Common.{false, string_bytes}
+use Rattle.fdb_audit.proofs.PrintedOn.{printed_behind}
 use Rattle.fdb_audit.proofs.followed_log.FollowedLog.stop.Goals as goal
 
 pub returns-clause-told : goal.returns-clause-told
 returns-clause-told g c = λ asked start bytes text has.
-    let it = c.in_ok-followed.field-0.followed in
-    let all = c.in_ok-followed-2.followed in
-    let front = string_bytes c.in_ok-front.front.text in
-    let same = c.in_ok-followed-2.ensures in
-    let (objects, asks, times, pieces) = c.in_ok-front.ensures asked start bytes text has in
-    subst (λ more. IsPrinted asked start false bytes (text ++ more) all.found all.refused all.last_early) (sym same.text)
-    (subst (λ found. IsPrinted asked start false bytes (text ++ (front ++ string_bytes it.said.text)) found all.refused all.last_early) (sym same.same.0)
-    (subst (λ refused. IsPrinted asked start false bytes (text ++ (front ++ string_bytes it.said.text)) it.found refused all.last_early) (sym same.same.1)
-    (subst (IsPrinted asked start false bytes (text ++ (front ++ string_bytes it.said.text)) it.found it.refused) (sym same.same.2)
-    (subst (λ text. IsPrinted asked start false bytes text it.found it.refused it.last_early) (append_assoc text front (string_bytes it.said.text)) (
-      times,
-      printed_last asked false c.args.self.follower (string_bytes it.said.text) it.found it.refused it.last_early
-          (λ start bytes told has. (c.in_ok-followed.ensures.told asked start bytes told has, c.in_ok-followed.ensures.refused asked start bytes told has))
-          times start bytes (text ++ front) pieces,
-    )))))
+    printed_behind asked false c.args.self (string_bytes c.in_ok-front.front.text) c.in_ok-followed.field-0.followed c.in_ok-followed-2.followed c.in_ok-followed-2.ensures.text c.in_ok-followed-2.ensures.same
+    (λ start bytes told has. (c.in_ok-followed.ensures.told asked start bytes told has, c.in_ok-followed.ensures.refused asked start bytes told has))
+    start bytes text (c.in_ok-front.ensures asked start bytes text has)

@@ -1,7 +1,7 @@
 use Rattle.std.proofs.Common.{◌∙◌, ◌++◌, ap, string_bytes, subst, sym}
 use Rattle.fdb_audit.specs.Progress.{IsToldWith, PrintedSoFar}
 use Rattle.fdb_audit.specs.Watched.{AskForTheSame}
-use Rattle.fdb_audit.specs.declared.follower.Said.{Said}
+use Rattle.fdb_audit.specs.declared.teller.Said.{Said}
 use Rattle.fdb_audit.specs.declared.progress.Reporter.{Reporter}
 use Rattle.fdb_audit.proofs.PrintedOn.{last_says, told_more, told_quiet}
 use Rattle.fdb_audit.proofs.followed_log.FollowedLog.tell.Goals.{then-is_due+in_ok-push, else-is_due}

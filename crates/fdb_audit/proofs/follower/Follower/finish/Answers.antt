@@ -2,8 +2,8 @@ use Rattle.std.proofs.Common.{◌∙◌, ap, string_bytes, sym, true}
 use Rattle.std.specs.Option.{option_or}
 use Rattle.fdb_log_reader.specs.LineReader.{line_names}
 use Rattle.fdb_audit.specs.Watched.{lines_asked}
-use Rattle.fdb_audit.specs.declared.carried.Carried.{Carried}
-use Rattle.fdb_audit.specs.declared.counts.Counts.{Counts}
+use Rattle.fdb_audit.specs.declared.progress.Carried.{Carried}
+use Rattle.fdb_audit.specs.declared.progress.Counts.{Counts}
 use Rattle.fdb_audit.proofs.SaidOn.{said_all}
 use Rattle.fdb_audit.proofs.follower.Follower.finish.Goals as goal
 

@@ -5,7 +5,7 @@ use Rattle.fdb_log_reader.specs.ReadLine.{LineNames, member_in}
 use Rattle.fdb_audit.specs.Following.{Counted, Window, told_in_all}
 use Rattle.fdb_audit.specs.Kept.{Keeps}
 use Rattle.fdb_audit.specs.Taken.{AreTaken}
-use Rattle.fdb_audit.specs.declared.carried.Carried.{Carried}
+use Rattle.fdb_audit.specs.declared.progress.Carried.{Carried}
 use Rattle.fdb_audit.specs.Watched.{lines_asked, names_asked}
 use Rattle.fdb_audit.proofs.KeptTexts.{member_asked}
 use Rattle.fdb_audit.proofs.SaidOn.{said_all}

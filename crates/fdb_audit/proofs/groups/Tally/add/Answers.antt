@@ -1,10 +1,10 @@
-use Rattle.std.proofs.Common.{◌≡◌, ◌∙◌, ◌++◌, ◌∷◌, ◌==◌, ℕ, zero, suc, ◌<◌, [], List, Option, cond, ap, arith, length, refl, subst, sym}
+use Rattle.std.proofs.Common.{◌≡◌, ◌∙◌, ◌++◌, ◌∷◌, ◌==◌, ℕ, zero, suc, ◌<◌, [], Option, cond, ap, arith, length, refl, subst, sym}
 use Rattle.std.proofs.lemmas.List.{length-map}
 use Rattle.std.proofs.lemmas.Result.{on_ok_weaker}
 use Rattle.fdb_lines.specs.declared.fault.Fault.{Fault}
 use Rattle.fdb_audit.specs.Groups.{kinds_of, number_of, of_group, Owned}
 use Rattle.fdb_audit.specs.declared.groups.Tally.{Tally}
-use Rattle.fdb_audit.specs.Tallied.{kinds_at, HasKinds, HasTallied}
+use Rattle.fdb_audit.specs.Tallied.{kinds_at, HasKinds}
 use Rattle.fdb_audit.proofs.Tallying.{tallied_new, tallied_old}
 use Rattle.fdb_audit.proofs.groups.Tally.add.Goals.{then-counts-eq0+in_ok-push, else-counts-eq0}
 use Rattle.fdb_audit.proofs.groups.Tally.add.Goals as goal

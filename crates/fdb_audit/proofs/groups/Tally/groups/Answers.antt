@@ -2,7 +2,7 @@ use Rattle.std.proofs.Common.{All, arith, ap, subst, sym}
 use Rattle.std.proofs.lemmas.Grind.{common_steps}
 use Rattle.std.proofs.lemmas.List.{map_push, take_more}
 use Rattle.std.proofs.lemmas.List.Elements.{All-push}
-use Rattle.fdb_audit.specs.declared.totals.KindCounts.{KindCounts}
+use Rattle.fdb_audit.specs.declared.figures.KindCounts.{KindCounts}
 use Rattle.fdb_audit.specs.Tallied.{count_in, IsGroupIn}
 use Rattle.fdb_audit.proofs.groups.Tally.groups.Goals as goal
 

@@ -1,6 +1,6 @@
 use Rattle.std.proofs.Common.{◌≡◌, ◌∙◌, ◌++◌, Some, ap, refl, string_bytes}
 use Rattle.fdb_audit.specs.Progress.{progress_object}
-use Rattle.fdb_audit.specs.declared.follower.Said.{Said}
+use Rattle.fdb_audit.specs.declared.teller.Said.{Said}
 use Rattle.fdb_audit.proofs.progress.Reporter.push.Goals.{then-self+in_ok-push_words, else-self}
 use Rattle.fdb_audit.proofs.progress.Reporter.push.Goals as goal
 

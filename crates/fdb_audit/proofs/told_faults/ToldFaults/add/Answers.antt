@@ -1,8 +1,8 @@
-use Rattle.std.proofs.Common.{◌≡◌, ◌∙◌, ◌++◌, ◌∷◌, ℕ, [], List, ap, arith, length, map, refl, string_bytes, subst, sym}
+use Rattle.std.proofs.Common.{◌≡◌, ◌∙◌, ◌++◌, ◌∷◌, [], ap, arith, length, map, refl, string_bytes, subst, sym}
 use Rattle.std.proofs.lemmas.List.{length-map, map_push, with_items_is}
 use Rattle.std.proofs.lemmas.Result.{on_ok_weaker}
 use Rattle.fdb_audit.specs.ToldFaults.{client_of, told_at, ToldFault}
-use Rattle.fdb_audit.specs.declared.text_groups.TextGroups.{TextGroups}
+use Rattle.fdb_audit.specs.declared.told_faults.TextGroups.{TextGroups}
 use Rattle.fdb_audit.specs.private.{shown_in}
 use Rattle.fdb_audit.specs.Tallied.{HasKinds, HasTextsIn}
 use Rattle.fdb_audit.proofs.told_faults.ToldFaults.add.Goals as goal

@@ -1,7 +1,7 @@
 use Rattle.std.proofs.Common.{◌≡◌, ◌++◌, ◌∙◌, None, Option, Some, refl, string_bytes, subst, sym, true}
 use Rattle.fdb_audit.specs.Following.{left_out}
 use Rattle.fdb_audit.specs.Watched.{HasFollowed, IsFollowed, lines_asked}
-use Rattle.fdb_audit.specs.declared.fault.LogFault.{LogFault}
+use Rattle.fdb_audit.specs.declared.printer.LogFault.{LogFault}
 use Rattle.fdb_c.specs.Watch.{started}
 use Rattle.fdb_c.proofs.Some.{at_both, at_three, of_some}
 use Rattle.fdb_c.proofs.watched.Watched.end.Goals as goal

@@ -6,7 +6,8 @@ use Rattle.fdb_lines.specs.declared.key_part.KeyPart.{KeyPart}
 use Rattle.fdb_lines.specs.KeyWatch.{AreTold, GoesOn}
 use Rattle.fdb_lines.specs.private.Keys.{AreNumbered}
 use Rattle.fdb_lines.specs.private.KeyParts.{flag_at, flags_of, AreNext, AreOpen, ArePut}
-use Rattle.fdb_lines.proofs.OnceTold.{settled_on, told_came, told_of_each}
+use Rattle.fdb_lines.proofs.EntriesTell.{settled_on, told_came}
+use Rattle.fdb_lines.proofs.OnceTold.{told_of_each}
 use Rattle.fdb_lines.proofs.Opened.{open_within, opened_kept}
 use Rattle.fdb_lines.proofs.SettledByKey.{alike_on, entries_on, flags_on, goes_on, keeps_on, names_on, nothing, rest_by_key, seen_on, told_by_key}
 use Rattle.fdb_lines.proofs.key_watch.KeyWatch.settle.Goals as goal

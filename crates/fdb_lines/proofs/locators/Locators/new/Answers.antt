@@ -1,7 +1,7 @@
 use Rattle.std.proofs.Common.{◌≡◌, ◌+◌, List, ◌++◌, Option, Some, None, option_to_list, length, ◌∙◌, arith, rules, append-nil}
 use Rattle.std.proofs.lemmas.List.{get_or_default}
 use Rattle.std.proofs.lemmas.List.Sorted.{IsNonDecreasingBy-from_sort_by}
-use Rattle.fdb_lines.specs.declared.locator.Locator.{Locator}
+use Rattle.fdb_lines.specs.declared.line.Locator.{Locator}
 use Rattle.fdb_lines.specs.Lines.{nobody, line_at}
 use Rattle.fdb_lines.specs.private.Locators.{locator_key, AreLocators, IsLocatorOf}
 use Rattle.fdb_lines.proofs.Entries.{more, moved}

@@ -1,4 +1,4 @@
-use Rattle.fdb_lines.specs.declared.exposure.Exposure.TheVariants.{Drawn}
+use Rattle.fdb_lines.specs.declared.known.Exposure.TheVariants.{Drawn}
 use Rattle.fdb_lines.specs.Log.{lines_of}
 use Rattle.fdb_lines.proofs.Reasoning.{are_asked, known_is, unseen_undrawn}
 use Rattle.fdb_lines.proofs.tables.Tables.drawn.Goals as goal

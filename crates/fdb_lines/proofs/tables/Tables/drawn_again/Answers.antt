@@ -1,6 +1,6 @@
 use Rattle.std.proofs.Common.{[], sym}
 use Rattle.std.proofs.lemmas.List.{get_or_default}
-use Rattle.fdb_lines.specs.declared.line_kind.LineKind.TheVariants.{Asks}
+use Rattle.fdb_lines.specs.declared.locators.LineKind.TheVariants.{Asks}
 use Rattle.fdb_lines.specs.Audit.{case_of}
 use Rattle.fdb_lines.specs.Lines.{nobody}
 use Rattle.fdb_lines.specs.Log.{lines_of}

@@ -1,5 +1,5 @@
 use Rattle.std.proofs.Common.{inl}
-use Rattle.fdb_lines.specs.declared.exposure.Exposure.TheVariants.{Drawn}
+use Rattle.fdb_lines.specs.declared.known.Exposure.TheVariants.{Drawn}
 use Rattle.fdb_lines.specs.Log.{lines_of}
 use Rattle.fdb_lines.proofs.Reasoning.{are_asked}
 use Rattle.fdb_lines.proofs.tables.Tables.first_drawn.Goals as goal

@@ -1,5 +1,5 @@
 use Rattle.std.proofs.Common.{[]}
-use Rattle.fdb_lines.specs.declared.line_kind.LineKind.TheVariants.{Reports}
+use Rattle.fdb_lines.specs.declared.locators.LineKind.TheVariants.{Reports}
 use Rattle.fdb_lines.proofs.Reasoning.{are_asked}
 use Rattle.fdb_lines.proofs.tables.Tables.first_report.Goals as goal
 

@@ -1,4 +1,4 @@
-use Rattle.fdb_lines.specs.declared.exposure.Exposure.TheVariants.{Shown}
+use Rattle.fdb_lines.specs.declared.known.Exposure.TheVariants.{Shown}
 use Rattle.fdb_lines.specs.Log.{lines_of}
 use Rattle.fdb_lines.proofs.Lateness.{not_above_first}
 use Rattle.fdb_lines.proofs.Reasoning.{are_asked}

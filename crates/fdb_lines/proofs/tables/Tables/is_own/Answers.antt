@@ -2,7 +2,7 @@ use Rattle.std.proofs.Common.{◌≡◌, [], get_or, ap, sym, ◌∙◌, arith}
 use Rattle.std.proofs.lemmas.Bool.Decides.{nat_tests}
 use Rattle.std.proofs.lemmas.List.{get_or_default}
 use Rattle.fdb_lines.specs.declared.line.Line.{Line}
-use Rattle.fdb_lines.specs.declared.line_kind.LineKind.TheVariants.{Owned, Nameless}
+use Rattle.fdb_lines.specs.declared.locators.LineKind.TheVariants.{Owned, Nameless}
 use Rattle.fdb_lines.specs.Lines.{line_at, nobody}
 use Rattle.fdb_lines.specs.Log.{lines_of}
 use Rattle.fdb_lines.proofs.Reasoning.{anybody_is, are_asked, owned_is}

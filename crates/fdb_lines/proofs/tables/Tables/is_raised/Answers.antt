@@ -1,5 +1,5 @@
 use Rattle.std.proofs.Common.{◌∙◌}
-use Rattle.fdb_lines.specs.declared.line_kind.LineKind.TheVariants.{Raises}
+use Rattle.fdb_lines.specs.declared.locators.LineKind.TheVariants.{Raises}
 use Rattle.fdb_lines.specs.Audit.{start_of}
 use Rattle.fdb_lines.specs.Log.{lines_of}
 use Rattle.fdb_lines.proofs.Reasoning.{are_asked, raised_is}

@@ -1,5 +1,5 @@
 use Rattle.std.proofs.Common.{max, ap, arith}
-use Rattle.fdb_lines.specs.declared.exposure.Exposure.TheVariants.{Drawn}
+use Rattle.fdb_lines.specs.declared.known.Exposure.TheVariants.{Drawn}
 use Rattle.fdb_lines.specs.Audit.{case_of}
 use Rattle.fdb_lines.specs.Faults.{knows}
 use Rattle.fdb_lines.specs.Log.{lines_of}

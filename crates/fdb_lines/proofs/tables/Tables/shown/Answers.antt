@@ -1,5 +1,5 @@
 use Rattle.std.proofs.Common.{arith}
-use Rattle.fdb_lines.specs.declared.exposure.Exposure.TheVariants.{Shown}
+use Rattle.fdb_lines.specs.declared.known.Exposure.TheVariants.{Shown}
 use Rattle.fdb_lines.specs.Log.{lines_of}
 use Rattle.fdb_lines.proofs.Reasoning.{are_asked, known_is}
 use Rattle.fdb_lines.proofs.tables.Tables.shown.Goals as goal

@@ -1,6 +1,5 @@
-use Rattle.std.proofs.Common.{[], ◌∷◌, ◌++◌, subst, sym}
-use Rattle.std.proofs.lemmas.Result.{err_from_is_err_and}
-use Rattle.fdb_log_reader.proofs.Placed.{all_fed, goes_on, stops}
+use Rattle.std.proofs.Common.{[], ◌∷◌, ◌++◌}
+use Rattle.fdb_log_reader.proofs.Placed.{goes_on}
 use Rattle.fdb_log_reader.proofs.splitter.Splitter.feed.Goals as goal
 
 pub loop-line-preserved : goal.loop-line-preserved

@@ -1,7 +1,7 @@
 use Rattle.std.proofs.Common.{◌∙◌, Some, ap, codes, refl, sym}
 use Rattle.clap.specs.Words.{Text}
 use Rattle.fdb_split.specs.Program.{command}
-use Rattle.fdb_split.proofs.Stopping.{without_first, without_into, without_key}
+use Rattle.fdb_split.proofs.Stopping.{suited, without_first, without_into, without_key}
 use Rattle.fdb_split.proofs.split_program.SplitProgram.options.Goals as goal
 
 pub returns-in_default-text-clause-refused : goal.returns-in_default-text-clause-refused
@@ -26,3 +26,6 @@ returns-clause-said c = λ arguments matches. record {
   first = c.in-Some-first_of.ensures arguments matches;
   progress = c.is_given.ensures command arguments matches (refl, refl, refl);
 }
+
+pub returns-clause-suited : goal.returns-clause-suited
+returns-clause-suited c = λ arguments matches. suited arguments _ (returns-clause-said c arguments matches)

@@ -7,15 +7,15 @@ use Rattle.fdb_command.specs.declared.failure.Failure.{Failure}
 use Rattle.fdb_command.specs.declared.program.Output.{Output}
 use Rattle.fdb_log_reader.specs.declared.error.ReadError.{ReadError}
 use Rattle.fdb_audit.specs.Following.{Start}
-use Rattle.fdb_audit.specs.Program.{HasTaken, IsAsked, Prints, PrintsBy, audit, refusal_of, started}
+use Rattle.fdb_audit.specs.Program.{HasTaken, AskFor, Prints, PrintsBy, audit, refusal_of, started}
 use Rattle.fdb_audit.specs.Progress.{HasPrinted, IsPrinted}
 use Rattle.fdb_audit.specs.private.Kept.{MayFail}
 use Rattle.fdb_audit.specs.declared.arguments.AuditArguments.{AuditArguments}
-use Rattle.fdb_audit.specs.declared.fault.LogFault.{LogFault}
+use Rattle.fdb_audit.specs.declared.printer.LogFault.{LogFault}
 use Rattle.fdb_audit.specs.declared.followed_log.FollowedLog.{FollowedLog}
 use Rattle.fdb_audit.specs.declared.audit_program.AuditIntake.{AuditIntake}
 use Rattle.fdb_audit.specs.declared.audit_program.AuditIntake.TheVariants.{Followed}
-use Rattle.fdb_audit.specs.declared.refused.LogsRefused.{LogsRefused}
+use Rattle.fdb_audit.specs.declared.refusal.LogsRefused.{LogsRefused}
 use Rattle.fdb_audit.proofs.Refusing.{stops_failing}
 use Rattle.fdb_audit.proofs.audit_program.fn.drive.body.Goals as goal
 
@@ -33,7 +33,7 @@ whole_printed arguments asked bytes told (Err fault) whole none stops = stops
 
 -- of a log that is followed is printed what was told and what was left to be said
 followed_printed : (arguments : List Text) (asked : AuditArguments) (log : FollowedLog) (bytes told : List ℕ) (made : Result (Output LogsRefused LogFault) (Failure LogsRefused LogFault))
-    → IsAsked arguments asked → HasTaken asked (Followed log) bytes told
+    → AskFor arguments asked → HasTaken asked (Followed log) bytes told
     → IfOk made (λ it. (start : Start) (bytes told : List ℕ) → HasPrinted asked start log bytes told
     → (error : Option ReadError) × (last_early : Option ℕ) × IsPrinted asked start (not (is_some asked.keep)) bytes (told ++ it.text.items) it.found error last_early
     × (it.refused ≡ refusal_of error last_early))

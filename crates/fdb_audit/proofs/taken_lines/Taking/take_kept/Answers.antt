@@ -1,0 +1,95 @@
+use Rattle.std.proofs.Common.{◌≡◌, ◌∙◌, ◌++◌, ◌≤◌, [], ℕ, List, Result, ap, arith, drop, false, length, map, max, min, refl, string_bytes, subst, sym, take}
+use Rattle.std.proofs.lemmas.Bool.{false≢true}
+use Rattle.std.proofs.lemmas.List.{drop_all, length-map, map-append, take-append-drop}
+use Rattle.fdb_lines.specs.ToldByKey.{audited_to}
+use Rattle.fdb_log_reader.specs.declared.error.Why.{Why}
+use Rattle.fdb_log_reader.specs.declared.read_line.ReadLine.{ReadLine}
+use Rattle.fdb_log_reader.specs.ReadLine.{SaidLine, said_in}
+use Rattle.fdb_audit.specs.declared.progress.Counts.{Counts}
+use Rattle.fdb_audit.specs.Following.{early_at, keys_taken, lines_taken, start_with, taken}
+use Rattle.fdb_audit.specs.Kept.{start_from}
+use Rattle.fdb_audit.specs.Taken.{AreCounted}
+use Rattle.fdb_audit.specs.private.Followed.{AreTaken}
+use Rattle.fdb_audit.proofs.Following.{counted}
+use Rattle.fdb_audit.proofs.Settled.{far_in_all}
+use Rattle.fdb_audit.proofs.KeptTexts.{drop_least, drop_mapped, none_at, take_least, take_mapped}
+use Rattle.fdb_audit.proofs.Warned.{none_early, none_said}
+use Rattle.fdb_audit.proofs.taken_lines.Taking.take_kept.Goals as goal
+
+-- lines in two parts are all lines
+in_parts : (lines : List (Result ReadLine Why)) (n : ℕ) → map said_in (take n lines) ++ map said_in (drop n lines) ≡ map said_in lines
+in_parts lines n = sym (map-append said_in (take n lines) (drop n lines)) ∙ ap (map said_in) (take-append-drop n lines)
+
+pub returns-clause-taken : goal.returns-clause-taken
+returns-clause-taken c = λ behind kept told_is settled_is are.
+    let old = c.args.self.now in
+    let lines = c.args.lines.items in
+    let n = c.min.result in
+    let all = map said_in lines in
+    let from = start_with behind kept.numbers in
+    let margin = old.watch.margin in
+    let start = start_from behind margin kept all in
+    let told = map said_in (take n lines) in
+    let one = c.take_all.new.self in
+    let two = c.settle_untold.new.self in
+    let three = c.take_all-2.new.self in
+    let reach = are.reach refl in
+    let low : old.watch.from ≡ 0 = (let f = far_in_all old behind [] reach.from in omega (arith, f)) in
+    let least : n ≡ min kept.told (length lines) = (let is = c.min.ensures in let size = c.len.ensures in omega (arith, is, size, told_is)) in
+    let first_same : told ≡ take kept.told all = ap (λ m. map said_in (take m lines)) least ∙ (ap (map said_in) (take_least kept.told lines) ∙ sym (take_mapped said_in kept.told lines)) in
+    let last_same : map said_in (drop n lines) ≡ drop kept.told all = ap (λ m. map said_in (drop m lines)) least ∙ (ap (map said_in) (drop_least kept.told lines) ∙ sym (drop_mapped said_in kept.told lines)) in
+    let first : AreTaken from one told [] =
+    subst (λ (part : List (Result ReadLine Why)). AreTaken from one (map said_in part) []) c.in_ok-since.ensures.items (c.in_ok-take_all.ensures.taken from [] [] are) in
+    let none_first : one.counts.early ≡ 0 =
+    (let most = c.in_ok-take_all.ensures.early in
+    let none = ap (λ at. early_at at (lines_taken (map said_in c.split_off.new.self.items))) low ∙ none_at (lines_taken (map said_in c.split_off.new.self.items)) in
+    let was = reach.early in omega (arith, most, none, was)) in
+    let at : max one.watch.from c.args.settled ≡ kept.settled = (let still = c.take_all.ensures.from in omega (arith, still, low, settled_is)) in
+    let on = record from { anew = false } in
+    let settled : AreTaken on two told start.told =
+    subst (λ (part : List (Result SaidLine Why)). AreTaken on two told (audited_to margin kept.settled (lines_taken part) (keys_taken part))) first_same
+    (subst (λ moment. AreTaken on two told (audited_to margin moment (lines_taken told) (keys_taken told))) at
+    (subst (λ m. AreTaken on two told (audited_to m (max one.watch.from c.args.settled) (lines_taken told) (keys_taken told))) c.take_all.ensures.margin
+    (c.in_ok-settle_untold.ensures.taken from told [] first))) in
+    let last : AreTaken on three all start.told = subst (λ read. AreTaken on three read start.told) (ap (λ (part : List (Result ReadLine Why)). told ++ map said_in part) c.in_ok-since.ensures.tail ∙ in_parts lines n)
+    (c.in_ok-take_all-2.ensures.taken on told start.told settled) in
+    let most_last : three.counts.early ≤ start.early =
+    (let most = c.in_ok-take_all-2.ensures.early in
+    let still = ap (λ (counts : Counts). counts.early) c.settle_untold.ensures.counts in
+    let moment : two.watch.from ≡ kept.settled = c.in_ok-settle_untold.ensures.from ∙ at in
+    let same = ap (λ m. early_at m (lines_taken (map said_in c.in_ok-since.since.items))) moment
+    ∙ ap (λ (part : List (Result SaidLine Why)). early_at kept.settled (lines_taken part)) (ap (λ (part : List (Result ReadLine Why)). map said_in part) c.in_ok-since.ensures.tail ∙ last_same) in
+    omega (arith, most, still, same, none_first)) in
+    let none : drop (length all) all ≡ [] = drop_all (length all) all (omega arith) in (
+      record {
+        seen = last.seen;
+        numbered = record { above = last.numbered.above; front = last.numbered.front; few = last.numbered.few };
+        count = last.count;
+        refused = last.refused;
+        counted = subst (λ since. AreCounted c.new-self.result (lines_taken since)) (sym none) c.new-self.ensures.counted;
+        few = omega arith;
+        from = (let still = c.take_all-2.ensures.from in let moment = c.in_ok-settle_untold.ensures.from in omega (arith, still, moment, at));
+        late = (let is : early_at kept.settled (lines_taken (drop (length all) all)) ≡ 0 = ap (λ (since : List (Result SaidLine Why)). early_at kept.settled (lines_taken since)) none in omega (arith, is));
+        settled = record {
+          come = last.settled.come;
+          since = (let since = last.settled.since in omega (arith, since, most_last));
+        };
+        before = λ none_before k d lt.
+            let came = (last.once refl (omega (arith, most_last, none_before))).came k d lt in
+            let size = length-map (taken all) (λ (said : SaidLine). said.line) in
+            let most = counted 0 all in
+            omega (arith, came, size, most);
+        reach = λ anew. absurd (false≢true anew);
+        came = none_early start all c.new-self.result c.new-self.ensures.early c.new-self.ensures.none.0 c.new-self.ensures.none.1;
+        few_ahead = (let none = c.new-self.ensures.none.2 in omega (arith, none));
+        once = λ none_before none_since. last.once refl (omega (arith, most_last, none_before));
+      },
+      none_said start all c.new-self.result (string_bytes c.new.result) none c.new-self.ensures.early c.new-self.ensures.none.2 c.new.ensures.bytes,
+    )
+
+pub returns-clause-from : goal.returns-clause-from
+returns-clause-from c =
+    let last = c.take_all-2.ensures.from in
+    let moment = c.in_ok-settle_untold.ensures.from in
+    let first = c.take_all.ensures.from in
+    omega (arith, last, moment, first)

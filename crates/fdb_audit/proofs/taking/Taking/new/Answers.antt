@@ -1,9 +1,0 @@
-use Rattle.std.proofs.Common.{[], refl, string_bytes}
-use Rattle.fdb_audit.specs.Following.{start_with}
-use Rattle.fdb_audit.specs.Taken.{kept_by}
-use Rattle.fdb_audit.proofs.Warned.{none_said}
-use Rattle.fdb_audit.proofs.taking.Taking.new.Goals as goal
-
-pub returns-clause-warned : goal.returns-clause-warned
-returns-clause-warned c =
-    none_said (start_with c.args.behind (kept_by c.args.numbering)) [] c.new-3.result (string_bytes c.new-6.result) refl c.new-3.ensures.early c.new-3.ensures.none.2 c.new-6.ensures.bytes

@@ -1,0 +1,355 @@
+//! The lines of a log that is followed, as they are taken.
+
+ghost use Rattle.std.specs.Prelude.{◌≡◌, ℕ, ◌+◌, ◌-◌, ◌^◌, ◌<◌, ◌≤◌, ◌++◌, ◌∷◌, [], All, List, Err};
+ghost use Rattle.std.specs.Prelude.{IfOk, Ok, OnOk, Result, false, length, map, max, min, nat_lt};
+ghost use Rattle.std.specs.Prelude.{string_bytes, unwrap_or};
+ghost use Rattle.fdb_log_reader.specs.Printed.{printed};
+ghost use Rattle.fdb_log_reader.specs.ReadLine.{IsTimed, SaidLine, said_by, said_in};
+ghost use Rattle.fdb_log_reader.specs.declared.error.Why.{Why};
+ghost use Rattle.fdb_lines.specs.Before.{began, ended};
+ghost use Rattle.fdb_lines.specs.ToldByKey.{audited_to};
+ghost use Rattle.fdb_lines.specs.declared.fault.Found.{Found};
+ghost use Rattle.fdb_lines.specs.declared.line.Line.{Line};
+
+use crate::clocks::{Clocks, KeyTimes};
+use crate::members::{Numbering, Rows};
+use crate::pace::Unsettled;
+use crate::progress::{Came, Carried, Counts};
+use crate::refusal::{CountedLine, Warning, push_doubled, push_warning};
+use fdb_lines::{KeyWatch, Line, SettledKey, WatchError, laws};
+use fdb_log_reader::{ReadError, ReadLine, Why};
+use std::alloc::{AllocError, Global};
+
+/// The lines that were taken, as far as they may yet come to matter, and how the others came.
+#[derive(Drop)]
+pub(crate) struct Taking {
+    pub(crate) alloc: Global,
+    pub(crate) watch: KeyWatch,
+    pub(crate) numbering: Numbering,
+    pub(crate) rows: Rows,
+    pub(crate) counts: Counts,
+    /// How many lines were taken, those that were kept of others included.
+    pub(crate) taken: u64,
+    /// How many of them had come when it settled last.
+    pub(crate) settled: u64,
+    /// How far the ends of lines are believed.
+    pub(crate) clocks: Clocks,
+    /// The lines that came since it settled.
+    pub(crate) unsettled: Unsettled,
+    /// How many lines it keeps.
+    pub(crate) kept: u64,
+    /// The last line that was refused, if one was.
+    pub(crate) refused: Option<ReadError>,
+    /// What is to be said on standard error next.
+    pub(crate) warnings: String,
+    /// When the lines of each key came, where keys may be forgotten.
+    pub(crate) times: KeyTimes,
+    ghost above: { All (λ above. above ≤ taken) numbering.above.items },
+}
+
+impl Taking {
+    ghost use Rattle.fdb_audit.specs.Following.{Start, keys_taken, left_out, lines_taken};
+    ghost use Rattle.fdb_audit.specs.Following.{early_at, no_line, start_with, taken};
+    ghost use Rattle.fdb_audit.specs.Kept.{KeptSaid, start_from};
+    ghost use Rattle.fdb_audit.specs.Taken.{AreCounted, HasWarned, IsCarried, kept_by};
+    ghost use Rattle.fdb_audit.specs.private.Followed.{AreTaken, NotesLine, counted_line};
+    ghost use Rattle.fdb_audit.specs.private.Followed.{noted, odd_text};
+
+    /// No line has been taken; those of these numbers come first. It fails only where memory is
+    /// refused.
+    pub(crate) fn new(
+        alloc: Global,
+        margin: u64,
+        behind: u64,
+        shown: &[String],
+        numbering: Numbering,
+        times: KeyTimes,
+    ) -> Result<Self, AllocError>
+        requires none { numbering.above.items ≡ [] }
+        requires few { numbering.more < 18446744073709551615 }
+        ensures taken { IfOk result (λ taking.
+            AreTaken (start_with behind (kept_by numbering)) taking [] []) }
+        ensures warned { IfOk result (λ taking.
+            HasWarned (start_with behind (kept_by numbering)) taking [] []) }
+        ensures margin { IfOk result (λ taking. taking.watch.margin ≡ margin) }
+        ensures from { IfOk result (λ taking. taking.watch.from ≡ 0) }
+        ensures members { IfOk result (λ taking. map string_bytes taking.rows.members.items
+            ≡ map (λ name. printed (string_bytes name)) shown.now) }
+    {
+        let rows = Rows::new(alloc, shown)?;
+        Ok(Taking {
+            alloc,
+            watch: KeyWatch::new(alloc, margin, behind),
+            numbering,
+            rows,
+            counts: Counts::new(),
+            taken: 0,
+            settled: 0,
+            clocks: Clocks::new(behind),
+            unsettled: Unsettled::new(),
+            kept: 0,
+            refused: None,
+            warnings: String::new(alloc),
+            times,
+        })
+    }
+
+    /// Takes some lines, or leaves those out that are refused. An error says that memory was
+    /// refused.
+    pub(crate) fn take_all(&mut self, lines: Vec<Result<ReadLine, Why>>) -> Result<(), AllocError>
+        requires timed { All (λ read. IfOk read IsTimed) lines.items }
+        ensures taken { OnOk result ((start : Start) → (read : List (Result SaidLine Why))
+            → (told : List Found) → AreTaken start self.old read told
+            → AreTaken start self.new (read ++ map said_in lines.items) told) }
+        ensures warned { OnOk result ((start : Start) → (read : List (Result SaidLine Why))
+            → (told : List Found) → (warned : List ℕ) → AreTaken start self.old read told
+            → HasWarned start self.old read warned
+            → HasWarned start self.new (read ++ map said_in lines.items) warned) }
+        ensures early { OnOk result (self.new.counts.early ≤ self.old.counts.early
+            + early_at self.old.watch.from (lines_taken (map said_in lines.items))) }
+        ensures from { self.new.watch.from ≡ self.old.watch.from }
+        ensures margin { self.new.watch.margin ≡ self.old.watch.margin }
+    {
+        for line in lines {
+            self.take(line)?;
+        }
+        Ok(())
+    }
+
+    /// Takes lines that were kept, of which so many had come when it had settled up to a moment.
+    /// They are not counted. An error says that memory was refused.
+    pub(crate) fn take_kept(
+        &mut self,
+        mut lines: Vec<Result<ReadLine, Why>>,
+        told: usize,
+        settled: u64,
+    ) -> Result<(), AllocError>
+        requires timed { All (λ read. IfOk read IsTimed) lines.items }
+        ensures taken { OnOk result ((behind : ℕ) → (kept : KeptSaid)
+            → kept.told ≡ told → kept.settled ≡ settled
+            → AreTaken (start_with behind kept.numbers) self.old [] []
+            → let read = map said_in lines.items in
+            let start = start_from behind self.old.watch.margin kept read in
+            AreTaken start self.new read start.told × HasWarned start self.new read []) }
+        ensures from { OnOk result (self.new.watch.from ≡ max self.old.watch.from settled) }
+        ensures margin { self.new.watch.margin ≡ self.old.watch.margin }
+    {
+        let since = lines.split_off(told.min(lines.len()))?;
+        self.take_all(lines)?;
+        self.settle_untold(settled)?;
+        self.take_all(since)?;
+        self.counts = Counts::new();
+        self.warnings = String::new(self.alloc);
+        Ok(())
+    }
+
+    /// Takes a line, or leaves it out where it is refused. An error says that memory was refused.
+    pub(crate) fn take(&mut self, read: Result<ReadLine, Why>) -> Result<(), AllocError>
+        requires timed { IfOk read IsTimed }
+        ensures taken { OnOk result ((start : Start) → (lines : List (Result SaidLine Why))
+            → (told : List Found) → AreTaken start self.old lines told
+            → AreTaken start self.new (lines ++ said_in read ∷ []) told) }
+        ensures warned { OnOk result ((start : Start) → (lines : List (Result SaidLine Why))
+            → (told : List Found) → (warned : List ℕ) → AreTaken start self.old lines told
+            → HasWarned start self.old lines warned
+            → HasWarned start self.new (lines ++ said_in read ∷ []) warned) }
+        ensures early { OnOk result (self.new.counts.early ≤ self.old.counts.early
+            + early_at self.old.watch.from (lines_taken (said_in read ∷ []))) }
+        ensures from { self.new.watch.from ≡ self.old.watch.from }
+        ensures margin { self.new.watch.margin ≡ self.old.watch.margin }
+    {
+        // No more lines are read than have numbers.
+        if self.line_count() >= u64::MAX - 1 {
+            return Err(AllocError);
+        }
+        match read {
+            Ok(read) => self.add(read),
+            Err(why) => self.leave_out(why),
+        }
+    }
+
+    /// Settles up to a moment, and tells nothing of it. An error says that memory was refused.
+    pub(crate) fn settle_untold(&mut self, at: u64) -> Result<(), AllocError>
+        ensures taken { OnOk result ((start : Start) → (lines : List (Result SaidLine Why))
+            → (told : List Found) → AreTaken start self.old lines told
+            → AreTaken (record start { anew = false }) self.new lines
+            (audited_to self.old.watch.margin (max self.old.watch.from at) (lines_taken lines)
+            (keys_taken lines))) }
+        ensures from { OnOk result (self.new.watch.from ≡ max self.old.watch.from at) }
+        ensures counts { self.new.counts ≡ self.old.counts }
+        ensures warnings { self.new.warnings ≡ self.old.warnings }
+        ensures margin { self.new.watch.margin ≡ self.old.watch.margin }
+    {
+        let told = self.watch.settle(self.alloc, at)?;
+        self.rows.let_go_all(&told);
+        laws::all_is_told_up_to_where_it_settled();
+        self.note_settled(&told);
+        Ok(())
+    }
+
+    /// Notes that it has settled, and told this.
+    pub(crate) fn note_settled(&mut self, told: &[SettledKey])
+        ensures taken { (start : Start) → (lines : List (Result SaidLine Why))
+            → (told : List Found) → AreTaken start (noted self.old) lines told
+            → AreTaken start self.new lines told }
+        ensures watch { self.new.watch ≡ self.old.watch }
+        ensures counts { self.new.counts ≡ self.old.counts }
+        ensures warnings { self.new.warnings ≡ self.old.warnings }
+    {
+        self.unsettled = Unsettled::since(self.watch.settled_to(), told);
+        self.kept = self.kept.saturating_sub(let_go(told));
+        self.settled = self.taken;
+    }
+
+    /// The last line that was refused, if one was, or that none was taken, behind what an earlier piece
+    /// has counted.
+    pub(crate) fn left_out(&self, before: &Carried) -> Option<ReadError>
+        ensures { (start : Start) → (read : List (Result SaidLine Why)) → (told : List Found)
+            → AreTaken start self.now read told → IsCarried start.before before.now
+            → result ≡ left_out start read }
+    {
+        let refused = self.refused.or(before.last_refused);
+        refused.or(self.no_line(before))
+    }
+
+    /// That no line was taken, if none was, nor any before.
+    fn no_line(&self, before: &Carried) -> Option<ReadError>
+        ensures { (start : Start) → (read : List (Result SaidLine Why)) → (told : List Found)
+            → AreTaken start self.now read told → IsCarried start.before before.now
+            → result ≡ no_line (taken read) start.before.counts.lines }
+    {
+        let lines = self.taken.saturating_add(before.counts.lines);
+        if lines > 0 {
+            return None;
+        }
+        Some(ReadError {
+            line: 0,
+            why: Why::Empty,
+        })
+    }
+
+    /// How many lines were read.
+    pub(crate) fn line_count(&self) -> u64
+        ensures { result ≡ min (self.now.taken + self.now.numbering.more
+            + length self.now.numbering.above.items) (2 ^ 64 - 1) }
+    {
+        self.taken.saturating_add(self.numbering.others())
+    }
+
+    /// Adds a line.
+    fn add(&mut self, read: ReadLine) -> Result<(), AllocError>
+        requires timed { IsTimed read }
+        requires room { self.old.taken + self.old.numbering.more
+            + length self.old.numbering.above.items < 18446744073709551614 }
+        ensures taken { OnOk result ((start : Start) → (lines : List (Result SaidLine Why))
+            → (told : List Found) → AreTaken start self.old lines told
+            → AreTaken start self.new (lines ++ Ok (said_by read) ∷ []) told) }
+        ensures warned { OnOk result ((start : Start) → (lines : List (Result SaidLine Why))
+            → (told : List Found) → (warned : List ℕ) → AreTaken start self.old lines told
+            → HasWarned start self.old lines warned
+            → HasWarned start self.new (lines ++ Ok (said_by read) ∷ []) warned) }
+        ensures early { OnOk result (self.new.counts.early ≤ self.old.counts.early
+            + early_at self.old.watch.from (read.line ∷ [])) }
+        ensures from { self.new.watch.from ≡ self.old.watch.from }
+        ensures margin { self.new.watch.margin ≡ self.old.watch.margin }
+    {
+        let ReadLine { line, key, shown } = read;
+        let is_judged = line.began() >= self.judged_from(key, &line);
+        match self.watch.push(self.alloc, key, line) {
+            Ok(()) => {}
+            Err(WatchError::NoTimes) => unreachable!(),
+            Err(WatchError::Line(_)) => return Err(AllocError),
+        }
+        self.rows.add(self.taken, shown)?;
+        self.note(&line, is_judged)?;
+        self.times.hear(key, &line, self.clocks.believed)?;
+        Ok(())
+    }
+
+    /// From when on a line of a key is judged, where it comes early.
+    fn judged_from(&self, key: Option<u32>, line: &Line) -> u64 {
+        if line.began() < self.watch.settled_to() {
+            self.watch.judged_from(key)
+        } else {
+            0
+        }
+    }
+
+    /// Notes when a line that was added began and ended, counts it, and says so where it came early or
+    /// is ahead.
+    fn note(&mut self, line: &Line, is_judged: bool) -> Result<(), AllocError>
+        requires room { self.old.taken + self.old.numbering.more
+            + length self.old.numbering.above.items < 18446744073709551614 }
+        ensures noted { OnOk result
+            (NotesLine self.old.watch.from self.old self.new line.now) }
+        ensures watch { self.new.watch ≡ self.old.watch }
+    {
+        let from = self.watch.settled_to();
+        let ahead_by = self.clocks.hear(line);
+        self.unsettled.add(line.began());
+        self.kept = self.kept.saturating_add(1);
+        self.taken += 1;
+        let number = self.line_count();
+        self.counts.add(line, from, Came { number, is_judged });
+        self.counts.add_ahead(ahead_by > 0);
+        self.warn(number, from.saturating_sub(line.began()), ahead_by)?;
+        Ok(())
+    }
+
+    /// Says that the line of a number came so long before what had been settled, and is so far ahead,
+    /// where it is, and the number of such lines has doubled.
+    fn warn(&mut self, line: u64, early_by: u64, ahead_by: u64) -> Result<(), AllocError>
+        ensures warnings { OnOk result (string_bytes self.new.warnings ≡ odd_text
+            (counted_line line early_by self.old.counts.early)
+            (counted_line line ahead_by self.old.counts.ahead) (string_bytes self.old.warnings)) }
+        ensures same { self.new ≡ record self.old { warnings = self.new.warnings } }
+    {
+        let early = CountedLine {
+            line,
+            by: early_by,
+            count: self.counts.early,
+        };
+        let ahead = CountedLine {
+            line,
+            by: ahead_by,
+            count: self.counts.ahead,
+        };
+        push_doubled(&mut self.warnings, early, Warning::Early(early))?;
+        push_doubled(&mut self.warnings, ahead, Warning::Ahead(ahead))?;
+        Ok(())
+    }
+
+    /// Leaves a line out, and says why.
+    fn leave_out(&mut self, why: Why) -> Result<(), AllocError>
+        requires room { self.old.taken + self.old.numbering.more
+            + length self.old.numbering.above.items < 18446744073709551614 }
+        ensures taken { OnOk result ((start : Start) → (lines : List (Result SaidLine Why))
+            → (told : List Found) → AreTaken start self.old lines told
+            → AreTaken start self.new (lines ++ Err why ∷ []) told) }
+        ensures warned { OnOk result ((start : Start) → (lines : List (Result SaidLine Why))
+            → (told : List Found) → (warned : List ℕ) → AreTaken start self.old lines told
+            → HasWarned start self.old lines warned
+            → HasWarned start self.new (lines ++ Err why ∷ []) warned) }
+        ensures early { self.new.counts.early ≡ self.old.counts.early }
+        ensures from { self.new.watch.from ≡ self.old.watch.from }
+        ensures margin { self.new.watch.margin ≡ self.old.watch.margin }
+    {
+        self.numbering.leave_out(self.taken)?;
+        let line = self.line_count();
+        let error = ReadError { line, why };
+        self.refused = Some(error);
+        push_warning(&mut self.warnings, Warning::Refused(error))?;
+        Ok(())
+    }
+}
+
+/// How many lines are not kept on, of those of which a watch tells.
+fn let_go(told: &[SettledKey]) -> u64 {
+    let mut count = 0u64;
+    for entry in told {
+        let settled = &entry.settled;
+        let gone = settled.numbers.len().saturating_sub(settled.kept.len());
+        count = count.saturating_add(gone as u64);
+    }
+    count
+}

@@ -1,5 +1,0 @@
-use Rattle.std.proofs.Common.{◌<◌, length}
-use Rattle.fdb_lines.proofs.hints.Hints.new.Given as goal
-
-abbrev pub invariant-loop-guess : goal.invariant-loop-guess
-invariant-loop-guess l = 0 < length l.places.items
