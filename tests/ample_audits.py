@@ -387,7 +387,7 @@ def in_ways(made, asked):
 
 
 READ = "LogReader::with_columns, LogReader::feed, LogReader::finish, Names::printed"
-FIRST = f"{READ}, first_finding_by, summary_by"
+FIRST = f"{READ}, first_finding_in_threads, summary_in_threads"
 ALL = f"{READ}, findings, summary"
 BY_KEY = f"{ALL}, Shown::printed, printed_name"
 # What is said of whole logs.

@@ -34,7 +34,7 @@ PREFIXES = {"FaultKind": "FAULT_", "Reason": "REASON_", "Means": "MEANS_"}
 # Where a version stands, how, and how often.
 VERSIONS = (
     (HEADER, r"#define FDB_READ_VERSION_VERSION (\d+)$", 1),
-    (f"{SOURCES}/version.rt", r"(?:ensures \{ result ≡ |The version, |^    )([\d.]*\d)\b", 3),
+    (f"{SOURCES}/status.rt", r"(?:ensures \{ result ≡ |The version, |^    )([\d.]*\d)\b", 3),
     ("crates/fdb_audit/src/arguments.rt", r'^const VERSION: &str = "([\d.]+) \(', 1),
     (f"{OF_RUST}/lib.rs", r"FDB_READ_VERSION_VERSION: u32 = (\d+);", 1),
     (f"{OF_PYTHON}/fdb_read_version/_library.py", r"^VERSION = (\d+)$", 1),

@@ -22,10 +22,10 @@ use std::sync::Wait;
 
 fn main() {}
 """
-# Each function gives a record of the name `J` a token of the name that stands for NAME: what it is
+# Each function gives a record of the name `S` a token of the name that stands for NAME: what it is
 # given besides, what it gives, and its body.
 FORM = """
-pub fn CALL_ITS<J: Live, K: Live, R: Wait>(rt: &R, live: &LiveRecord<J>, GIVEN)GIVES {
+pub fn CALL_ITS<S: Live, T: Live, R: Wait>(rt: &R, live: &LiveRecord<S>, GIVEN)GIVES {
     BODY
 }
 """
@@ -35,13 +35,13 @@ CALLS = {
     "report": (f"{MUT}, rec: Record", " -> Result<Ack, LiveError>",
                "live.report(rt, &OpenGate, 0, token, rec)"),
     "split": (MUT, "", "let _ = live.split(token);"),
-    "learn": ("own: &mut Seen<J>, token: Seen<NAME>", "", "live.learn(rt, own, token);"),
-    "meet": (f"own: &mut Seen<J>, {MUT}", "", "live.meet(rt, own, token);"),
+    "learn": ("own: &mut Seen<S>, token: Seen<NAME>", "", "live.learn(rt, own, token);"),
+    "meet": (f"own: &mut Seen<S>, {MUT}", "", "live.meet(rt, own, token);"),
 }
-NAMES = {"own": "J", "other": "K"}
+NAMES = {"own": "S", "other": "T"}
 ERROR = re.compile(r"src/main\.rt:(\d+):\d+: error(.*)")
 # (what else stands around the types may differ from kit to kit)
-MISMATCH = re.compile(r".*\bSeen<J>.*\bSeen<K>.*")
+MISMATCH = re.compile(r".*\bSeen<S>.*\bSeen<T>.*")
 
 
 def text_of_calls():

@@ -149,13 +149,13 @@ where
 
 /// A commit proxy's requests to a master, with its token.
 #[derive(Drop)]
-struct Drawer<J: Live> {
-    token: Seen<J>,
+struct Drawer<S: Live> {
+    token: Seen<S>,
     asks: u32,
 }
 
-impl<J: Live + Send + Sync> Work<Master<J>> for Drawer<J> {
-    fn work<R: Wait>(self, rt: &R, master: &Master<J>) -> Result<Tally> {
+impl<S: Live + Send + Sync> Work<Master<S>> for Drawer<S> {
+    fn work<R: Wait>(self, rt: &R, master: &Master<S>) -> Result<Tally> {
         let Drawer { mut token, asks } = self;
         let mut tally = Tally::EMPTY;
         for before in 0..asks {
@@ -188,16 +188,16 @@ where
 }
 
 /// The requests under a name that stands for the master.
-fn draw_named<J: Live + Send + Sync, R: Clock + Threads + Wait + Sync>(
+fn draw_named<S: Live + Send + Sync, R: Clock + Threads + Wait + Sync>(
     rt: &R,
     job: Job,
     opened: Opened,
 ) -> Result<Measured>
-    requires chained { J.chained ≡ true }
+    requires chained { S.chained ≡ true }
     requires opened { opened
-        ≡ origin_of J.table J.start J.reporters J.chained J.epoch_end J.recovery }
+        ≡ origin_of S.table S.start S.reporters S.chained S.epoch_end S.recovery }
 {
-    let (master, _, tokens) = opened.master::<J>()?;
+    let (master, _, tokens) = opened.master::<S>()?;
     let asks = job.size / job.threads.max(1);
     let mut drawers = Vec::new(job.alloc);
     for token in tokens {

@@ -142,11 +142,11 @@ pub(crate) fn plain_read(alloc: Global) -> GrvOpts {
 
 /// Serves batches of so many requests each, which were made before, and adds the replies: version,
 /// position and serial.
-pub(crate) fn batches<J: Live, R: CpuClock + Wait>(
+pub(crate) fn batches<S: Live, R: CpuClock + Wait>(
     rt: &R,
     job: Job,
-    live: &LiveRecord<J>,
-    seen: &mut Seen<J>,
+    live: &LiveRecord<S>,
+    seen: &mut Seen<S>,
 ) -> Result<Measured> {
     let times = (REQUESTS / job.size.max(1)).max(1);
     let queue = empty_queue(job.alloc, u64::from(MOST), u64::from(MOST), MOST)?;
@@ -172,12 +172,12 @@ pub(crate) fn batches<J: Live, R: CpuClock + Wait>(
 }
 
 /// A batch of requests by the client 0, whose replies would come to the waiters.
-fn batch<J: Live>(
+fn batch<S: Live>(
     job: Job,
-    live: &LiveRecord<J>,
-    seen: &mut Seen<J>,
-    waiters: &mut Vec<Receiver<Answer<J>>>,
-) -> Result<Vec<Req<Request<J>>>> {
+    live: &LiveRecord<S>,
+    seen: &mut Seen<S>,
+    waiters: &mut Vec<Receiver<Answer<S>>>,
+) -> Result<Vec<Req<Request<S>>>> {
     let mut batch = Vec::new(job.alloc);
     for serial in 0..job.size {
         let (reply, waiter) = bounded(job.alloc, 1)?;

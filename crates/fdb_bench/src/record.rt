@@ -52,17 +52,17 @@ where
 
 /// Measures a live record under a name that stands for it, which for reads and tokens is raised
 /// before, with the first reporter's token.
-fn measure_named<J: Live + Send + Sync, R: Clock + CpuClock + Threads + Wait + Sync>(
+fn measure_named<S: Live + Send + Sync, R: Clock + CpuClock + Threads + Wait + Sync>(
     rt: &R,
     job: Job,
     load: Load,
     opened: Opened,
 ) -> Result<Measured>
-    requires bare { J.chained ≡ false }
+    requires bare { S.chained ≡ false }
     requires opened { opened
-        ≡ origin_of J.table J.start J.reporters J.chained J.epoch_end J.recovery }
+        ≡ origin_of S.table S.start S.reporters S.chained S.epoch_end S.recovery }
 {
-    let (live, reader, mut reporters) = opened.parts::<J>()?;
+    let (live, reader, mut reporters) = opened.parts::<S>()?;
     let shared = Shared {
         live,
         reading: AtomicU64::new(u64::from(job.threads)),
@@ -96,21 +96,21 @@ fn measure_named<J: Live + Send + Sync, R: Clock + CpuClock + Threads + Wait + S
 
 /// What the threads share: a live record, and how many of them still read.
 #[derive(Drop)]
-struct Shared<J: Live> {
-    live: LiveRecord<J>,
+struct Shared<S: Live> {
+    live: LiveRecord<S>,
     reading: AtomicU64,
-    ghost bare: { J.chained ≡ false },
+    ghost bare: { S.chained ≡ false },
 }
 
 /// A live record and what threads share beside it, and the tokens that nobody works with.
 #[derive(Drop)]
-struct ServedRecord<J: Live> {
-    shared: Shared<J>,
-    reader: Seen<J>,
-    reporters: Vec<Seen<J>>,
+struct ServedRecord<S: Live> {
+    shared: Shared<S>,
+    reader: Seen<S>,
+    reporters: Vec<Seen<S>>,
 }
 
-impl<J: Live + Send + Sync> ServedRecord<J> {
+impl<S: Live + Send + Sync> ServedRecord<S> {
     /// Reads after so many raises, maybe beside a thread that reports for as long as they last.
     /// Which records they then find is a matter of the schedule; that no position falls is not.
     fn reads<R>(&mut self, rt: &R, job: Job, beside: bool) -> Result<Measured>
@@ -201,13 +201,13 @@ struct Reports {
 
 /// One that makes its calls in a thread of its own.
 #[derive(Drop)]
-struct Holder<J: Live> {
-    token: Seen<J>,
+struct Holder<S: Live> {
+    token: Seen<S>,
     role: Role,
 }
 
-impl<J: Live + Send + Sync> Work<Shared<J>> for Holder<J> {
-    fn work<R: Wait>(self, rt: &R, shared: &Shared<J>) -> Result<Tally> {
+impl<S: Live + Send + Sync> Work<Shared<S>> for Holder<S> {
+    fn work<R: Wait>(self, rt: &R, shared: &Shared<S>) -> Result<Tally> {
         let Holder { mut token, role } = self;
         match role {
             Role::Reads { reads } => Ok(read_in_turn(rt, shared, &mut token, reads)),
@@ -217,10 +217,10 @@ impl<J: Live + Send + Sync> Work<Shared<J>> for Holder<J> {
 }
 
 /// Reads so often. A read is marked whose position is below the one before.
-fn read_in_turn<J: Live, R: Wait>(
+fn read_in_turn<S: Live, R: Wait>(
     rt: &R,
-    shared: &Shared<J>,
-    seen: &mut Seen<J>,
+    shared: &Shared<S>,
+    seen: &mut Seen<S>,
     reads: u64,
 ) -> Tally {
     let mut tally = Tally::EMPTY;
@@ -241,10 +241,10 @@ fn read_in_turn<J: Live, R: Wait>(
 }
 
 /// Reports versions. A report is marked that raises the record.
-fn report_in_turn<J: Live, R: Wait>(
+fn report_in_turn<S: Live, R: Wait>(
     rt: &R,
-    shared: &Shared<J>,
-    seen: &mut Seen<J>,
+    shared: &Shared<S>,
+    seen: &mut Seen<S>,
     reports: Reports,
 ) -> Result<Tally> {
     let mut tally = Tally::EMPTY;

@@ -62,10 +62,10 @@ fn opened<R: Wait>(rt: &R, line: &mut TableLine<'_>) {
 }
 
 /// Says how many reporters have tokens under the name of the service.
-fn parted<J: Live>(opened: Opened, line: &mut TableLine<'_>)
-    requires { opened ≡ origin_of J.table J.start J.reporters J.chained J.epoch_end J.recovery }
+fn parted<S: Live>(opened: Opened, line: &mut TableLine<'_>)
+    requires { opened ≡ origin_of S.table S.start S.reporters S.chained S.epoch_end S.recovery }
 {
-    match opened.parts::<J>() {
+    match opened.parts::<S>() {
         Ok((_, _, tokens)) => line.say(tokens.len()),
         Err(cause) => say_cause(line, cause, cause == LiveError::Memory),
     }
@@ -94,17 +94,17 @@ struct Text<'a> {
 }
 
 /// The same under the name of the service.
-fn played_named<J: Live + Send + Sync, R: Threads + Wait + Sync>(
+fn played_named<S: Live + Send + Sync, R: Threads + Wait + Sync>(
     rt: &R,
     alloc: Global,
     opened: Opened,
     played: Text<'_>,
 ) -> Result<(), CaseError>
-    requires bare { J.chained ≡ false }
+    requires bare { S.chained ≡ false }
     requires opened { opened
-        ≡ origin_of J.table J.start J.reporters J.chained J.epoch_end J.recovery }
+        ≡ origin_of S.table S.start S.reporters S.chained S.epoch_end S.recovery }
 {
-    let Ok((live, first, tokens)) = opened.parts::<J>() else {
+    let Ok((live, first, tokens)) = opened.parts::<S>() else {
         return Err(CaseError::Memory);
     };
     let mut holders = Holders::of(rt, alloc, live, first, tokens)?;
@@ -244,12 +244,12 @@ pub(crate) fn asked<R: Wait>(rt: &R, line: &mut TableLine<'_>) {
 }
 
 /// The same under the name of the service.
-fn asked_named<J: Live, R: Wait>(rt: &R, opened: Opened, asks: u64, line: &mut TableLine<'_>)
-    requires chained { J.chained ≡ true }
+fn asked_named<S: Live, R: Wait>(rt: &R, opened: Opened, asks: u64, line: &mut TableLine<'_>)
+    requires chained { S.chained ≡ true }
     requires opened { opened
-        ≡ origin_of J.table J.start J.reporters J.chained J.epoch_end J.recovery }
+        ≡ origin_of S.table S.start S.reporters S.chained S.epoch_end S.recovery }
 {
-    let Ok((master, _, mut tokens)) = opened.master::<J>() else {
+    let Ok((master, _, mut tokens)) = opened.master::<S>() else {
         line.refuse();
         return;
     };
@@ -263,10 +263,10 @@ fn asked_named<J: Live, R: Wait>(rt: &R, opened: Opened, asks: u64, line: &mut T
 }
 
 /// Whether so many requests for the proxy of a token get fresh answers.
-fn are_fresh<J: Live, R: Wait>(
+fn are_fresh<S: Live, R: Wait>(
     rt: &R,
-    master: &Master<J>,
-    token: &mut Seen<J>,
+    master: &Master<S>,
+    token: &mut Seen<S>,
     asks: u64,
 ) -> Result<bool, ChainError> {
     let mut fresh = true;

@@ -1,9 +1,11 @@
 //! What a caller of the libraries may rely on, as functions that one would write first over them:
-//! of clients, of commit versions that are drawn with tokens, and of whole runs. Each says so by a
-//! clause of its own, which the check proves from the libraries' clauses, with no proof of ours.
+//! of clients, of commit versions that are drawn with tokens, of whole runs, and of logs. Each says
+//! so by a clause of its own, which the check proves from the libraries' clauses, with no proof of
+//! ours.
 
 ghost use Rattle.std.specs.Prelude.{◌≡◌, ◌*◌, ◌<◌, ◌≤◌, ℕ, [], false, IfOk, Some, ◌≢◌, ◌+◌};
-ghost use Rattle.std.specs.Prelude.{Contains, IfSome, true, List, slice_get, take};
+ghost use Rattle.std.specs.Prelude.{Contains, IfSome, true, List, slice_get, take, ◌↔◌, IsTrue};
+ghost use Rattle.std.specs.Prelude.{count_by, ◌++◌, ◌∷◌, Option, OnOk, map, max, option_map};
 ghost use Rattle.fdb_history.specs.Strays.{issued_under, IsStray};
 ghost use Rattle.fdb_history.specs.Chain.{latest};
 ghost use Rattle.fdb_history.specs.Event.{positions_from, register_after};
@@ -17,8 +19,18 @@ ghost use Rattle.fdb_client.specs.Merging.{chain_in};
 ghost use Rattle.fdb_client.specs.Settling.{logs_of};
 ghost use Rattle.fdb_client.specs.declared.cluster.TheConstants.{MAX_GRV_PROXIES};
 ghost use Rattle.fdb_replay.specs.Outcome.{opening};
+ghost use Rattle.fdb_lines.specs.Audit.{case_of, AreExplained};
+ghost use Rattle.fdb_lines.specs.Listing.{faults_of};
+ghost use Rattle.fdb_lines.specs.Log.{lines_of};
+ghost use Rattle.fdb_lines.specs.Keys.{placed_found};
+ghost use Rattle.fdb_lines.specs.Reasons.{found_of};
+ghost use Rattle.fdb_lines.specs.Watch.{due, HasSeen, IsTold};
+ghost use Rattle.fdb_lines.specs.Watching.{told_of};
+ghost use Rattle.fdb_lines.specs.declared.fault.Found.{Found};
+ghost use Rattle.fdb_lines.specs.declared.line.Line.{Line};
+ghost use Rattle.fdb_lines.specs.declared.watch.Watch.{Watch};
+ghost use Rattle.fdb_uses.specs.Stale.{is_stale};
 
-pub mod lines;
 pub mod live;
 
 use fdb_chain::ChainError;
@@ -27,6 +39,10 @@ use fdb_client::{
     run_workload,
 };
 use fdb_history::{Ask, GrvOpts, History, Issued, MAX_VERSION, OpenGate, Record, laws};
+use fdb_lines::{
+    AuditOpts, Fault, Found, Line, LineError, Log, Settled, Watch, WatchError, findings,
+    first_finding,
+};
 use fdb_live::{Ack, Fetched, Live, LiveError, Master, Opened, Seen};
 use fdb_proxy::Desk;
 use fdb_replay::run;
@@ -38,10 +54,10 @@ use std::thread::Threads;
 /// A client's reads never fall, but for one that asks for the minimum known committed version. Each
 /// is within bounds: its version is one of its record's two, of which the minimum is not above the
 /// other, and its position not above twice that.
-pub fn read_twice<J: Live, R: Wait>(
+pub fn read_twice<S: Live, R: Wait>(
     rt: &R,
-    desk: &Desk<J>,
-    client: &mut Client<'_, J>,
+    desk: &Desk<S>,
+    client: &mut Client<'_, S>,
     first: GrvOpts,
     second: GrvOpts,
 ) -> Result<(ReadVersion, ReadVersion), ClientError>
@@ -58,10 +74,10 @@ pub fn read_twice<J: Live, R: Wait>(
 }
 
 /// A new client that draws a version, reports it and reads gets none below it.
-pub fn commit_and_read<J: Live, R: Wait>(
+pub fn commit_and_read<S: Live, R: Wait>(
     rt: &R,
-    desk: &Desk<J>,
-    client: &mut Client<'_, J>,
+    desk: &Desk<S>,
+    client: &mut Client<'_, S>,
     at: u64,
     opts: GrvOpts,
 ) -> Result<(Issued, ReadVersion), ClientError>
@@ -77,10 +93,10 @@ pub fn commit_and_read<J: Live, R: Wait>(
 
 /// Who was told draws a version above the one that the teller had drawn, and its next one is above
 /// that.
-pub fn ask_once_told<J: Live, R: Wait>(
+pub fn ask_once_told<S: Live, R: Wait>(
     rt: &R,
-    teller: &mut Client<'_, J>,
-    learner: &mut Client<'_, J>,
+    teller: &mut Client<'_, S>,
+    learner: &mut Client<'_, S>,
     at: u64,
 ) -> Result<(u64, u64, u64), ClientError>
     ensures told { IfOk result (λ versions. versions.0 < versions.1) }
@@ -96,11 +112,11 @@ pub fn ask_once_told<J: Live, R: Wait>(
 
 /// Who reported the version that it was issued under a number reads none below it, and who was told
 /// reads none below what the teller had reported or read.
-pub fn read_once_told<J: Live, R: Wait>(
+pub fn read_once_told<S: Live, R: Wait>(
     rt: &R,
-    desk: &Desk<J>,
-    teller: &mut Client<'_, J>,
-    learner: &mut Client<'_, J>,
+    desk: &Desk<S>,
+    teller: &mut Client<'_, S>,
+    learner: &mut Client<'_, S>,
     num: u64,
     first: GrvOpts,
     second: GrvOpts,
@@ -120,14 +136,14 @@ pub fn read_once_told<J: Live, R: Wait>(
 }
 
 /// One client tells another what it has seen, who has then seen no less.
-pub fn tell<J: Live, R: Wait>(
+pub fn tell<S: Live, R: Wait>(
     rt: &R,
-    teller: &mut Client<'_, J>,
-    learner: &mut Client<'_, J>,
+    teller: &mut Client<'_, S>,
+    learner: &mut Client<'_, S>,
 ) -> Result<(), ClientError>
     ensures stays { teller.new.changes ≡ teller.old.changes }
-    ensures knows { IfOk result (λ _. (last_record J.start teller.old.changes).version
-        ≤ (last_record J.start learner.new.changes).version) }
+    ensures knows { IfOk result (λ _. (last_record S.start teller.old.changes).version
+        ≤ (last_record S.start learner.new.changes).version) }
     ensures drew { IfOk result
         (λ _. least_above teller.old.answers ≤ least_above learner.new.answers) }
 {
@@ -139,28 +155,28 @@ pub fn tell<J: Live, R: Wait>(
 }
 
 /// An acknowledgement is within bounds, as a read is, with the record that its client has then seen.
-pub fn report_within<J: Live, R: Wait>(
+pub fn report_within<S: Live, R: Wait>(
     rt: &R,
-    client: &mut Client<'_, J>,
+    client: &mut Client<'_, S>,
     num: u64,
 ) -> Result<Ack, ClientError>
-    ensures minimum { IfOk result (λ _. (last_record J.start client.new.changes).min_known
-        ≤ (last_record J.start client.new.changes).version) }
+    ensures minimum { IfOk result (λ _. (last_record S.start client.new.changes).min_known
+        ≤ (last_record S.start client.new.changes).version) }
     ensures greatest { IfOk result
-        (λ _. (last_record J.start client.new.changes).version ≤ MAX_VERSION) }
+        (λ _. (last_record S.start client.new.changes).version ≤ MAX_VERSION) }
     ensures position { IfOk result
-        (λ ack. ack.position ≤ 2 * (last_record J.start client.new.changes).version) }
+        (λ ack. ack.position ≤ 2 * (last_record S.start client.new.changes).version) }
 {
     client.report(rt, &OpenGate, num, false, None, 0)
 }
 
 /// The master that was opened, with the tokens of its commit proxies. It is refused for memory alone.
-pub fn share<J: Live>(opened: Opened) -> Result<(Master<J>, Vec<Seen<J>>), AllocError>
-    requires chained { J.chained ≡ true }
+pub fn share<S: Live>(opened: Opened) -> Result<(Master<S>, Vec<Seen<S>>), AllocError>
+    requires chained { S.chained ≡ true }
     requires opened { opened
-        ≡ origin_of J.table J.start J.reporters J.chained J.epoch_end J.recovery }
+        ≡ origin_of S.table S.start S.reporters S.chained S.epoch_end S.recovery }
 {
-    match opened.master::<J>() {
+    match opened.master::<S>() {
         Ok((master, _, tokens)) => Ok((master, tokens)),
         Err(LiveError::Memory) => Err(AllocError),
         Err(_) => unreachable!(),
@@ -170,10 +186,10 @@ pub fn share<J: Live>(opened: Opened) -> Result<(Master<J>, Vec<Seen<J>>), Alloc
 /// A version that is drawn after a read is above the version that was read, unless it is the first
 /// one of all, and above all that its proxy had drawn or seen drawn. A read leaves the proxy's next
 /// number as it was.
-pub fn draw_after_read<J: Live, R: Wait>(
+pub fn draw_after_read<S: Live, R: Wait>(
     rt: &R,
-    master: &Master<J>,
-    token: &mut Seen<J>,
+    master: &Master<S>,
+    token: &mut Seen<S>,
     ask: Ask,
 ) -> Result<(Fetched, Issued), ChainError>
     requires { token.old.reporter ≡ Some ask.proxy }
@@ -192,10 +208,10 @@ pub fn draw_after_read<J: Live, R: Wait>(
 }
 
 /// Who has drawn a version may report it, and reads none below it then. What it reads was drawn.
-pub fn draw_and_report<J: Live, R: Wait>(
+pub fn draw_and_report<S: Live, R: Wait>(
     rt: &R,
-    master: &Master<J>,
-    token: &mut Seen<J>,
+    master: &Master<S>,
+    token: &mut Seen<S>,
     ask: Ask,
 ) -> Option<(u64, Fetched)>
     requires { token.old.reporter ≡ Some ask.proxy }
@@ -219,11 +235,11 @@ pub fn draw_and_report<J: Live, R: Wait>(
 
 /// Two versions that two commit proxies draw, whenever each does, are different. Each may then report
 /// its own.
-pub fn draw_two<J: Live, R: Wait>(
+pub fn draw_two<S: Live, R: Wait>(
     rt: &R,
-    master: &Master<J>,
-    first: &mut Seen<J>,
-    second: &mut Seen<J>,
+    master: &Master<S>,
+    first: &mut Seen<S>,
+    second: &mut Seen<S>,
     ask: Ask,
     other: Ask,
 ) -> Option<(u64, u64)>
@@ -281,4 +297,73 @@ pub fn run_within<R: Threads + Wait + Sync>(
 {
     laws::positions_below_versions();
     run(rt, alloc, script, proxies, &OpenGate)
+}
+
+/// Whether some history explains a log, which is so exactly where it has no fault.
+pub fn is_explained(alloc: Global, log: &Log, opts: &AuditOpts) -> Result<bool, AllocError>
+    ensures { IfOk result
+        (λ answer. IsTrue answer ↔ AreExplained (case_of (lines_of log.now) opts.now)) }
+{
+    Ok(first_finding(alloc, log, None, opts)?.is_none())
+}
+
+/// How many of its faults are stale reads.
+pub fn stale_reads(alloc: Global, log: &Log, opts: &AuditOpts) -> Result<usize, AllocError>
+    ensures { IfOk result
+        (λ n. n ≡ count_by is_stale (faults_of (case_of (lines_of log.now) opts.now))) }
+{
+    Ok(
+        findings(alloc, log, None, opts)?
+            .iter()
+            .filter(|finding| is_stale(&finding.found))
+            .count(),
+    )
+}
+
+/// Whether a fault is a stale read: of a version below one that its caller knew.
+fn is_stale(found: &Found) -> bool
+    ensures { result ≡ is_stale found.now }
+{
+    found.fault == Fault::Order
+}
+
+/// Whether there was no fault to tell.
+pub fn is_fine(settled: &Settled) -> bool
+    ensures { (watch : Watch) (to : Option ℕ) (lines : List Line)
+        → IsTold watch to lines settled.now.numbers.items settled.now.found.items
+        → IsTrue result ↔ (told_of watch.margin (due watch to) lines ≡ []) }
+{
+    settled.found.is_empty()
+}
+
+/// The number, among all lines that ever came, of the first line of which a fault is told.
+pub fn first_faulty(settled: &Settled) -> Option<u64>
+    ensures { (watch : Watch) (to : Option ℕ) (lines : List Line)
+        → IsTold watch to lines settled.now.numbers.items settled.now.found.items
+        → result ≡ option_map (λ (found : Found). found.line)
+        (slice_get (told_of watch.margin (due watch to) lines) 0) }
+{
+    let first = settled.found.first()?;
+    Some(settled.number(first.found.line))
+}
+
+/// Adds a line and settles up to a moment: what is told is told of all lines, with this one.
+pub fn push_and_settle(
+    watch: &mut Watch,
+    alloc: Global,
+    line: Line,
+    at: u64,
+) -> Result<Settled, WatchError>
+    ensures seen { OnOk result ((lines : List Line) → HasSeen watch.old lines
+        → HasSeen watch.new (lines ++ line ∷ [])) }
+    ensures told { IfOk result (λ it. (lines : List Line) → HasSeen watch.old lines
+        → map (λ finding. placed_found it.numbers.items (found_of finding)) it.found.items
+        ≡ told_of watch.old.margin (due watch.old (Some (max watch.old.from at)))
+        (lines ++ line ∷ [])) }
+{
+    watch.push(line)?;
+    match watch.settle(alloc, at) {
+        Ok(settled) => Ok(settled),
+        Err(_refused) => Err(WatchError::Line(LineError::Memory)),
+    }
 }

@@ -67,23 +67,23 @@ pub(crate) fn two_threads<R: Print + Threads + Wait + Sync>(rt: &R, alloc: Globa
 }
 
 /// Shares out a master and the tokens of its commit proxies, under a name that stands for it.
-fn draw_named<J: Live + Send + Sync, R: Print + Threads + Wait + Sync>(
+fn draw_named<S: Live + Send + Sync, R: Print + Threads + Wait + Sync>(
     rt: &R,
     opened: Opened,
 ) -> Result<()>
-    requires chained { J.chained ≡ true }
+    requires chained { S.chained ≡ true }
     requires opened { opened
-        ≡ origin_of J.table J.start J.reporters J.chained J.epoch_end J.recovery }
+        ≡ origin_of S.table S.start S.reporters S.chained S.epoch_end S.recovery }
 {
-    let (master, _, mut tokens) = opened.master::<J>()?;
+    let (master, _, mut tokens) = opened.master::<S>()?;
     draw_both(rt, &master, tokens.as_mut_slice())
 }
 
 /// Both draw at once, each in a thread of its own, and draw again once told of the other's.
-fn draw_both<J: Live + Send + Sync, R: Print + Threads + Wait + Sync>(
+fn draw_both<S: Live + Send + Sync, R: Print + Threads + Wait + Sync>(
     rt: &R,
-    master: &Master<J>,
-    tokens: &mut [Seen<J>],
+    master: &Master<S>,
+    tokens: &mut [Seen<S>],
 ) -> Result<()> {
     if tokens.len() != 2 {
         return Err(anyhow!("two commit proxies are wanted"));
@@ -109,30 +109,30 @@ fn draw_both<J: Live + Send + Sync, R: Print + Threads + Wait + Sync>(
 
 /// What one thread hands to another: a version that it drew, and a token of what it has seen.
 #[derive(Drop)]
-struct Told<J: Live> {
+struct Told<S: Live> {
     version: u64,
-    token: Seen<J>,
+    token: Seen<S>,
     ghost nobodys: { token.reporter ≡ None },
     ghost drawn: { version < least_above token.answers },
 }
 
 /// Draws a version, to be told to another thread.
-fn draw_and_tell<J: Live, R: Wait>(
+fn draw_and_tell<S: Live, R: Wait>(
     rt: &R,
-    master: &Master<J>,
-    token: &mut Seen<J>,
-) -> Result<Told<J>> {
+    master: &Master<S>,
+    token: &mut Seen<S>,
+) -> Result<Told<S>> {
     let version = draw(rt, master, token, 1)?;
     let token = master.record().split(token);
     Ok(Told { version, token })
 }
 
 /// Draws a version above the one that it was told of, and answers both.
-fn draw_once_told<J: Live, R: Wait>(
+fn draw_once_told<S: Live, R: Wait>(
     rt: &R,
-    master: &Master<J>,
-    token: &mut Seen<J>,
-    told: Told<J>,
+    master: &Master<S>,
+    token: &mut Seen<S>,
+    told: Told<S>,
 ) -> Result<(u64, u64)>
     ensures { IfOk result (λ both. both.0 < both.1) }
 {
@@ -145,7 +145,7 @@ fn draw_once_told<J: Live, R: Wait>(
 }
 
 /// Draws a version under this number, above all that its commit proxy has seen or was told of.
-fn draw<J: Live, R: Wait>(rt: &R, master: &Master<J>, token: &mut Seen<J>, num: u64) -> Result<u64>
+fn draw<S: Live, R: Wait>(rt: &R, master: &Master<S>, token: &mut Seen<S>, num: u64) -> Result<u64>
     ensures above { IfOk result (λ version. least_above token.old.answers ≤ version) }
     ensures seen { IfOk result (λ version. version < least_above token.new.answers) }
 {
@@ -180,8 +180,8 @@ impl<R: Print + Wait> UnderName<R> for TwoReporters {
     type Output = Result<()>;
 
     /// Has both report, the greater version first. Then a token that had seen nothing reads.
-    fn run<J: Live + Send + Sync>(self, rt: &R, opened: Opened) -> Result<()> {
-        let (live, mut reader, mut reporters) = opened.parts::<J>()?;
+    fn run<S: Live + Send + Sync>(self, rt: &R, opened: Opened) -> Result<()> {
+        let (live, mut reader, mut reporters) = opened.parts::<S>()?;
         if reporters.len() != 2 {
             return Err(anyhow!("two reporters are wanted"));
         }

@@ -111,11 +111,11 @@ impl<R: Print + Wait> Workload<R> for CommitAndRead {
 
     /// The first draws two commit versions, and reports the second. Then each reads through a proxy
     /// of its own, and none reads less than it has seen committed.
-    fn start<J: Live>(
+    fn start<S: Live>(
         self,
         rt: &R,
-        cluster: &Cluster<'_, J>,
-        clients: &mut [Client<'_, J>],
+        cluster: &Cluster<'_, S>,
+        clients: &mut [Client<'_, S>],
     ) -> Result<()> {
         if clients.len() != 2 {
             return Err(anyhow!("two clients are wanted"));
@@ -161,21 +161,21 @@ pub(crate) fn two_readers<R: Print + Threads + Wait + Sync>(rt: &R, alloc: Globa
 
 /// Two clients read at once, while GRV proxies serve in threads of their own. One history of the
 /// register explains all that they were answered.
-fn read_side_by_side<J: Live + Send + Sync, R: Print + Threads + Wait + Sync>(
+fn read_side_by_side<S: Live + Send + Sync, R: Print + Threads + Wait + Sync>(
     rt: &R,
     alloc: Global,
     opened: OpenedCluster<'_>,
 ) -> Result<(SettledRun, History)>
-    requires chained { J.chained ≡ true }
+    requires chained { S.chained ≡ true }
     requires founding { opened.founding
-        ≡ origin_of J.table J.start J.reporters J.chained J.epoch_end J.recovery }
-    ensures { IfOk result (λ left. IsLinear J.start left.0.logs.items left.1.events) }
+        ≡ origin_of S.table S.start S.reporters S.chained S.epoch_end S.recovery }
+    ensures { IfOk result (λ left. IsLinear S.start left.0.logs.items left.1.events) }
 {
     let ClusterParts {
         cluster,
         mut first,
         tokens,
-    } = opened.parts::<J>(alloc)?;
+    } = opened.parts::<S>(alloc)?;
     let clients = clients_of(alloc, cluster.master(), tokens)?;
     let Served { output, ends } = serve_while(rt, alloc, &cluster, &mut first, || {
         read_both(rt, alloc, &cluster, clients)
@@ -189,12 +189,12 @@ fn read_side_by_side<J: Live + Send + Sync, R: Print + Threads + Wait + Sync>(
 }
 
 /// Both read, each in a thread and at a desk of its own. Answers what they leave.
-fn read_both<J: Live + Send + Sync, R: Print + Threads + Wait + Sync>(
+fn read_both<S: Live + Send + Sync, R: Print + Threads + Wait + Sync>(
     rt: &R,
     alloc: Global,
-    cluster: &Cluster<'_, J>,
-    mut clients: Vec<Client<'_, J>>,
-) -> Result<Finished<J>> {
+    cluster: &Cluster<'_, S>,
+    mut clients: Vec<Client<'_, S>>,
+) -> Result<Finished<S>> {
     if clients.len() != 2 {
         return Err(anyhow!("two clients are wanted"));
     }

@@ -154,15 +154,15 @@ fn record_of(version: u64, turn: u64) -> Record
 
 /// What two threads call, with the tokens of every second proxy.
 #[derive(Drop)]
-struct Calls<'a, J: Live, R> {
+struct Calls<'a, S: Live, R> {
     rt: &'a R,
-    master: &'a Master<J>,
+    master: &'a Master<S>,
     gate: &'a InTurn,
 }
 
-impl<J: Live, R: Wait> Calls<'_, J, R> {
+impl<S: Live, R: Wait> Calls<'_, S, R> {
     /// Has every second turn, from the first one or the one after it, with the tokens in turn.
-    fn play(&self, tokens: &mut VecDeque<Seen<J>>, first: bool) {
+    fn play(&self, tokens: &mut VecDeque<Seen<S>>, first: bool) {
         let mut position = 0;
         for place in 0..TURNS / 2 {
             let turn = if first { 2 * place } else { 2 * place + 1 };
@@ -183,7 +183,7 @@ impl<J: Live, R: Wait> Calls<'_, J, R> {
     }
 
     /// Compares tokens of less and of more, with and without a number.
-    fn meet_beside(&self, less: &mut Seen<J>, more: &mut Seen<J>) {
+    fn meet_beside(&self, less: &mut Seen<S>, more: &mut Seen<S>) {
         let live = self.master.record();
         let (mut one, mut another) = (live.split(less), live.split(more));
         live.meet(self.rt, less, more);
@@ -196,7 +196,7 @@ impl<J: Live, R: Wait> Calls<'_, J, R> {
     }
 
     /// Learns more, as much and less, with a number and without.
-    fn learn_beside(&self, less: &mut Seen<J>, more: &mut Seen<J>) {
+    fn learn_beside(&self, less: &mut Seen<S>, more: &mut Seen<S>) {
         let live = self.master.record();
         let (mut one, mut another) = (live.split(less), live.split(more));
         live.learn(self.rt, &mut another, live.split(less));
@@ -209,7 +209,7 @@ impl<J: Live, R: Wait> Calls<'_, J, R> {
 
     /// Reads with a number and without, as who has seen less and who has seen all. Where a report is
     /// held, nothing of it is seen.
-    fn read_beside(&self, token: &mut Seen<J>, position: u64) {
+    fn read_beside(&self, token: &mut Seen<S>, position: u64) {
         let live = self.master.record();
         let mut reader = live.split(token);
         let found = live.read(self.rt, token).position;
@@ -223,7 +223,7 @@ impl<J: Live, R: Wait> Calls<'_, J, R> {
 
     /// Where a report is held, makes requests that are refused: of number 0 and too early, where
     /// nothing was processed and where something was.
-    fn ask_beside(&self, token: &mut Seen<J>) {
+    fn ask_beside(&self, token: &mut Seen<S>) {
         if self.gate.held != Place::ReportHeld {
             return;
         }
@@ -232,7 +232,7 @@ impl<J: Live, R: Wait> Calls<'_, J, R> {
         }
     }
 
-    fn ask_in_vain(&self, token: &mut Seen<J>, num: u64, processed: u64) {
+    fn ask_in_vain(&self, token: &mut Seen<S>, num: u64, processed: u64) {
         let Some(proxy) = token.reporter() else {
             self.gate.holds(false);
             return;
@@ -248,7 +248,7 @@ impl<J: Live, R: Wait> Calls<'_, J, R> {
     }
 
     /// Asks, and reports what is answered. Answers the position then.
-    fn call(&self, token: &mut Seen<J>, turn: u64) -> u64 {
+    fn call(&self, token: &mut Seen<S>, turn: u64) -> u64 {
         let Some(proxy) = token.reporter() else {
             self.gate.holds(false);
             return 0;
@@ -263,7 +263,7 @@ impl<J: Live, R: Wait> Calls<'_, J, R> {
         }
     }
 
-    fn report(&self, token: &mut Seen<J>, proxy: u32, issued: Issued, turn: u64) -> u64
+    fn report(&self, token: &mut Seen<S>, proxy: u32, issued: Issued, turn: u64) -> u64
         requires numbered { IsSome token.old.reporter }
         requires drawn { Contains (versions token.old.answers) issued.version }
     {
@@ -277,17 +277,17 @@ impl<J: Live, R: Wait> Calls<'_, J, R> {
 }
 
 /// Whether all have their turns in a lock.
-fn are_in_turn<J: Live + Send + Sync, R: Threads + Wait + Sync>(
+fn are_in_turn<S: Live + Send + Sync, R: Threads + Wait + Sync>(
     rt: &R,
     alloc: Global,
     opened: Opened,
     held: Place,
 ) -> Result<bool, AllocError>
-    requires chained { J.chained ≡ true }
+    requires chained { S.chained ≡ true }
     requires opened { opened
-        ≡ origin_of J.table J.start J.reporters J.chained J.epoch_end J.recovery }
+        ≡ origin_of S.table S.start S.reporters S.chained S.epoch_end S.recovery }
 {
-    let Ok((master, _, tokens)) = opened.master::<J>() else {
+    let Ok((master, _, tokens)) = opened.master::<S>() else {
         return Err(AllocError);
     };
     let (mut evens, mut odds) = (VecDeque::new(alloc), VecDeque::new(alloc));

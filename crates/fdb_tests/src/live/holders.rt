@@ -23,9 +23,9 @@ use std::thread::{self, Threads};
 
 /// The live record of a service with no chain.
 #[derive(Drop)]
-pub(crate) struct Bare<J: Live> {
-    pub(crate) record: LiveRecord<J>,
-    pub(crate) ghost bare: { J.chained ≡ false },
+pub(crate) struct Bare<S: Live> {
+    pub(crate) record: LiveRecord<S>,
+    pub(crate) ghost bare: { S.chained ≡ false },
 }
 
 /// Counts how often a reporter passes with the lock of the reports, and twice what else passes.
@@ -45,22 +45,22 @@ impl Gate for Passes {
 
 /// A live record, and the tokens that nobody calls with just now.
 #[derive(Drop)]
-pub(crate) struct Holders<'a, J: Live, R> {
+pub(crate) struct Holders<'a, S: Live, R> {
     pub(crate) rt: &'a R,
-    pub(crate) live: Bare<J>,
-    pub(crate) tokens: Vec<Option<Seen<J>>>,
+    pub(crate) live: Bare<S>,
+    pub(crate) tokens: Vec<Option<Seen<S>>>,
 }
 
-impl<'a, J: Live, R: Wait> Holders<'a, J, R> {
+impl<'a, S: Live, R: Wait> Holders<'a, S, R> {
     /// The holders of all tokens that a record is opened with.
     pub(crate) fn of(
         rt: &'a R,
         alloc: Global,
-        record: LiveRecord<J>,
-        first: Seen<J>,
-        numbered: Vec<Seen<J>>,
+        record: LiveRecord<S>,
+        first: Seen<S>,
+        numbered: Vec<Seen<S>>,
     ) -> Result<Self, AllocError>
-        requires { J.chained ≡ false }
+        requires { S.chained ≡ false }
     {
         let mut tokens = Vec::new(alloc);
         for token in numbered {
@@ -95,13 +95,13 @@ impl<'a, J: Live, R: Wait> Holders<'a, J, R> {
         }
     }
 
-    fn read(&self, token: &mut Seen<J>, line: &mut TableLine<'_>) {
+    fn read(&self, token: &mut Seen<S>, line: &mut TableLine<'_>) {
         let fetched = self.live.record.read(self.rt, token);
         line.say(fetched.rec);
         line.say(format_args!("at {}", fetched.position));
     }
 
-    fn report(&self, token: &mut Seen<J>, line: &mut TableLine<'_>) {
+    fn report(&self, token: &mut Seen<S>, line: &mut TableLine<'_>) {
         let rec = record(line);
         let Some(number) = token.reporter() else {
             line.fails("no reporter");
@@ -118,7 +118,7 @@ impl<'a, J: Live, R: Wait> Holders<'a, J, R> {
         say_ack(line, found);
     }
 
-    fn split(&mut self, token: &mut Seen<J>, line: &mut TableLine<'_>) {
+    fn split(&mut self, token: &mut Seen<S>, line: &mut TableLine<'_>) {
         let other = self.live.record.split(token);
         say_token(line, &other);
         line.takes(self.tokens.push(Some(other)));
@@ -126,7 +126,7 @@ impl<'a, J: Live, R: Wait> Holders<'a, J, R> {
 
     /// The holder of a token meets that of another, which the next word names, or learns what it has
     /// seen.
-    fn meet(&mut self, call: &str, token: &mut Seen<J>, line: &mut TableLine<'_>) {
+    fn meet(&mut self, call: &str, token: &mut Seen<S>, line: &mut TableLine<'_>) {
         if let Some(Some(other)) = self.tokens.get_mut(line.who() as usize) {
             if call == "meets" {
                 self.live.record.meet(self.rt, token, other);
@@ -140,9 +140,9 @@ impl<'a, J: Live, R: Wait> Holders<'a, J, R> {
 }
 
 /// Plays a text.
-pub(crate) fn play<J: Live + Send + Sync, R: Threads + Wait + Sync>(
+pub(crate) fn play<S: Live + Send + Sync, R: Threads + Wait + Sync>(
     alloc: Global,
-    holders: &mut Holders<'_, J, R>,
+    holders: &mut Holders<'_, S, R>,
     text: &str,
 ) -> Result<(), CaseError> {
     for mut line in lines_of(alloc, text, 0)? {
@@ -156,7 +156,7 @@ pub(crate) fn play<J: Live + Send + Sync, R: Threads + Wait + Sync>(
 }
 
 /// Says the number and the position of a token.
-fn say_token<J: Live>(line: &mut TableLine<'_>, token: &Seen<J>) {
+fn say_token<S: Live>(line: &mut TableLine<'_>, token: &Seen<S>) {
     match token.reporter() {
         Some(number) => line.say(number),
         None => line.say("nobody"),
@@ -219,8 +219,8 @@ impl Gate for OneByOne {
 
 /// One that reports if its token has a number, and reads if it has none.
 #[derive(Drop)]
-struct Worker<J: Live> {
-    token: Seen<J>,
+struct Worker<S: Live> {
+    token: Seen<S>,
     /// The version that it read last, and 0 before it has read.
     version: u64,
     /// How many of its reports raised the record.
@@ -229,9 +229,9 @@ struct Worker<J: Live> {
     failed: bool,
 }
 
-impl<J: Live> Worker<J> {
+impl<S: Live> Worker<S> {
     /// Reports rising versions that no other worker reports, or reads where its token has no number.
-    fn work<R: Wait>(&mut self, rt: &R, live: &Bare<J>, gate: &OneByOne, reporters: u64) {
+    fn work<R: Wait>(&mut self, rt: &R, live: &Bare<S>, gate: &OneByOne, reporters: u64) {
         for turn in 0..TURNS {
             let before = self.token.position();
             match self.token.reporter() {
@@ -245,7 +245,7 @@ impl<J: Live> Worker<J> {
         }
     }
 
-    fn report<R: Wait>(&mut self, rt: &R, live: &Bare<J>, gate: &OneByOne, who: u32, version: u64)
+    fn report<R: Wait>(&mut self, rt: &R, live: &Bare<S>, gate: &OneByOne, who: u32, version: u64)
         requires { self.old.token.reporter ≡ Some who }
     {
         match live
@@ -257,7 +257,7 @@ impl<J: Live> Worker<J> {
         }
     }
 
-    fn read<R: Wait>(&mut self, rt: &R, live: &Bare<J>) {
+    fn read<R: Wait>(&mut self, rt: &R, live: &Bare<S>) {
         let version = live.record.read(rt, &mut self.token).rec.version;
         self.failed |= version < self.version;
         self.version = version;
@@ -265,10 +265,10 @@ impl<J: Live> Worker<J> {
 }
 
 /// A worker for each token.
-fn workers_of<J: Live, R: Wait>(
-    holders: &mut Holders<'_, J, R>,
+fn workers_of<S: Live, R: Wait>(
+    holders: &mut Holders<'_, S, R>,
     line: &mut TableLine<'_>,
-) -> Vec<Worker<J>> {
+) -> Vec<Worker<S>> {
     let mut workers = Vec::new(line.alloc);
     for token in holders.tokens.iter_mut() {
         if let Some(token) = token.take() {
@@ -285,8 +285,8 @@ fn workers_of<J: Live, R: Wait>(
 
 /// Every reporter reports rising versions that no other has, and whoever has another token reads beside
 /// them. Then the greatest version stands, at the position that counts the raises.
-fn run_all<J: Live + Send + Sync, R: Threads + Wait + Sync>(
-    holders: &mut Holders<'_, J, R>,
+fn run_all<S: Live + Send + Sync, R: Threads + Wait + Sync>(
+    holders: &mut Holders<'_, S, R>,
     line: &mut TableLine<'_>,
 ) {
     let reporters = line.number();
@@ -315,7 +315,7 @@ fn run_all<J: Live + Send + Sync, R: Threads + Wait + Sync>(
 }
 
 /// How many reports raised the record. No worker failed.
-fn raises_of<J: Live>(line: &mut TableLine<'_>, workers: &[Worker<J>]) -> u64 {
+fn raises_of<S: Live>(line: &mut TableLine<'_>, workers: &[Worker<S>]) -> u64 {
     let mut raises = 0u64;
     for worker in workers {
         line.holds(!worker.failed, "what was seen fell, or was refused");

@@ -34,11 +34,11 @@ pub fn open<R: Wait>(
 
 /// The live record that was opened, with a token for who only reads, which has seen no change yet. It
 /// is refused for memory alone.
-pub fn share<J: Live>(opened: Opened) -> Result<(LiveRecord<J>, Seen<J>), AllocError>
-    requires { opened ≡ origin_of J.table J.start J.reporters J.chained J.epoch_end J.recovery }
+pub fn share<S: Live>(opened: Opened) -> Result<(LiveRecord<S>, Seen<S>), AllocError>
+    requires { opened ≡ origin_of S.table S.start S.reporters S.chained S.epoch_end S.recovery }
     ensures { IfOk result (λ parts. parts.1.changes ≡ []) }
 {
-    match opened.parts::<J>() {
+    match opened.parts::<S>() {
         Ok((live, reader, _)) => Ok((live, reader)),
         Err(LiveError::Memory) => Err(AllocError),
         Err(_) => unreachable!(),
@@ -46,14 +46,14 @@ pub fn share<J: Live>(opened: Opened) -> Result<(LiveRecord<J>, Seen<J>), AllocE
 }
 
 /// Who reported a version reads none below it.
-pub fn report_and_look<J: Live, R: Wait>(
+pub fn report_and_look<S: Live, R: Wait>(
     rt: &R,
-    live: &LiveRecord<J>,
-    seen: &mut Seen<J>,
+    live: &LiveRecord<S>,
+    seen: &mut Seen<S>,
     rec: Record,
 ) -> Result<Fetched, LiveError>
     requires mine { IsSome seen.old.reporter }
-    requires bare { J.chained ≡ false }
+    requires bare { S.chained ≡ false }
     ensures { IfOk result (λ read. rec.version ≤ read.rec.version) }
 {
     live.report(rt, &OpenGate, 0, seen, rec)?;
@@ -63,10 +63,10 @@ pub fn report_and_look<J: Live, R: Wait>(
 /// Of two reads with one token the second is of no older version, and of no earlier position. A read is
 /// within bounds: its minimum known committed version is not above its version, and its position, the
 /// number of reports that changed the record, not above twice that.
-pub fn look_twice<J: Live, R: Wait>(
+pub fn look_twice<S: Live, R: Wait>(
     rt: &R,
-    live: &LiveRecord<J>,
-    seen: &mut Seen<J>,
+    live: &LiveRecord<S>,
+    seen: &mut Seen<S>,
 ) -> (Fetched, Fetched)
     ensures rises { result.0.rec.version ≤ result.1.rec.version }
     ensures order { result.0.position ≤ result.1.position }
@@ -80,27 +80,27 @@ pub fn look_twice<J: Live, R: Wait>(
 }
 
 /// Where there is no chain of commit versions, who looks sees no answer of one.
-pub fn look_beside_no_chain<J: Live, R: Wait>(
+pub fn look_beside_no_chain<S: Live, R: Wait>(
     rt: &R,
-    live: &LiveRecord<J>,
-    seen: &mut Seen<J>,
+    live: &LiveRecord<S>,
+    seen: &mut Seen<S>,
 ) -> Fetched
-    requires { J.chained ≡ false }
+    requires { S.chained ≡ false }
     ensures { seen.new.answers ≡ [] }
 {
     live.read(rt, seen)
 }
 
 /// Who learns what another had read, and what that one had reported, reads no older version.
-pub fn look_once_told<J: Live, R: Wait>(
+pub fn look_once_told<S: Live, R: Wait>(
     rt: &R,
-    live: &LiveRecord<J>,
-    teller: &mut Seen<J>,
-    learner: &mut Seen<J>,
+    live: &LiveRecord<S>,
+    teller: &mut Seen<S>,
+    learner: &mut Seen<S>,
     rec: Record,
 ) -> Result<(Fetched, Fetched), LiveError>
     requires mine { IsSome teller.old.reporter }
-    requires bare { J.chained ≡ false }
+    requires bare { S.chained ≡ false }
     ensures reported { IfOk result (λ reads. rec.version ≤ reads.1.rec.version) }
     ensures read { IfOk result (λ reads. reads.0.rec.version ≤ reads.1.rec.version) }
 {
@@ -116,53 +116,53 @@ pub fn look_once_told<J: Live, R: Wait>(
 /// minimum is not below the one that was reported. Who reports a version above all that it has seen,
 /// and is told that this raised the record, has its next look begin from that version; where it is told
 /// that this changed the record, from one that is not below it.
-pub fn report_within<J: Live, R: Wait>(
+pub fn report_within<S: Live, R: Wait>(
     rt: &R,
-    live: &LiveRecord<J>,
-    seen: &mut Seen<J>,
+    live: &LiveRecord<S>,
+    seen: &mut Seen<S>,
     rec: Record,
 ) -> Result<Ack, LiveError>
     requires mine { IsSome seen.old.reporter }
-    requires bare { J.chained ≡ false }
-    ensures minimum { IfOk result (λ _. (last_record J.start seen.new.changes).min_known
-        ≤ (last_record J.start seen.new.changes).version) }
+    requires bare { S.chained ≡ false }
+    ensures minimum { IfOk result (λ _. (last_record S.start seen.new.changes).min_known
+        ≤ (last_record S.start seen.new.changes).version) }
     ensures covers { IfOk result
-        (λ _. rec.min_known ≤ (last_record J.start seen.new.changes).min_known) }
+        (λ _. rec.min_known ≤ (last_record S.start seen.new.changes).min_known) }
     ensures greatest { IfOk result
-        (λ _. (last_record J.start seen.new.changes).version ≤ MAX_VERSION) }
+        (λ _. (last_record S.start seen.new.changes).version ≤ MAX_VERSION) }
     ensures position { IfOk result
-        (λ ack. ack.position ≤ 2 * (last_record J.start seen.new.changes).version) }
+        (λ ack. ack.position ≤ 2 * (last_record S.start seen.new.changes).version) }
     ensures begins { IfOk result (λ ack. ack.position ≡ length seen.new.changes) }
-    ensures raised { (last_record J.start seen.old.changes).version < rec.version
+    ensures raised { (last_record S.start seen.old.changes).version < rec.version
         → IfOk result (λ ack. ack.raised ≡ true
-        → (last_record J.start seen.new.changes).version ≡ rec.version) }
-    ensures changed { (last_record J.start seen.old.changes).version < rec.version
+        → (last_record S.start seen.new.changes).version ≡ rec.version) }
+    ensures changed { (last_record S.start seen.old.changes).version < rec.version
         → IfOk result (λ ack. ack.changed ≡ true
-        → rec.version ≤ (last_record J.start seen.new.changes).version) }
+        → rec.version ≤ (last_record S.start seen.new.changes).version) }
 {
     live.report(rt, &OpenGate, 0, seen, rec)
 }
 
 /// Of two tokens one has seen all changes and all answers that the other has, and the changes are those
 /// of the service's own reporters.
-pub fn compare<J: Live, R: Wait>(
+pub fn compare<S: Live, R: Wait>(
     rt: &R,
-    live: &LiveRecord<J>,
-    first: &mut Seen<J>,
-    second: &mut Seen<J>,
+    live: &LiveRecord<S>,
+    first: &mut Seen<S>,
+    second: &mut Seen<S>,
 )
     ensures changes { IsPrefix first.new.changes second.new.changes
         ⊎ IsPrefix second.new.changes first.new.changes }
     ensures answers { IsPrefix first.new.answers second.new.answers
         ⊎ IsPrefix second.new.answers first.new.answers }
-    ensures reporters { All (λ change. change.reporter < J.reporters) first.new.changes }
+    ensures reporters { All (λ change. change.reporter < S.reporters) first.new.changes }
 {
     live.meet(rt, first, second);
 }
 
 /// A second token of what a first has seen, and how much that is: each of these changes is a reporter's.
-pub fn second_of<J: Live>(live: &LiveRecord<J>, token: &mut Seen<J>) -> (Seen<J>, u64)
-    ensures { All (λ change. change.reporter < J.reporters) result.0.changes }
+pub fn second_of<S: Live>(live: &LiveRecord<S>, token: &mut Seen<S>) -> (Seen<S>, u64)
+    ensures { All (λ change. change.reporter < S.reporters) result.0.changes }
 {
     let second = live.split(token);
     let position = second.position();
@@ -171,13 +171,13 @@ pub fn second_of<J: Live>(live: &LiveRecord<J>, token: &mut Seen<J>) -> (Seen<J>
 
 /// Once what all have seen is brought together, each position up to there is one reporter's own. The
 /// token by which that is done has forgotten no answer, and has reported and drawn what it had.
-pub fn bring_together<J: Live, R: Wait>(
+pub fn bring_together<S: Live, R: Wait>(
     rt: &R,
-    live: &LiveRecord<J>,
-    first: &mut Seen<J>,
-    tokens: &mut [Seen<J>],
+    live: &LiveRecord<S>,
+    first: &mut Seen<S>,
+    tokens: &mut [Seen<S>],
 ) -> u64
-    requires count { length tokens.old ≡ J.reporters }
+    requires count { length tokens.old ≡ S.reporters }
     requires numbered { AreNumbered tokens.old }
     ensures owned { (position : ℕ) → 1 ≤ position → position ≤ result
         → IsOwnedOnce tokens.new position }

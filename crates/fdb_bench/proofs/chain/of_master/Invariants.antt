@@ -2,8 +2,8 @@ use Rattle.std.proofs.Common.{true}
 use Rattle.fdb_bench.proofs.chain.of_master.Given as goal
 
 -- the service that was just opened
-abbrev pub ghosts-draw_named-J-Live : goal.ghosts-draw_named-J-Live
-ghosts-draw_named-J-Live g a = record { table = a.opened.table; chained = true }
+abbrev pub ghosts-draw_named-S-Live : goal.ghosts-draw_named-S-Live
+ghosts-draw_named-S-Live g a = record { table = a.opened.table; chained = true }
 
-abbrev pub ghosts-draw_named-J-Service : goal.ghosts-draw_named-J-Service
-ghosts-draw_named-J-Service g a = record { epoch_end = 0; recovery = 100; start = a.opened.start; reporters = a.opened.reporters }
+abbrev pub ghosts-draw_named-S-Service : goal.ghosts-draw_named-S-Service
+ghosts-draw_named-S-Service g a = record { epoch_end = 0; recovery = 100; start = a.opened.start; reporters = a.opened.reporters }
