@@ -1,5 +1,5 @@
 -- The logs of all clients, beside one list of changes that all their tokens have seen.
-use Rattle.std.proofs.Common.{◌≡◌, ℕ, zero, suc, ◌+◌, ◌-◌, ◌<◌, ◌≤◌, ◌==◌, Bool, true, false, IsTrue, List, [], ◌∷◌, ◌++◌, length, Option, None, Some, if◌then◌else◌, refl, sym, ap, ◌∙◌, arith, slice_get, take, subst, inl, inr, length-append, append_assoc}
+use Rattle.std.proofs.Common.{◌≡◌, ℕ, zero, suc, ◌+◌, ◌-◌, ◌<◌, ◌≤◌, ◌==◌, Bool, true, false, List, [], ◌∷◌, map, ◌++◌, length, Option, None, Some, if◌then◌else◌, refl, sym, ap, ◌∙◌, arith, slice_get, take, subst, inl, inr, length-append, append_assoc}
 use Rattle.std.specs.Prelude.{All, nat_lt}
 use Rattle.std.specs.List.{AllByRecursion, flat_map}
 use Rattle.std.proofs.lemmas.Bool.{cases_lt}
@@ -10,11 +10,11 @@ use Rattle.std.proofs.lemmas.List.Elements.{All-head, All-tail, filter-append}
 use Rattle.std.proofs.lemmas.Option.{same_Some, slice_get_within}
 use mathlib.Core.List.{IsPrefix}
 use Rattle.fdb_history.specs.Audit.{Low}
-use Rattle.fdb_history.specs.Faults.{Nowhere, change_in, changes_in, changes_at, at_position, after_changes, register_at, IsFaultless, OutOfOrder, WronglyAnswered, IsClash, IsGap, IsOutOfOrder}
+use Rattle.fdb_history.specs.Faults.{Nowhere, change_in, changes_in, changes_at, at_position, register_at, IsFaultless, OutOfOrder, WronglyAnswered, IsClash, IsGap}
 use Rattle.fdb_history.specs.Laws.{HasMinimumWithin, HaveMinimaWithin}
 use Rattle.fdb_history.specs.Linear.{GoesForward, NeverGoesBack}
 use Rattle.fdb_history.specs.Log.{answer_changes, calls_of, position_after_calls}
-use Rattle.fdb_history.specs.Register.{after_report}
+use Rattle.fdb_history.specs.Register.{after_report, after_reports}
 use Rattle.fdb_history.specs.declared.auditing.registers.PlacedChange.{PlacedChange}
 use Rattle.fdb_history.specs.declared.chain.Issued.{Issued}
 use Rattle.fdb_history.specs.declared.log.Call.{Call}
@@ -23,7 +23,7 @@ use Rattle.fdb_history.specs.declared.log.CallAnswer.TheVariants.{Version, Acked
 use Rattle.fdb_history.specs.declared.log.ClientLog.{ClientLog}
 use Rattle.fdb_history.specs.declared.register.Record.{Record}
 use Rattle.fdb_live.specs.Gathering.{AreNumbered, HasCaughtUp}
-use Rattle.fdb_live.specs.Seen.{Sight, changed_by, last_record, own_among, own_positions}
+use Rattle.fdb_live.specs.Seen.{Sight, changed_by, last_record, own_among}
 use Rattle.fdb_live.specs.declared.view.Change.{Change}
 use Rattle.fdb_client.specs.Account.{Account}
 use Rattle.fdb_client.specs.Agreeing.{Agrees, AgreesAt, IsMade, changed_positions, record_at}
@@ -286,7 +286,7 @@ register_is start logs log each (suc i) within =
     let place : suc i - 1 ≡ i = omega arith in
     let here : changes_at logs (suc i) ≡ record { position = suc i; rec = r.rec } ∷ [] = each (suc i) (omega arith) ∙ ap (entry (suc i)) (ap (slice_get log) place ∙ is) in
     let before = register_is start logs log each i (omega arith) in
-    ap (after_changes (register_at start logs i)) here ∙ (ap (λ current. after_report current r.rec) before
+    ap (λ changes. after_reports (register_at start logs i) (map (λ change. change.rec) changes)) here ∙ (ap (λ current. after_report current r.rec) before
     ∙ sym (ap (last_record start) more ∙ last_record_more start (take i log) r))
 
 -- ---- no fault

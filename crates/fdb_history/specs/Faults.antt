@@ -1,10 +1,10 @@
 -- What can be wrong with the logs of a run, and where. A call is named by its client, which is the
 -- place of its log, and by its place in the log. (all of this is this product's own)
-use Rattle.std.specs.Prelude.{◌≡◌, ◌≢◌, ◌⊎◌, ℕ, Bool, zero, suc, ◌-◌, ◌<◌, ◌≤◌, ◌==◌, true, false, IsTrue, List, [], ◌∷◌, fold, length, take, filter, Some, slice_get}
+use Rattle.std.specs.Prelude.{◌≡◌, ◌≢◌, ◌⊎◌, ℕ, Bool, zero, suc, ◌-◌, ◌<◌, ◌≤◌, ◌==◌, true, false, List, [], ◌∷◌, map, length, take, filter, Some, slice_get}
 use Rattle.std.specs.List.{flat_map}
 use Rattle.fdb_history.specs.Linear.{GoesForward}
-use Rattle.fdb_history.specs.Log.{calls_of, position_after_calls, answer_changes}
-use Rattle.fdb_history.specs.Register.{raises, changes, after_report}
+use Rattle.fdb_history.specs.Log.{calls_of, position_after_calls}
+use Rattle.fdb_history.specs.Register.{raises, changes, after_reports}
 use Rattle.fdb_history.specs.declared.auditing.registers.PlacedChange.{PlacedChange}
 use Rattle.fdb_history.specs.declared.log.Call.{Call}
 use Rattle.fdb_history.specs.declared.log.CallAnswer.{CallAnswer}
@@ -37,21 +37,14 @@ at_position position changes = filter (λ change. change.position == position) c
 abbrev pub changes_at : List ClientLog → ℕ → List PlacedChange
 changes_at logs position = at_position position (changes_in logs)
 
--- The register after some changes in turn, as `after_report` takes them.
-abbrev pub after_changes : Record → List PlacedChange → Record
-after_changes start changes = fold (λ current change. after_report current change.rec) start changes
-
 -- The register at a position: the start, and each change up to there.
 abbrev pub register_at : Record → List ClientLog → ℕ → Record
 register_at start logs zero = start
 register_at start logs (suc position) =
-    after_changes (register_at start logs position) (changes_at logs (suc position))
+    after_reports (register_at start logs position)
+    (map (λ change. change.rec) (changes_at logs (suc position)))
 
 -- ---- faults of the history: of calls, of positions and of answers
-
--- A call goes back behind what its client had seen in the calls before it.
-abbrev pub IsOutOfOrder : List Call → Call → Type 0
-IsOutOfOrder before call = GoesForward (position_after_calls 0 before) call → ⊥
 
 -- Two or more changes have this position, which only one can have.
 abbrev pub IsClash : List ClientLog → ℕ → Type 0
@@ -122,7 +115,8 @@ AtNoPosition Stands = (position : ℕ) → Stands position → ⊥
 
 -- The calls that go back behind what their clients had seen.
 abbrev pub OutOfOrder : List ClientLog → ℕ → ℕ → Type 0
-OutOfOrder logs = StandsAt IsOutOfOrder logs
+OutOfOrder logs =
+    StandsAt (λ before call. GoesForward (position_after_calls 0 before) call → ⊥) logs
 
 -- The calls that the register at their positions would have answered otherwise.
 abbrev pub WronglyAnswered : Record → List ClientLog → ℕ → ℕ → Type 0

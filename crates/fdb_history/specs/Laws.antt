@@ -1,12 +1,11 @@
--- Words of the laws about events: what an event shows its client, and what it reports.
+-- Words of the laws about events: what an event shows its client, and minima that stay within.
 use Rattle.std.specs.Prelude.{ℕ, ◌≤◌, if◌then◌else◌, List, Option, None, Some, slice_get}
-use Rattle.std.specs.List.{AllByRecursion, filter_map}
+use Rattle.std.specs.List.{AllByRecursion}
 use Rattle.std.specs.Option.{option_and_then}
 use Rattle.fdb_history.specs.Log.{calls_of}
 use Rattle.fdb_history.specs.declared.log.CallAnswer.{CallAnswer}
 use Rattle.fdb_history.specs.declared.log.CallAnswer.TheVariants.{Version, Answered, Acked, Told, Refused}
 use Rattle.fdb_history.specs.declared.log.ClientLog.{ClientLog}
-use Rattle.fdb_history.specs.declared.register.Record.{Record}
 use Rattle.fdb_history.specs.declared.register.Event.{Event}
 use Rattle.fdb_history.specs.declared.register.Event.TheVariants.{Report, Read}
 
@@ -20,15 +19,6 @@ seen_version (Read client call rec) = Some rec.version
 -- the version that the event at a place shows, if it shows one
 abbrev pub seen_at : List Event → ℕ → Option ℕ
 seen_at events place = option_and_then seen_version (slice_get events place)
-
--- What an event reports, whether or not it raised the register.
-abbrev pub reported : Event → Option Record
-reported (Report client call rec raised changed) = Some rec
-reported (Read client call rec) = None
-
--- the records that were reported, in order
-abbrev pub reports_of : List Event → List Record
-reports_of events = filter_map reported events
 
 -- A report that was acknowledged told of no minimum known committed version above its version.
 -- (this product's own)

@@ -1,5 +1,5 @@
 -- The live committed version, as a register that takes reports.
-use Rattle.std.specs.Prelude.{ℕ, Bool, nat_lt, ◌||◌, if◌then◌else◌}
+use Rattle.std.specs.Prelude.{ℕ, Bool, List, fold, nat_lt, ◌||◌, if◌then◌else◌}
 use Rattle.fdb_history.specs.declared.register.Record.{Record}
 
 -- A report raises the register where its version is strictly greater.
@@ -22,6 +22,11 @@ after_report current reported =
       min_known = if nat_lt current.min_known reported.min_known then reported.min_known
           else current.min_known;
     }
+
+-- The register after some reports, each taken in turn.
+-- (liveCommittedVersion of masterserver, FoundationDB 7.1)
+abbrev pub after_reports : Record → List Record → Record
+after_reports start reports = fold after_report start reports
 
 -- The read version is the record's version, or its minimum where asked for. (the flag is this
 -- product's own)

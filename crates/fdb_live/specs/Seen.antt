@@ -1,12 +1,12 @@
 -- What a token proves that its holder has seen of the live committed version, and of the chain.
-use Rattle.std.specs.Prelude.{◌≡◌, ℕ, ◌+◌, ◌*◌, ◌<◌, ◌≤◌, ◌==◌, ◌&&◌, Bool, true, false, Option, None, Some, List, [], ◌∷◌, ◌++◌, All, fold, length, if◌then◌else◌, nat_lt}
+use Rattle.std.specs.Prelude.{◌≡◌, ℕ, ◌+◌, ◌*◌, ◌<◌, ◌≤◌, ◌==◌, ◌&&◌, Bool, true, false, Option, None, Some, List, [], ◌∷◌, ◌++◌, All, map, length, if◌then◌else◌, nat_lt}
 use mathlib.Core.List.{IsPrefix}
 use Rattle.atomic_table.specs.Seated.{TableId}
 use Rattle.fdb_chain.specs.ChainCore.{IsEpoch, IsProxyCount}
 use Rattle.fdb_history.specs.declared.chain.Issued.{Issued}
 use Rattle.fdb_history.specs.declared.register.Record.{Record}
 use Rattle.fdb_history.specs.declared.register.TheConstants.{MAX_VERSION}
-use Rattle.fdb_history.specs.Register.{after_report, raises, changes}
+use Rattle.fdb_history.specs.Register.{after_report, after_reports, raises, changes}
 use Rattle.fdb_live.specs.declared.view.Change.{Change}
 use Rattle.fdb_live.specs.declared.view.Epoch.{Epoch}
 use Rattle.fdb_live.specs.declared.live_record.LiveError.{LiveError}
@@ -23,7 +23,7 @@ pub record Sight : Type 0 where
 -- The live record after these changes: what each in its drawer made of the one before it.
 -- (updateLiveCommittedVersion of masterserver, FoundationDB 7.1)
 abbrev pub last_record : Record → List Change → Record
-last_record start changes = fold (λ current change. after_report current change.rec) start changes
+last_record start changes = after_reports start (map (λ change. change.rec) changes)
 
 -- A record that a live record takes: its version is not above the greatest one, and its minimum
 -- known committed version not above that. (the latter is this product's own)

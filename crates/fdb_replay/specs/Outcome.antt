@@ -4,7 +4,7 @@ use Rattle.fdb_history.specs.Audit.{Low}
 use Rattle.fdb_history.specs.Chain.{IsChain}
 use Rattle.fdb_history.specs.Explained.{explained}
 use Rattle.fdb_history.specs.Faults.{Nowhere}
-use Rattle.fdb_history.specs.Laws.{reports_of}
+use Rattle.fdb_history.specs.Event.{reports_of}
 use Rattle.fdb_history.specs.Linear.{IsLinear}
 use Rattle.fdb_history.specs.Strays.{IsStray}
 use Rattle.fdb_history.specs.declared.register.Record.{Record}

@@ -200,6 +200,7 @@ fn play_all<'a, S: Live + Send + Sync, R: Threads + Wait + Sync, G: Gate>(
 /// It fails only where memory runs out, or where a thread cannot be
 /// had. However it ends, each thread that it started has been joined.
 #[cycle(parts)]
+#[tactic(auto, using(crate::proofs::Parts::one_played_at))]
 fn play_part<'s, 'a: 's, E, S: Live + Send + Sync, R: Threads + Wait + Sync, G: Gate>(
     scope: &'s Scope<'s, E>,
     playing: &'s Playing<'s, R, S, G>,
@@ -218,28 +219,13 @@ fn play_part<'s, 'a: 's, E, S: Live + Send + Sync, R: Threads + Wait + Sync, G: 
         });
     }
     if clients.len() == 1 {
-        return play_alone(playing, first, clients);
+        let tells = play_client(playing, first, &mut clients[0])?;
+        return Ok(Part { clients, tells });
     }
     let half = clients.len() / 2;
     let others = clients.split_off(half)?;
     let (front, back) = play_halves(scope, playing, first, clients, others)?;
     front.joined(back)
-}
-
-/// Has the only one of these clients do its commands of a round, in this thread.
-#[tactic(auto, using(crate::proofs::Parts::one_played_at))]
-fn play_alone<'a, S: Live, R: Wait, G: Gate>(
-    playing: &Playing<'_, R, S, G>,
-    first: u32,
-    mut clients: Vec<Player<'a, S>>,
-) -> Result<Part<'a, S>, AllocError>
-    requires { vec_len clients ≡ 1 }
-    ensures { IfOk result (λ part.
-        IsPlayed first playing.now.round.commands.now
-        clients.entry.items part.clients.items part.tells.items) }
-{
-    let tells = play_client(playing, first, &mut clients[0])?;
-    Ok(Part { clients, tells })
 }
 
 /// Has two halves of the clients do their commands of a round: where both have a client that acts,

@@ -1,6 +1,6 @@
 -- Logs that a history explains have no fault of the history: its events in the logs, and the changes at a position, are
 -- those of the history, client by client.
-use Rattle.std.proofs.Common.{◌≡◌, ℕ, zero, suc, ◌+◌, ◌<◌, ◌≤◌, true, false, IsTrue, List, [], ◌∷◌, length, take, Some, slice_get, refl, ap, sym, ◌∙◌, subst, inl, inr, arith, add-one, ◌⊎◌, ◌==◌, ◌&&◌, map, filter}
+use Rattle.std.proofs.Common.{◌≡◌, ℕ, zero, suc, ◌+◌, ◌<◌, ◌≤◌, true, false, List, [], ◌∷◌, length, take, Some, slice_get, refl, ap, sym, ◌∙◌, subst, inl, inr, arith, add-one, ◌⊎◌, ◌==◌, ◌&&◌, map, filter}
 use Rattle.std.specs.List.{AllByRecursion}
 use Rattle.std.proofs.lemmas.Grind.{common_steps}
 use Rattle.std.proofs.lemmas.Bool.Decides.{nat_tests}
@@ -9,9 +9,9 @@ use Rattle.std.proofs.lemmas.List.Elements.{All-filter, All-from_recursion, recu
 use Rattle.std.proofs.lemmas.Option.{same_Some, none-some}
 use Rattle.fdb_history.specs.Event.{stamped, change_count, is_change}
 use Rattle.fdb_history.specs.Explained.{placed_in}
-use Rattle.fdb_history.specs.Faults.{changes_at, register_at, IsOutOfOrder, IsWrongAnswer, IsFaultless}
+use Rattle.fdb_history.specs.Faults.{changes_at, register_at, IsWrongAnswer, IsFaultless}
 use Rattle.fdb_history.specs.Linear.{GoesForward, IsLinear, NeverGoesBack, client_of}
-use Rattle.fdb_history.specs.Log.{placed_from, calls_of, position_after_calls, answer_changes}
+use Rattle.fdb_history.specs.Log.{placed_from, calls_of, position_after_calls}
 use Rattle.fdb_history.specs.private.Explaining.{changes_of}
 use Rattle.fdb_history.specs.declared.register.Event.{Event}
 use Rattle.fdb_history.specs.declared.register.Placed.{Placed}

@@ -6,7 +6,7 @@ use Rattle.std.proofs.lemmas.Bool.Decides.{nat_tests}
 use Rattle.std.proofs.lemmas.List.Elements.{filter-append, filter_agree}
 use Rattle.std.proofs.lemmas.List.Sums.{length-filter}
 use Rattle.fdb_history.specs.Event.{is_change}
-use Rattle.fdb_history.specs.Faults.{at_position, change_in, changes_at, IsOutOfOrder, IsReached, StandsAt, Nowhere}
+use Rattle.fdb_history.specs.Faults.{at_position, change_in, changes_at, OutOfOrder, IsReached, Nowhere}
 use Rattle.fdb_history.specs.Log.{calls_of, answer_changes}
 use Rattle.fdb_history.specs.private.Auditing.{farthest_in, farthest}
 use Rattle.fdb_history.specs.declared.auditing.registers.PlacedChange.{PlacedChange}
@@ -75,7 +75,7 @@ zero-call position (Acked rec raised true) least = let above = least refl in rw 
 zero-call position _ least = refl
 
 -- Where no call is out of order, no change stands at 0.
-pub none-at-zero : (logs : List ClientLog) → Nowhere (StandsAt IsOutOfOrder logs) → changes_at logs 0 ≡ []
+pub none-at-zero : (logs : List ClientLog) → Nowhere (OutOfOrder logs) → changes_at logs 0 ≡ []
 none-at-zero logs order =
     let changes : Call → List PlacedChange = λ call. change_in call.position call.answer in
     filter-flat_none (λ log. flat_map changes log.calls) logs (every_log (λ calls. at_position 0 (flat_map changes calls) ≡ []) logs (λ client.

@@ -1,12 +1,12 @@
 -- Where each event is answered as the register at its position would, and only there, stamped events are legal.
-use Rattle.std.proofs.Common.{◌≡◌, ◌≢◌, ◌↔◌, ℕ, ◌+◌, ◌-◌, ◌<◌, ◌⊎◌, Bool, true, false, List, [], ◌∷◌, Option, Some, None, refl, ap, sym, subst, ◌∙◌, inl, inr, arith}
+use Rattle.std.proofs.Common.{◌≡◌, ◌≢◌, ◌↔◌, ℕ, ◌+◌, ◌-◌, ◌<◌, ◌⊎◌, Bool, true, false, List, [], ◌∷◌, map, Option, Some, None, refl, ap, sym, subst, ◌∙◌, inl, inr, arith}
 use Rattle.std.specs.List.{AllByRecursion}
 use Rattle.std.proofs.lemmas.Grind.{common_steps}
 use Rattle.std.proofs.lemmas.Bool.Decides.{nat_tests}
 use Rattle.std.proofs.lemmas.Bool.{cases_eq, true≢false, false≢true, ne_eqb}
 use Rattle.fdb_history.specs.Event.{IsTrueOf, IsLegal, stamped}
-use Rattle.fdb_history.specs.Faults.{after_changes, register_at, IsMisanswered, IsWrongAnswer}
-use Rattle.fdb_history.specs.Register.{raises, changes, after_report}
+use Rattle.fdb_history.specs.Faults.{register_at, IsMisanswered, IsWrongAnswer}
+use Rattle.fdb_history.specs.Register.{raises, changes, after_report, after_reports}
 use Rattle.fdb_history.specs.private.Explaining.{changes_of}
 use Rattle.fdb_history.specs.declared.auditing.registers.PlacedChange.{PlacedChange}
 use Rattle.fdb_history.specs.declared.register.Event.{Event}
@@ -92,7 +92,7 @@ passes_right start logs client place position _ fine = tt
 -- ---- legal, event by event
 
 -- a register that is made by the changes of the events
-module _ (reg : ℕ → Record) (made : ℕ → List PlacedChange) (step : (p : ℕ) → reg (p + 1) ≡ after_changes (reg p) (made (p + 1))) where
+module _ (reg : ℕ → Record) (made : ℕ → List PlacedChange) (step : (p : ℕ) → reg (p + 1) ≡ after_reports (reg p) (map (λ change. change.rec) (made (p + 1)))) where
   pub legal_right : (before : ℕ) (events : List Event) → ((p : ℕ) → before < p → made p ≡ changes_of (changes_to p (stamped before events)))
       → IsLegal (reg before) events ↔ AllByRecursion (IsRight reg) (stamped before events)
   legal_right before [] each = (λ legal. tt, λ right. tt)
@@ -105,7 +105,7 @@ module _ (reg : ℕ → Record) (made : ℕ → List PlacedChange) (step : (p : 
       (λ legal. (legal.0, rest.0 (subst P (stays legal.0) legal.1)), λ right. (right.0, subst P (sym (stays right.0)) (rest.1 right.1)))
   legal_right before (Report client call rec raised true ∷ events) each =
       let here = each (before + 1) (omega arith) ∙ ap changes_of (change_to before client call rec raised events) in
-      let after : reg (before + 1) ≡ after_report (reg before) rec = step before ∙ ap (after_changes (reg before)) here in
+      let after : reg (before + 1) ≡ after_report (reg before) rec = step before ∙ ap (λ changes. after_reports (reg before) (map (λ change. change.rec) changes)) here in
       let back : before + 1 - 1 ≡ before = omega arith in
       let rest = legal_right (before + 1) events (λ p above. each p (omega arith) ∙ rw (ne_eqb (before + 1) p (λ same. omega arith))) in
       let P : Record → Type 0 = λ r. IsLegal r events in

@@ -1,6 +1,6 @@
 -- From the logs to their events: what each call keeps to, each event keeps to; whose events they are; and the
 -- changes of both.
-use Rattle.std.proofs.Common.{◌≡◌, ℕ, zero, suc, ◌+◌, ◌<◌, ◌≤◌, ◌⊎◌, ◌==◌, ◌&&◌, Bool, true, false, IsTrue, List, [], ◌∷◌, ◌++◌, map, length, take, filter, flat_map, slice_get, option_to_list, Some, refl, ap, sym, ◌∙◌, append-nil, inl, inr, arith, le_trans}
+use Rattle.std.proofs.Common.{◌≡◌, ℕ, zero, suc, ◌+◌, ◌<◌, ◌≤◌, ◌==◌, ◌&&◌, Bool, true, false, IsTrue, List, [], ◌∷◌, ◌++◌, map, length, take, filter, flat_map, slice_get, option_to_list, Some, refl, ap, sym, ◌∙◌, append-nil, inl, inr, arith, le_trans}
 use Rattle.std.specs.List.{AllByRecursion}
 use Rattle.std.proofs.lemmas.Grind.{common_steps}
 use Rattle.std.proofs.lemmas.Bool.Decides.{nat_tests}
@@ -9,7 +9,7 @@ use Rattle.std.proofs.lemmas.List.Elements.{filter-append, filter_passes, recurs
 use Rattle.std.proofs.lemmas.List.Concat.{flat_map-append}
 use Rattle.fdb_history.specs.Event.{is_change}
 use Rattle.fdb_history.specs.Explained.{placed_in}
-use Rattle.fdb_history.specs.Faults.{at_position, change_in, changes_in, changes_at, IsOutOfOrder, StandsAt, Nowhere}
+use Rattle.fdb_history.specs.Faults.{at_position, change_in, changes_in, changes_at, OutOfOrder, Nowhere}
 use Rattle.fdb_history.specs.Linear.{GoesForward, NeverGoesBack, client_of}
 use Rattle.fdb_history.specs.Log.{event_of_answer, placed_from, calls_of, answer_changes, position_after_calls}
 use Rattle.fdb_history.specs.private.Explaining.{change_of_event, changes_of}
@@ -139,7 +139,7 @@ never_back before (call ∷ calls) none =
     )
 
 -- no client's calls are out of order
-pub client_in_order : (logs : List ClientLog) → Nowhere (StandsAt IsOutOfOrder logs) → (client : ℕ) → NeverGoesBack 0 (calls_of logs client)
+pub client_in_order : (logs : List ClientLog) → Nowhere (OutOfOrder logs) → (client : ℕ) → NeverGoesBack 0 (calls_of logs client)
 client_in_order logs order client = never_back 0 (calls_of logs client) (λ place call at out. order client place (call, at, out))
 
 -- a list that climbs from a position climbs from each below it

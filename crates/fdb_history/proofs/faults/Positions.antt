@@ -1,9 +1,9 @@
 -- What the changes by position say of the logs: which position has two, which is missing, and the register at each.
-use Rattle.std.proofs.Common.{◌≡◌, ℕ, zero, suc, ◌+◌, ◌<◌, ◌≤◌, ◌==◌, cond, List, [], ◌∷◌, length, get_or, Option, None, Some, refl, sym, subst, ap, ◌∙◌, arith, inl, inr, le_refl, add-one}
+use Rattle.std.proofs.Common.{◌≡◌, ℕ, zero, suc, ◌+◌, ◌<◌, ◌≤◌, ◌==◌, cond, List, [], ◌∷◌, map, length, get_or, Option, None, Some, refl, sym, subst, ap, ◌∙◌, arith, inl, inr, le_refl, add-one}
 use Rattle.std.proofs.lemmas.Bool.{cases_eq, cases_lt, cond_both, eq-eqb, ne_eqb}
 use Rattle.std.proofs.lemmas.List.{nil_from_length}
-use Rattle.fdb_history.specs.Faults.{at_position, changes_at, register_at, after_changes, IsClash, IsGap, IsLeast, IsReached, OutOfOrder, Nowhere, AtNoPosition}
-use Rattle.fdb_history.specs.Register.{after_report}
+use Rattle.fdb_history.specs.Faults.{at_position, changes_at, register_at, IsClash, IsGap, IsLeast, IsReached, OutOfOrder, Nowhere, AtNoPosition}
+use Rattle.fdb_history.specs.Register.{after_report, after_reports}
 use Rattle.fdb_history.specs.private.Auditing.{AreByPosition, AreChangesOf, IsLeastIfAny, Rises, clash_in, farthest, missing_in, table_of}
 use Rattle.fdb_history.specs.declared.auditing.registers.PlacedChange.{PlacedChange}
 use Rattle.fdb_history.specs.declared.log.ClientLog.{ClientLog}
@@ -161,7 +161,7 @@ table-from start logs before current (change ∷ changes) same once is (suc coun
           let only : at_position (before + 1) changes ≡ [] = nil_from_length (at_position (before + 1) changes)
           (elim (cases_lt 1 (length (changes_at logs (before + 1)))) [ inl two ↦ absurd (once (before + 1) two) | inr most ↦ omega (arith, ap length (same (before + 1) (omega arith)), ap length first) ]) in
           let next : register_at start logs (before + 1) ≡ after_report current change.rec =
-          rw add-one (ap (after_changes (register_at start logs before)) (ap (changes_at logs) (sym (add-one before)) ∙ sym (same (before + 1) (omega arith)) ∙ first ∙ ap (λ l. change ∷ l) only) ∙ ap (λ r. after_report r change.rec) is) in
+          rw add-one (ap (λ made. after_reports (register_at start logs before) (map (λ c. c.rec) made)) (ap (changes_at logs) (sym (add-one before)) ∙ sym (same (before + 1) (omega arith)) ∙ first ∙ ap (λ l. change ∷ l) only) ∙ ap (λ r. after_report r change.rec) is) in
           table-from start logs (before + 1) (after_report current change.rec) changes
           (λ position above. sym (left_out (test position) change changes (ne_eqb change.position position (λ e. omega arith))) ∙ same position (omega arith))
           once next count (let more = rw (eq-eqb change.position (before + 1) here) at below in omega arith)

@@ -1,5 +1,5 @@
 -- What follows of the rule of the register, a report at a time.
-use Rattle.std.proofs.Common.{◌≡◌, ◌+◌, ◌≤◌, true, false, ap, arith}
+use Rattle.std.proofs.Common.{◌≡◌, ◌≤◌, true, false, ap, arith}
 use Rattle.std.proofs.lemmas.Grind.{common_steps}
 use Rattle.std.proofs.lemmas.Bool.Decides.{nat_tests}
 use Rattle.std.proofs.lemmas.Bool.{cond-true}

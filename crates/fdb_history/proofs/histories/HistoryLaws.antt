@@ -8,8 +8,8 @@ use Rattle.std.proofs.lemmas.Bool.{cond-true, eq-eqb, or_left}
 use Rattle.std.proofs.lemmas.Option.{cond_some, same_Some, none-some, slice_get_within}
 use Rattle.std.proofs.lemmas.List.Sums.{sum_by-cons}
 use Rattle.fdb_history.specs.Register.{after_report}
-use Rattle.fdb_history.specs.Event.{after_event, register_after, IsTrueOf, IsLegal, is_change, position_after, positions_from, change_count}
-use Rattle.fdb_history.specs.Laws.{seen_version, seen_at, reports_of}
+use Rattle.fdb_history.specs.Event.{after_event, register_after, IsTrueOf, IsLegal, is_change, position_after, positions_from, change_count, reports_of}
+use Rattle.fdb_history.specs.Laws.{seen_version, seen_at}
 use Rattle.fdb_history.specs.declared.register.Record.{Record}
 use Rattle.fdb_history.specs.declared.register.Event.{Event}
 use Rattle.fdb_history.specs.declared.register.Event.TheVariants.{Report, Read}

@@ -1,14 +1,14 @@
 -- A read never misses a commit that its client knows of.
-use Rattle.std.proofs.Common.{◌≡◌, ℕ, zero, suc, ◌<◌, ◌≤◌, ◌==◌, Bool, true, false, IsTrue, List, [], ◌∷◌, filter, flat_map, Some, slice_get, refl, sym, ◌∙◌, subst, inl, inr, arith, le_refl, le_trans}
+use Rattle.std.proofs.Common.{◌≡◌, ℕ, zero, suc, ◌<◌, ◌≤◌, ◌==◌, Bool, true, false, IsTrue, List, [], ◌∷◌, map, filter, flat_map, Some, slice_get, refl, sym, ◌∙◌, subst, inl, inr, arith, le_refl, le_trans}
 use Rattle.std.specs.List.{AllByRecursion}
 use Rattle.std.proofs.lemmas.Grind.{common_steps}
 use Rattle.std.proofs.lemmas.Bool.Decides.{nat_tests}
 use Rattle.std.proofs.lemmas.Bool.{cases_Bool, cases_lt, eq-eqb, false≢true}
 use Rattle.std.proofs.lemmas.Option.{same_Some, none-some}
-use Rattle.fdb_history.specs.Faults.{change_in, changes_in, changes_at, after_changes, register_at, IsWrongAnswer, IsFaultless}
+use Rattle.fdb_history.specs.Faults.{change_in, changes_in, changes_at, register_at, IsWrongAnswer, IsFaultless}
 use Rattle.fdb_history.specs.Linear.{IsLinear, NeverGoesBack}
 use Rattle.fdb_history.specs.Log.{calls_of, answer_changes}
-use Rattle.fdb_history.specs.Register.{changes, after_report}
+use Rattle.fdb_history.specs.Register.{changes, after_report, after_reports}
 use Rattle.fdb_history.specs.declared.auditing.registers.PlacedChange.{PlacedChange}
 use Rattle.fdb_history.specs.declared.register.Event.{Event}
 use Rattle.fdb_history.specs.declared.log.TagLimit.{TagLimit}
@@ -55,19 +55,22 @@ after_report-found current rec = ((version-at_least current rec).0, (min_known-a
 after_report-told : (current rec : Record) → AtMost rec (after_report current rec)
 after_report-told current rec = ((version-at_least current rec).1, (min_known-at_least current rec).1)
 
--- changes leave at least what they found
-after_changes-at_least : (current : Record) (changes : List PlacedChange) → AtMost current (after_changes current changes)
-after_changes-at_least current [] = AtMost-refl current
-after_changes-at_least current (change ∷ changes) =
-    AtMost-trans current (after_report current change.rec) (after_changes (after_report current change.rec) changes)
-    (after_report-found current change.rec) (after_changes-at_least (after_report current change.rec) changes)
+-- reports leave at least what they found
+after_reports-at_least : (current : Record) (reports : List Record) → AtMost current (after_reports current reports)
+after_reports-at_least current [] = AtMost-refl current
+after_reports-at_least current (rec ∷ reports) =
+    AtMost-trans current (after_report current rec) (after_reports (after_report current rec) reports)
+    (after_report-found current rec) (after_reports-at_least (after_report current rec) reports)
+
+abbrev records : List PlacedChange → List Record
+records changes = map (λ change. change.rec) changes
 
 -- and at least what each reported
-each_at_most : (current : Record) (changes : List PlacedChange) → AllByRecursion (λ change. AtMost change.rec (after_changes current changes)) changes
+each_at_most : (current : Record) (changes : List PlacedChange) → AllByRecursion (λ change. AtMost change.rec (after_reports current (records changes))) changes
 each_at_most current [] = tt
 each_at_most current (change ∷ changes) = (
-  AtMost-trans change.rec (after_report current change.rec) (after_changes (after_report current change.rec) changes)
-      (after_report-told current change.rec) (after_changes-at_least (after_report current change.rec) changes),
+  AtMost-trans change.rec (after_report current change.rec) (after_reports (after_report current change.rec) (records changes))
+      (after_report-told current change.rec) (after_reports-at_least (after_report current change.rec) (records changes)),
   each_at_most (after_report current change.rec) changes,
 )
 
@@ -80,7 +83,7 @@ register_at-in_order start logs earlier (suc later) order =
       | inl beyond ↦ let same : earlier ≡ suc later = omega arith in subst (λ p. AtMost (register_at start logs earlier) (register_at start logs p)) same (AtMost-refl (register_at start logs earlier))
       | inr within ↦
           AtMost-trans (register_at start logs earlier) (register_at start logs later) (register_at start logs (suc later))
-          (register_at-in_order start logs earlier later within) (after_changes-at_least (register_at start logs later) (changes_at logs (suc later)))
+          (register_at-in_order start logs earlier later within) (after_reports-at_least (register_at start logs later) (records (changes_at logs (suc later))))
     ]
 
 -- what holds of each change at a position holds of each acknowledgement in the logs that changed there

@@ -3,7 +3,8 @@ use Rattle.std.proofs.Common.{ℕ, ◌+◌, ◌==◌, Bool, List, [], ◌∷◌,
 use Rattle.std.specs.List.{All, AllByRecursion}
 use Rattle.std.proofs.lemmas.Bool.{cases_Bool, eq-eqb}
 use Rattle.std.proofs.lemmas.List.Elements.{All-from_recursion}
-use Rattle.fdb_history.specs.Laws.{HasMinimumWithin, HaveMinimaWithin, reports_of}
+use Rattle.fdb_history.specs.Event.{reports_of}
+use Rattle.fdb_history.specs.Laws.{HasMinimumWithin, HaveMinimaWithin}
 use Rattle.fdb_history.specs.Linear.{IsLinear, client_of}
 use Rattle.fdb_history.specs.Log.{calls_of, event_of_answer, placed_from}
 use Rattle.fdb_history.specs.declared.register.Event.{Event}

@@ -69,9 +69,7 @@ pub(crate) fn first_out_of_order(logs: &[ClientLog]) -> Option<CallName>
 struct Order {}
 
 impl CallFault for Order {
-    ghost use Rattle.fdb_history.specs.Faults.{IsOutOfOrder};
-
-    ghost Stands = { λ fault before call. IsOutOfOrder before call };
+    ghost Stands = { λ fault before call. GoesForward (position_after_calls 0 before) call → ⊥ };
 
     fn stands_at(&self, before: &[Call], call: &Call) -> bool {
         !goes_forward(position_after_calls(before), call)

@@ -1,6 +1,6 @@
 use Rattle.std.proofs.Common.{◌∷◌}
 use Rattle.std.proofs.lemmas.List.Elements.{recursion_from_All}
-use Rattle.fdb_history.specs.Laws.{reports_of}
+use Rattle.fdb_history.specs.Event.{reports_of}
 use Rattle.fdb_history.proofs.histories.HistoryLaws.{positions_from-counts, change_count-below, positions_from-below, positions_from-twice, IsWithin}
 use Rattle.fdb_history.proofs.laws.positions_below_versions.Goals as goal
 

@@ -1,7 +1,6 @@
 use Rattle.std.proofs.Common.{◌≤◌, ◌∷◌}
 use Rattle.std.proofs.lemmas.List.Elements.{All-from_recursion}
-use Rattle.fdb_history.specs.Event.{register_after}
-use Rattle.fdb_history.specs.Laws.{reports_of}
+use Rattle.fdb_history.specs.Event.{register_after, reports_of}
 use Rattle.fdb_history.proofs.histories.HistoryLaws.{register_after-greatest, register_after-greatest_known, register_after-known, register_after-first}
 use Rattle.fdb_history.proofs.laws.register_is_greatest.Goals as goal
 

@@ -1,7 +1,7 @@
 use Rattle.std.proofs.Common.{◌≡◌, ◌≤◌, ◌∷◌, ap, arith, sym, subst, ◌∙◌}
 use Rattle.std.proofs.lemmas.List.Elements.{All-from_recursion, recursion_from_All}
 use Rattle.fdb_history.specs.Chain.{IsChain}
-use Rattle.fdb_history.specs.Laws.{reports_of}
+use Rattle.fdb_history.specs.Event.{reports_of}
 use Rattle.fdb_history.specs.Linear.{IsLinear}
 use Rattle.fdb_client.specs.declared.cluster.ClusterConfig.{ClusterConfig}
 use Rattle.fdb_history.specs.declared.register.Record.{Record}
