@@ -17,7 +17,7 @@ use Rattle.fdb_audit.specs.declared.follower.Follower.{Follower}
 use Rattle.fdb_audit.specs.declared.teller.Teller.{Teller}
 use Rattle.fdb_audit.specs.Following.{AreWindows, Before, Counted, FollowArguments, IsCounted, IsEnd, Start, Window, counted_on, early_at, faults_told, first_told, keys_taken, lines_since, lines_taken, told_in_all}
 use Rattle.fdb_audit.specs.Clocks.{ahead_in, out_of_reach}
-use Rattle.fdb_audit.specs.Watched.{HasFollowed, HasToldAll, IsComplete, IsFollowed, IsTelling, IsTold, followed_by, lines_asked, members_asked, names_asked}
+use Rattle.fdb_audit.specs.Watched.{HasFollowed, HasToldAll, IsComplete, IsFollowed, IsTelling, IsTellerOf, followed_by, lines_asked, members_asked, names_asked}
 use Rattle.fdb_audit.specs.private.Followed.{AreTaken, HasTotals, IsCarried, IsUnread, TellsOn, counted_in, counted_of, told_with}
 use Rattle.fdb_audit.specs.Warned.{AreEarly}
 use Rattle.fdb_audit.proofs.Windows.{first_on, faults_on as all_faults_on, faults_stay, first_stays, told_on, told_stays, windows_on, windows_stay, windows_within}
@@ -58,7 +58,7 @@ takes_on start asked old new read further told has more takes margin teller behi
       margin = margin ∙ has.margin;
       tells = subst (λ teller. AreWindows start.numbers margin_asked asked.wanted (read ++ further) (line_names new.reader).clients windows (told ++ string_bytes teller.text)) (sym teller)
           (windows_stay start.numbers margin_asked asked.wanted read further names (line_names new.reader).clients windows text has.tells more.0);
-      are = subst (λ teller. IsTold asked start teller (read ++ further) windows) (sym teller) (record {
+      are = subst (λ teller. IsTellerOf asked start teller (read ++ further) windows) (sym teller) (record {
         wanted = has.are.wanted;
         margin = has.are.margin;
         by_key = has.are.by_key;
@@ -104,7 +104,7 @@ fed_first before start asked old new bytes lines is far numbers same goes behind
       taken = subst (AreTaken start new.taking lines) (sym (append-nil start.told)) takes;
       margin = margin ∙ is.margin;
       tells = ap (λ (teller : Teller). string_bytes teller.text) teller ∙ is.text;
-      are = subst (λ teller. IsTold asked start teller lines []) (sym teller)
+      are = subst (λ teller. IsTellerOf asked start teller lines []) (sym teller)
           (record {
             wanted = is.are.wanted;
             margin = is.are.margin;
@@ -147,7 +147,7 @@ first_of_three None two three = refl
 first_of_three (Some one) two three = refl
 
 are_on : (start : Start) (asked : AuditArguments) (old new : Teller) (margin : ℕ) (read : List (Result SaidLine Why)) (names : List (List ℕ)) (windows : List Window) (faults : List Found)
-    → IsTold asked start old read windows → (more : TellsOn start.numbers old new margin read names faults) → IsTold asked start new read (windows ++ more.windows)
+    → IsTellerOf asked start old read windows → (more : TellsOn start.numbers old new margin read names faults) → IsTellerOf asked start new read (windows ++ more.windows)
 are_on start asked old new margin read names windows faults are more = record {
   wanted = more.same.wanted ∙ are.wanted;
   margin = more.same.margin ∙ are.margin;

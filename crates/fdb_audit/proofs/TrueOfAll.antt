@@ -18,7 +18,7 @@ use Rattle.fdb_log_reader.specs.declared.error.ReadError.{ReadError}
 use Rattle.fdb_log_reader.specs.declared.error.Why.{Why}
 use Rattle.fdb_log_reader.specs.ReadLine.{SaidLine}
 use Rattle.fdb_audit.specs.AllPieces.{HaveRoom, Pieces, told_of_pieces}
-use Rattle.fdb_audit.specs.Following.{AreWindows, IsFoundIn, KeptNumbers, Start, Window, keys_taken, lines_taken, places_in, taken, told_in, told_in_all}
+use Rattle.fdb_audit.specs.Following.{AreWindows, KeptNumbers, TellsIn, Start, Window, keys_taken, lines_taken, places_in, taken, told_in, told_in_all}
 use Rattle.fdb_audit.specs.GoingOn.{places_staying}
 use Rattle.fdb_audit.specs.Pieces.{audited_in, places_beyond}
 use Rattle.fdb_audit.specs.Watched.{lines_asked, names_asked}
@@ -60,7 +60,7 @@ module _ (true : IsTrueOfAll) where
       (true.first margin (lines_taken read) (lines_taken more) (keys_taken read) (keys_taken more) (keyed read) (keyed more))
 
   -- of a window
-  window_true : (margin : ℕ) (read : List (Result SaidLine Why)) (window : Window) → IsFoundIn margin (lines_of_one (lines_taken read) (keys_taken read) window.key) window
+  window_true : (margin : ℕ) (read : List (Result SaidLine Why)) (window : Window) → TellsIn margin (lines_of_one (lines_taken read) (keys_taken read) window.key) window
       → All (Contains (found_in_all margin read)) (told_in read window)
   window_true margin read window is =
       let keys = keys_taken read in

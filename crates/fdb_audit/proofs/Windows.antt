@@ -27,7 +27,7 @@ use Rattle.fdb_log_reader.specs.ReadLine.{SaidLine}
 use Rattle.fdb_audit.specs.declared.printer.LogFault.{LogFault}
 use Rattle.fdb_audit.specs.declared.judgement.Wanted.{Wanted}
 use Rattle.fdb_audit.specs.declared.teller.Teller.{Teller}
-use Rattle.fdb_audit.specs.Following.{AreWindows, IsFoundIn, IsWindow, KeptNumbers, Window, faults_at, faults_told, first_in, first_told, keys_taken, lines_taken, number_in, printed_in, taken, told_in, told_in_all, told_text}
+use Rattle.fdb_audit.specs.Following.{AreWindows, IsWindow, TellsIn, KeptNumbers, Window, faults_at, faults_told, first_in, first_told, keys_taken, lines_taken, number_in, printed_in, taken, told_in, told_in_all, told_text}
 use Rattle.fdb_audit.specs.Text.{Beside, PrintedLog, fault_of}
 use Rattle.fdb_audit.specs.ToldFaults.{ToldFault, told_at}
 use Rattle.fdb_audit.specs.private.Followed.{CountsOn, HasTotals, IsSameTeller, TellsOn}
@@ -213,10 +213,9 @@ window_of to read names entry part beside = record {
 
 found_in : (margin : ℕ) (to : Option ℕ) (read : List (Result SaidLine Why)) (names : List (List ℕ)) (entry : SettledKey) (part : KeyPart) (beside : List Beside)
     → part.watch.margin ≡ margin → IsToldOf to (lines_taken read) (keys_taken read) entry part
-    → IsFoundIn margin (lines_of_one (lines_taken read) (keys_taken read) part.key) (window_of to read names entry part beside)
+    → TellsIn margin (lines_of_one (lines_taken read) (keys_taken read) part.key) (window_of to read names entry part beside)
 found_in margin to read names entry part beside same told =
-    subst (λ m. IsFoundIn m (lines_of_one (lines_taken read) (keys_taken read) part.key) (window_of to read names entry part beside)) same
-    (record { told = told.told.told; reasons = told.told.reasons; late = told.told.late; within = told.told.within })
+    subst (λ m. TellsIn m (lines_of_one (lines_taken read) (keys_taken read) part.key) (window_of to read names entry part beside)) same told.told.tells
 
 -- what is shown of lines
 abbrev pub log_with : List Line → List (List ℕ) → List ℕ → List Beside → PrintedLog

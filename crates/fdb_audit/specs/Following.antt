@@ -1,19 +1,18 @@
 -- What is told of a log that is followed as it grows. (this product's own)
-use Rattle.std.specs.Prelude.{◌≡◌, ℕ, zero, suc, ◌+◌, ◌-◌, ◌^◌, ◌<◌, ◌≤◌, ◌||◌, nat_le, not, Bool, true, false, List, [], ◌∷◌, ◌++◌, All, Option, None, Some, codes, count_by, drop, length, map, min, nat_lt, option_map, slice_get, slice_index, take, unwrap_or, Result, Ok, Err, if◌then◌else◌}
+use Rattle.std.specs.Prelude.{◌≡◌, ℕ, zero, suc, ◌+◌, ◌-◌, ◌^◌, ◌<◌, ◌≤◌, ◌||◌, nat_le, not, Bool, true, false, List, [], ◌∷◌, ◌++◌, Option, None, Some, codes, count_by, drop, length, map, min, nat_lt, option_map, slice_get, slice_index, take, unwrap_or, Result, Ok, Err, if◌then◌else◌}
 use Rattle.std.specs.List.{flat_map}
 use Rattle.std.specs.Option.{option_or}
 use Rattle.fdb_lines.specs.declared.fault.Found.{Found}
 use Rattle.fdb_lines.specs.declared.line.Line.{Line}
 use Rattle.fdb_lines.specs.declared.fault.Finding.{Finding}
 use Rattle.fdb_lines.specs.Before.{began}
-use Rattle.fdb_lines.specs.Carried.{with_times}
 use Rattle.fdb_lines.specs.KeyParts.{lines_of_one}
-use Rattle.fdb_lines.specs.Keys.{placed_finding, placed_found, places_of}
-use Rattle.fdb_lines.specs.Late.{HasLateSince}
+use Rattle.fdb_lines.specs.Keys.{placed_found, places_of}
 use Rattle.fdb_lines.specs.Lines.{is_ask, is_commit, is_read, is_report, lines_in}
-use Rattle.fdb_lines.specs.Reasons.{found_of, HasReason}
+use Rattle.fdb_lines.specs.Reasons.{found_of}
 use Rattle.fdb_lines.specs.Summary.{how_many}
-use Rattle.fdb_lines.specs.Watching.{is_due, opts_of, told_of}
+use Rattle.fdb_lines.specs.Watch.{AreToldOf}
+use Rattle.fdb_lines.specs.Watching.{is_due}
 use Rattle.fdb_log_reader.specs.declared.error.ReadError.{ReadError}
 use Rattle.fdb_log_reader.specs.declared.error.Why.{Why}
 use Rattle.fdb_log_reader.specs.declared.error.Why.TheVariants.{Empty}
@@ -164,14 +163,10 @@ pub record Window : Type 0 where
   pub found : List Finding
   pub beside : List Beside
 
--- What is found are the stale reads and the versions that are not above others, of all lines of the key that had been read,
--- at the lines of which it was time to tell: each with a reason that is true of all of these lines, and with how late it is.
-pub record IsFoundIn (margin : ℕ) (lines : List Line) (window : Window) : Type 0 where
-  pub told : map (λ finding. placed_found window.kept (found_of finding)) window.found
-      ≡ told_of margin (is_due window.from window.early window.since window.to) lines
-  pub reasons : All (λ finding. HasReason (with_times lines) (opts_of margin) (placed_finding window.kept finding)) window.found
-  pub late : All (λ finding. HasLateSince window.early (with_times lines) (opts_of margin) (placed_finding window.kept finding)) window.found
-  pub within : All (λ finding. finding.found.line < length window.kept) window.found
+-- What is found are the stale reads and the versions that are not above others, of all lines of the key that had been read.
+abbrev pub TellsIn : ℕ → List Line → Window → Type 0
+TellsIn margin lines window =
+    AreToldOf margin (is_due window.from window.early window.since window.to) window.early lines window.kept window.found
 
 -- the places of those lines among all that were taken
 abbrev pub places_in : List (Result SaidLine Why) → Window → List ℕ
@@ -195,7 +190,7 @@ told_text wanted it found = if lists wanted then list_text wanted.json it found 
 
 -- what is told of a key at a moment, of the lines that had been read by then
 pub record IsWindow (kept : KeptNumbers) (margin : ℕ) (wanted : Wanted) (read : List (Result SaidLine Why)) (window : Window) (text : List ℕ) : Type 0 where
-  pub found : IsFoundIn margin (lines_of_one (lines_taken read) (keys_taken read) window.key) window
+  pub found : TellsIn margin (lines_of_one (lines_taken read) (keys_taken read) window.key) window
   pub printed : text ≡ told_text wanted (printed_in kept read window) window.found
 
 -- the first fault that is told, by the number of its line

@@ -42,8 +42,8 @@ pub record AskForTheSame (asked other : AuditArguments) : Type 0 where
 abbrev pub followed_by : AuditArguments → ℕ → FollowArguments
 followed_by asked behind = record { behind = behind; margin = asked.opts.margin; by_key = is_some asked.key; members = members_asked asked }
 
--- what has been told by windows, as it is asked for
-pub record IsTold (asked : AuditArguments) (start : Start) (teller : Teller) (read : List (Result SaidLine Why)) (windows : List Window) : Type 0 where
+-- a teller that has told these windows, as it is asked for
+pub record IsTellerOf (asked : AuditArguments) (start : Start) (teller : Teller) (read : List (Result SaidLine Why)) (windows : List Window) : Type 0 where
   pub wanted : teller.wanted ≡ asked.wanted
   pub margin : teller.margin ≡ asked.opts.margin
   pub by_key : is_some teller.key ≡ is_some asked.key
@@ -58,7 +58,7 @@ pub record IsTelling (asked : AuditArguments) (start : Start) (follower : Follow
   pub taken : AreTaken start follower.taking read (start.told ++ told_in_all read windows)
   pub margin : follower.taking.watch.margin ≡ asked.opts.margin
   pub tells : AreWindows start.numbers asked.opts.margin asked.wanted read (line_names follower.reader).clients windows (told ++ string_bytes follower.teller.text)
-  pub are : IsTold asked start follower.teller read windows
+  pub are : IsTellerOf asked start follower.teller read windows
 
 -- These bytes have been read, whatever comes after them, and this text has been told of their lines.
 pub record HasFollowed (asked : AuditArguments) (start : Start) (follower : Follower) (bytes told : List ℕ) : Type 0 where
@@ -119,7 +119,7 @@ pub record HasToldAll (asked : AuditArguments) (start : Start) (ends : Bool) (fo
   pub carried : IsCarried start.before follower.before
   pub windows : List Window
   pub tells : AreWindows start.numbers asked.opts.margin asked.wanted read (line_names follower.reader).clients windows (told ++ string_bytes follower.teller.text)
-  pub are : IsTold asked start follower.teller read windows
+  pub are : IsTellerOf asked start follower.teller read windows
   pub before : start.early ≡ 0 → All (λ (found : Found). found.line < start.lines) start.told
   pub counted : IsCounted start read (counted_of follower.taking)
   pub whole : start.early ≡ 0 → follower.taking.counts.early ≡ 0 → IsComplete ends asked.opts.margin read (start.told ++ told_in_all read windows)

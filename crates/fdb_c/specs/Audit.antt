@@ -1,5 +1,5 @@
 -- What C asks of an audit, and what it is told.
-use Rattle.std.specs.Prelude.{◌≡◌, ◌≢◌, ℕ, ◌+◌, ◌<◌, ◌==◌, ◌++◌, Bool, true, false, List, [], ◌∷◌, drop, length, map, Option, None, Some, option_map, string_bytes, Result, Ok, Err, if◌then◌else◌}
+use Rattle.std.specs.Prelude.{◌≡◌, ◌≢◌, ◌⊎◌, ◌↔◌, ℕ, ◌+◌, ◌<◌, ◌==◌, ◌++◌, Bool, true, false, List, [], ◌∷◌, drop, length, map, Option, None, Some, option_map, string_bytes, Result, Ok, Err, if◌then◌else◌}
 use Rattle.std.specs.BTreeSet.{BTreeSet, contains}
 use Rattle.std.specs.List.{list_any}
 use Rattle.std.specs.Ordering.{nat_cmp}
@@ -35,7 +35,7 @@ use Rattle.fdb_c.specs.declared.audit.TheConstants.{FDB_CLIENT, FDB_READ, FDB_CO
 use Rattle.fdb_c.specs.declared.audit_calls.FdbCall.{FdbCall}
 use Rattle.fdb_c.specs.declared.audit_faults.FdbFault.{FdbFault}
 use Rattle.fdb_c.specs.declared.audit_faults.TheConstants.{FDB_FAULT_ORDER, FDB_FAULT_WRONG, FDB_FAULT_NOT_ABOVE, FDB_FAULT_TWICE, FDB_FAULT_STRAY, FDB_REASON_KNOWN, FDB_REASON_UNREPORTED, FDB_REASON_REPORTED, FDB_REASON_DRAWN, FDB_REASON_UNDRAWN, FDB_MEANS_START, FDB_MEANS_ENDED, FDB_MEANS_OWN, FDB_MEANS_LEARNT}
-use Rattle.fdb_c.specs.declared.status.TheConstants.{FDB_OK, FDB_MEMORY, FDB_ROOM, FDB_FAULT, FDB_TOO_LONG, FDB_TOO_MANY, FDB_NOT_JSON, FDB_NO_CALL, FDB_TWO_CALLS, FDB_SOME_TIMES, FDB_BAD_MEMBER, FDB_EMPTY, FDB_UNJUDGED}
+use Rattle.fdb_c.specs.declared.status.TheConstants.{FDB_OK, FDB_MEMORY, FDB_ROOM, FDB_FAULT, FDB_TOO_LONG, FDB_TOO_MANY, FDB_NOT_JSON, FDB_NO_CALL, FDB_TWO_CALLS, FDB_SOME_TIMES, FDB_BAD_MEMBER, FDB_EMPTY, FDB_OVER, FDB_UNJUDGED}
 
 -- ---- what is asked
 
@@ -179,6 +179,18 @@ abbrev pub IsRefusal : ℕ → Type 0
 IsRefusal status =
     (status ≢ FDB_OK) × (status ≢ FDB_FAULT) × (status ≢ FDB_ROOM) × (status ≢ FDB_MEMORY) × (status ≢ FDB_UNJUDGED)
 
+-- An error that is one of these was told, beside its status.
+abbrev pub IsToldWhy : (ReadError → Type 0) → FdbRefused → ℕ → Type 0
+IsToldWhy IsWhy refused status =
+    (error : ReadError) × IsWhy error × (status ≡ status_of error.why) × (refused ≡ refused_of error)
+
+-- Nothing is told of a line where there is nothing to tell, nor of what was over: it was, exactly
+-- where the status says so.
+pub record IsUntold (tells : Type 0) (was_over : Bool) (before after : FdbRefused) (status : ℕ) : Type 0 where
+  pub untold : ¬ tells → after ≡ before
+  pub over : (status ≡ FDB_OVER) ↔ (was_over ≡ true)
+  pub not_told : status ≡ FDB_OVER → after ≡ before
+
 -- ---- faults
 
 abbrev pub number_of_fault : Fault → ℕ
@@ -276,3 +288,9 @@ IsWritten written before after size = (after ≡ written ++ drop (length written
 -- There is no room for it: its size alone was written.
 abbrev pub HasNoRoom : {T : Type 0} → List T → List T → List T → ℕ → Type 0
 HasNoRoom written before after size = (length before < length written) × (after ≡ before) × (size ≡ length written)
+
+-- What is wanted was written, or there is no room for it.
+pub record IsGiven {T : Type 0} (wanted before after : List T) (size status : ℕ) : Type 0 where
+  pub ok : status ≡ FDB_OK → IsWritten wanted before after size
+  pub room : status ≡ FDB_ROOM → HasNoRoom wanted before after size
+  pub statuses : (status ≡ FDB_OK) ⊎ (status ≡ FDB_ROOM)

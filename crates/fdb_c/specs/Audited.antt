@@ -1,5 +1,5 @@
 -- What an audit is that takes a log piece by piece, and what it finds. (this product's own)
-use Rattle.std.specs.Prelude.{◌≡◌, ℕ, ◌++◌, Bool, true, false, List, [], Option, None, Some, Result, Ok, Err}
+use Rattle.std.specs.Prelude.{◌≡◌, ◌≢◌, ◌⊎◌, ℕ, ◌++◌, Bool, true, false, List, [], Option, None, Some, Result, Ok, Err}
 use Rattle.fdb_lines.specs.declared.fault.Found.{Found}
 use Rattle.fdb_log_reader.specs.Reader.{reads_on}
 use Rattle.fdb_log_reader.specs.Reading.{Reading, reading_with}
@@ -8,6 +8,7 @@ use Rattle.fdb_log_reader.specs.declared.error.ReadError.{ReadError}
 use Rattle.fdb_audit.specs.Judged.{IsTextOfReading, keys_of_lines}
 use Rattle.fdb_c.specs.Audit.{Asked, AreFaults}
 use Rattle.fdb_c.specs.declared.audit_faults.FdbFault.{FdbFault}
+use Rattle.fdb_c.specs.declared.status.TheConstants.{FDB_OK, FDB_FAULT}
 
 -- What it was asked for, the bytes that have come, what was found once the log had ended, as a text and as faults, and whether
 -- it is over: its log has ended or was refused, or memory was.
@@ -61,3 +62,13 @@ ReadsOn asked bytes reader = (text : List ℕ) → reads_on reader text ≡ read
 -- The log is refused for this, whatever comes after the bytes that have come.
 abbrev pub IsRefusedFor : AuditState → List ℕ → ReadError → Type 0
 IsRefusedFor audit bytes error = (text : List ℕ) → reading_by audit.asked (audit.bytes ++ (bytes ++ text)) ≡ Err error
+
+-- The log has ended: something is found, or the audit is over without.
+pub record HasEnded (before after : AuditState) (status : ℕ) : Type 0 where
+  pub found : (status ≡ FDB_OK) ⊎ (status ≡ FDB_FAULT) → IsEnded before after
+  pub ends : status ≢ FDB_OK → status ≢ FDB_FAULT → after ≡ over before
+
+-- The verdict on it.
+pub record IsVerdict (audit : AuditState) (status : ℕ) : Type 0 where
+  pub ok : status ≡ FDB_OK → HasFound audit None
+  pub fault : status ≡ FDB_FAULT → HasFoundFault audit

@@ -1,5 +1,5 @@
 -- What C is told of a queue's operations.
-use Rattle.std.specs.Prelude.{◌≡◌, ℕ, Bool, true, false, ◌&&◌, ◌==◌, nat_le, List, [], ◌∷◌, ◌++◌, map, length, Option, None, Some, if◌then◌else◌}
+use Rattle.std.specs.Prelude.{◌≡◌, ℕ, Bool, true, false, ◌&&◌, ◌==◌, nat_le, List, [], ◌∷◌, ◌++◌, map, length, drop, Option, None, Some, if◌then◌else◌}
 use Rattle.fdb_history.specs.declared.log.Priority.{Priority}
 use Rattle.fdb_history.specs.declared.log.TagLimit.{TagLimit}
 use Rattle.fdb_history.specs.declared.log.Priority.TheVariants.{System, Default, Batch}
@@ -171,6 +171,13 @@ started_by queue (Some op) = started_at queue op
 abbrev pub IsDone : ℕ → Type 0
 IsDone status = (status ≡ FDB_MEMORY → ⊥) × (status ≡ FDB_ROOM → ⊥)
 
+-- A window was held, or refused for its time: its outcome, and the requests that it starts, which
+-- were written to the start of what C gave.
+pub record HasHeld (elapsed : ℕ) (old new : Queue ℕ) (given : FdbOutcome) (started_old started_new : List FdbRequest) : Type 0 where
+  pub outcome : given ≡ told old (Some (Window elapsed))
+  pub started : started_new ≡ started_by old (Some (Window elapsed)) ++ drop (length (started_by old (Some (Window elapsed)))) started_old
+  pub after : new ≡ after old (Some (Window elapsed))
+
 -- The outcomes of some operations, each in its turn.
 abbrev pub told_each : Queue ℕ → List FdbOp → List FdbOutcome
 told_each queue [] = []
@@ -181,6 +188,13 @@ abbrev pub started_each : Queue ℕ → List FdbOp → List FdbRequest
 started_each queue [] = []
 started_each queue (op ∷ ops) =
     started_by queue (op_of op) ++ started_each (after queue (op_of op)) ops
+
+-- Both were written to the start of what C gave, and how many requests start.
+pub record AreWritten (queue : Queue ℕ) (ops : List FdbOp) (outcomes_old outcomes_new : List FdbOutcome)
+    (started_old started_new : List FdbRequest) (count : ℕ) : Type 0 where
+  pub outcomes : outcomes_new ≡ told_each queue ops ++ drop (length ops) outcomes_old
+  pub started : started_new ≡ started_each queue ops ++ drop (length (started_each queue ops)) started_old
+  pub size : count ≡ length (started_each queue ops)
 
 -- A throttle was set, where there is such a priority: it counts before those that there were, and
 -- all else is as it was.

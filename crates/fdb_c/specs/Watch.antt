@@ -1,5 +1,6 @@
 -- What C asks of a watch, what a watch is, and what it has told. (this product's own)
-use Rattle.std.specs.Prelude.{◌≡◌, ℕ, ◌++◌, Bool, true, false, List, [], Option, None, Some, option_map, string_bytes}
+use Rattle.std.specs.Prelude.{◌≡◌, ◌≢◌, ◌⊎◌, ◌↔◌, ℕ, ◌++◌, Bool, true, false, List, [], Option, None, Some, option_map, string_bytes}
+use Rattle.core.specs.Str.{IsUtf8}
 use Rattle.fdb_lines.specs.declared.log.AuditOpts.{AuditOpts}
 use Rattle.fdb_log_reader.specs.LineReader.{line_names}
 use Rattle.fdb_log_reader.specs.declared.error.ReadError.{ReadError}
@@ -13,9 +14,9 @@ use Rattle.fdb_audit.specs.declared.printer.LogFault.{LogFault}
 use Rattle.fdb_audit.specs.declared.follower.Follower.{Follower}
 use Rattle.fdb_audit.specs.declared.judgement.Wanted.{Wanted}
 use Rattle.fdb_audit.specs.declared.refusal.KeptRefused.{KeptRefused}
-use Rattle.fdb_c.specs.Audit.{Asked, asked_in, member_of, status_of}
+use Rattle.fdb_c.specs.Audit.{Asked, HasNoRoom, IsRefusal, IsToldWhy, IsWritten, asked_in, member_of, status_of}
 use Rattle.fdb_c.specs.declared.audit.FdbRefused.{FdbRefused}
-use Rattle.fdb_c.specs.declared.status.TheConstants.{FDB_NOT_KEPT}
+use Rattle.fdb_c.specs.declared.status.TheConstants.{FDB_OK, FDB_MEMORY, FDB_ROOM, FDB_FAULT, FDB_BAD_MEMBER, FDB_OVER, FDB_UNJUDGED, FDB_NOT_KEPT}
 use Rattle.fdb_c.specs.declared.watch_options.FdbWatchCounted.{FdbWatchCounted}
 use Rattle.fdb_c.specs.declared.watch_options.FdbWatchOptions.{FdbWatchOptions}
 
@@ -72,8 +73,8 @@ abbrev pub over : Watch → Watch
 over watch = record watch { is_over = true }
 
 -- What was said last was told besides.
-abbrev pub IsTold : Watch → Watch → Type 0
-IsTold before after =
+abbrev pub IsToldBesides : Watch → Watch → Type 0
+IsToldBesides before after =
     after ≡ record before { told = before.told ++ after.text; text = after.text; warnings = after.warnings; is_over = after.is_over }
 
 -- from where a log is followed: from its beginning, or on by a text of kept lines
@@ -184,3 +185,43 @@ kept_refused it = record { line = it.line; member = member_of_why it.why }
 -- and where no line is at fault
 abbrev pub no_line : FdbRefused
 no_line = record { line = 0; member = 0 }
+
+-- ---- what its calls tell
+
+-- The watch goes on, or it is over now: memory was refused, or it was over before.
+pub record GoesOnOrEnds (before after : Watch) (status : ℕ) : Type 0 where
+  pub ends : status ≢ FDB_OK → after ≡ over before
+  pub over : (status ≡ FDB_OVER) ↔ (before.is_over ≡ true)
+  pub statuses : (status ≡ FDB_OK) ⊎ (status ≡ FDB_OVER) ⊎ (status ≡ FDB_MEMORY)
+
+-- The log has ended, and the rest of it was told; or memory was refused, or the watch was over.
+pub record IsWatchEnded (before after : Watch) (status : ℕ) : Type 0 where
+  pub said : status ≢ FDB_OVER → status ≢ FDB_MEMORY → IsToldBesides before after
+  pub unchanged : status ≡ FDB_OVER → after ≡ before
+  pub ends : after.is_over ≡ true
+
+-- What was told of all of it: a fault, or else a line was left out, or else lines came early, or
+-- none of these.
+pub record IsWatchVerdict (watch : Watch) (refused : FdbRefused) (status : ℕ) : Type 0 where
+  pub ok : status ≡ FDB_OK → HasToldAll watch None None × HasTakenAll watch
+  pub unjudged : status ≡ FDB_UNJUDGED
+      → HasTakenAll watch × (number : ℕ) × HasToldAll watch None (Some number) × (refused ≡ unjudged_at number)
+  pub fault : status ≡ FDB_FAULT → HasToldFault watch
+  pub left_out : IsRefusal status → status ≢ FDB_OVER
+      → (last_early : Option ℕ) × HasToldAll watch None last_early × IsToldWhy (HasLeftOut watch) refused status
+
+-- What a watch keeps was written, or there is no room for it, or nothing was.
+pub record IsKeptGiven (watch : Watch) (before after : List ℕ) (size_before size_after status : ℕ) : Type 0 where
+  pub ok : status ≡ FDB_OK → (kept : List ℕ) × IsKept watch kept × IsWritten kept before after size_after
+  pub room : status ≡ FDB_ROOM → (kept : List ℕ) × IsKept watch kept × HasNoRoom kept before after size_after
+  pub over : (status ≡ FDB_OVER) ↔ (watch.is_over ≡ true)
+  pub untold : status ≢ FDB_OK → status ≢ FDB_ROOM → (after ≡ before) × (size_after ≡ size_before)
+  pub statuses : (status ≡ FDB_OK) ⊎ (status ≡ FDB_ROOM) ⊎ (status ≡ FDB_NOT_KEPT) ⊎ (status ≡ FDB_OVER) ⊎ (status ≡ FDB_MEMORY)
+
+-- Why a text of kept lines is refused is told: for names of members that are no texts, or for one
+-- of its lines.
+pub record IsKeptRefused (key shown : List ℕ) (before after : FdbRefused) (status : ℕ) : Type 0 where
+  pub names : ¬ (IsUtf8 key × IsUtf8 shown) → (status ≡ FDB_BAD_MEMBER) × (after ≡ no_line)
+  pub why : IsRefusal status → IsUtf8 key × IsUtf8 shown
+      → (it : KeptRefused) × (status ≡ status_of_why it.why) × (after ≡ kept_refused it)
+  pub untold : ¬ IsRefusal status → after ≡ before

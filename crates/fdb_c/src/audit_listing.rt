@@ -1,17 +1,15 @@
 //! The audit of a log that an array of calls stands for, as a list of faults or as a text.
 
-ghost use Rattle.std.specs.Prelude.{◌≡◌, ◌⊎◌, ◌+◌, ◌≤◌, ◌++◌, List, None, Ok, Err, IfOk, false};
-ghost use Rattle.std.specs.Prelude.{true, OnErr, drop, length, map, ℕ, Option, Some, []};
-ghost use Rattle.std.specs.Prelude.{string_bytes};
+ghost use Rattle.std.specs.Prelude.{◌≡◌, ◌⊎◌, ◌≤◌, ◌++◌, List, None, IfOk, OnErr, false, true};
+ghost use Rattle.std.specs.Prelude.{Some, [], drop, length, map, string_bytes};
 ghost use Rattle.fdb_lines.specs.Audit.{AreExplained, case_of};
-ghost use Rattle.fdb_lines.specs.Lines.{Lines};
 ghost use Rattle.fdb_lines.specs.Log.{lines_of};
 ghost use Rattle.fdb_lines.specs.declared.fault.Found.{Found};
-ghost use Rattle.fdb_log_reader.specs.Reading.{Reading, reading_in};
-ghost use Rattle.fdb_log_reader.specs.declared.error.ReadError.{ReadError};
-ghost use Rattle.fdb_audit.specs.Judged.{IsJudgement, IsText};
-ghost use Rattle.fdb_c.specs.Audit.{AreFaults, HasNoRoom, IsRefusal, IsWritten, log_in, opts_of};
-ghost use Rattle.fdb_c.specs.Audit.{refused_of, status_of, told, wanted_of};
+ghost use Rattle.fdb_log_reader.specs.Reading.{reading_in};
+ghost use Rattle.fdb_audit.specs.Judged.{IsText, IsTextOfReading};
+ghost use Rattle.fdb_c.specs.Audit.{AreFaults, HasNoRoom, IsWritten, log_in, opts_of, told};
+ghost use Rattle.fdb_c.specs.Audit.{wanted_of};
+ghost use Rattle.fdb_c.specs.Listed.{IsListed, IsRefusedAs, IsSaid};
 
 use crate::audit::{FdbAuditOptions, FdbRefused, opts_of, refuse, wanted_of};
 use crate::audit_calls::{FdbCall, log_of};
@@ -95,24 +93,10 @@ pub extern "C" fn fdb_audit_log_faults(
     size: &mut u64,
     refused: &mut FdbRefused,
 ) -> u8
-    ensures ok { (result ≡ FDB_OK) → (reading : Reading) × (reading_in log.now ≡ Ok reading)
-        × AreExplained (case_of reading.log (opts_of options.now))
-        × (faults.new ≡ faults.old) × (size.new ≡ 0) }
-    ensures fault { (result ≡ FDB_FAULT) → (reading : Reading) × (reading_in log.now ≡ Ok reading)
-        × (¬ (AreExplained (case_of reading.log (opts_of options.now))))
-        × (written : List FdbFault) × AreFaults reading.log None (opts_of options.now) written
-        × IsWritten written faults.old faults.new size.new }
-    ensures room { (result ≡ FDB_ROOM) → (reading : Reading) × (reading_in log.now ≡ Ok reading)
-        × (¬ (AreExplained (case_of reading.log (opts_of options.now))))
-        × (written : List FdbFault) × AreFaults reading.log None (opts_of options.now) written
-        × HasNoRoom written faults.old faults.new size.new }
-    ensures refused { IsRefusal result → (error : ReadError) × (reading_in log.now ≡ Err error)
-        × (result ≡ status_of error.why) × (refused.new ≡ refused_of error) }
-    ensures untold { IsRefusal result → (faults.new ≡ faults.old) × (size.new ≡ size.old) }
-    ensures memory { (result ≡ FDB_MEMORY) → (faults.new ≡ faults.old) × (size.new ≡ size.old) }
-    ensures taken { ¬ IsRefusal result → refused.new ≡ refused.old }
-    ensures statuses { (result ≡ FDB_OK) ⊎ (result ≡ FDB_FAULT) ⊎ (result ≡ FDB_ROOM)
-        ⊎ (result ≡ FDB_MEMORY) ⊎ IsRefusal result }
+    ensures verdict { IsListed (reading_in log.now) (λ reading. reading.log) (opts_of options.now)
+        faults.old faults.new size.new result }
+    ensures refusal { IsRefusedAs (reading_in log.now) faults.old faults.new size.old size.new
+        refused.old refused.new result }
 {
     match read_log(alloc, log) {
         Ok(named) => match list(alloc, &named.log, *options, faults, size) {
@@ -133,24 +117,10 @@ pub extern "C" fn fdb_audit_calls_faults(
     size: &mut u64,
     refused: &mut FdbRefused,
 ) -> u8
-    ensures ok { (result ≡ FDB_OK) → (log : Lines) × (log_in calls.now ≡ Ok log)
-        × AreExplained (case_of log (opts_of options.now))
-        × (faults.new ≡ faults.old) × (size.new ≡ 0) }
-    ensures fault { (result ≡ FDB_FAULT) → (log : Lines) × (log_in calls.now ≡ Ok log)
-        × (¬ (AreExplained (case_of log (opts_of options.now))))
-        × (written : List FdbFault) × AreFaults log None (opts_of options.now) written
-        × IsWritten written faults.old faults.new size.new }
-    ensures room { (result ≡ FDB_ROOM) → (log : Lines) × (log_in calls.now ≡ Ok log)
-        × (¬ (AreExplained (case_of log (opts_of options.now))))
-        × (written : List FdbFault) × AreFaults log None (opts_of options.now) written
-        × HasNoRoom written faults.old faults.new size.new }
-    ensures refused { IsRefusal result → (error : ReadError) × (log_in calls.now ≡ Err error)
-        × (result ≡ status_of error.why) × (refused.new ≡ refused_of error) }
-    ensures untold { IsRefusal result → (faults.new ≡ faults.old) × (size.new ≡ size.old) }
-    ensures memory { (result ≡ FDB_MEMORY) → (faults.new ≡ faults.old) × (size.new ≡ size.old) }
-    ensures taken { ¬ IsRefusal result → refused.new ≡ refused.old }
-    ensures statuses { (result ≡ FDB_OK) ⊎ (result ≡ FDB_FAULT) ⊎ (result ≡ FDB_ROOM)
-        ⊎ (result ≡ FDB_MEMORY) ⊎ IsRefusal result }
+    ensures verdict { IsListed (log_in calls.now) (λ log. log) (opts_of options.now)
+        faults.old faults.new size.new result }
+    ensures refusal { IsRefusedAs (log_in calls.now) faults.old faults.new size.old size.new
+        refused.old refused.new result }
 {
     match log_of(alloc, calls) {
         Ok(log) => match list(alloc, &log, *options, faults, size) {
@@ -206,22 +176,10 @@ pub extern "C" fn fdb_audit_log_text(
     size: &mut u64,
     refused: &mut FdbRefused,
 ) -> u8
-    ensures ok { (result ≡ FDB_OK) → (written : List ℕ)
-        × IsJudgement log.now (opts_of options.now) (wanted_of options.now) None written
-        × IsWritten written text.old text.new size.new }
-    ensures fault { (result ≡ FDB_FAULT) → (first : Found) × (written : List ℕ)
-        × IsJudgement log.now (opts_of options.now) (wanted_of options.now) (Some first) written
-        × IsWritten written text.old text.new size.new }
-    ensures room { (result ≡ FDB_ROOM) → (first : Option Found) × (written : List ℕ)
-        × IsJudgement log.now (opts_of options.now) (wanted_of options.now) first written
-        × HasNoRoom written text.old text.new size.new }
-    ensures refused { IsRefusal result → (error : ReadError) × (reading_in log.now ≡ Err error)
-        × (result ≡ status_of error.why) × (refused.new ≡ refused_of error) }
-    ensures untold { IsRefusal result → (text.new ≡ text.old) × (size.new ≡ size.old) }
-    ensures memory { (result ≡ FDB_MEMORY) → (text.new ≡ text.old) × (size.new ≡ size.old) }
-    ensures taken { ¬ IsRefusal result → refused.new ≡ refused.old }
-    ensures statuses { (result ≡ FDB_OK) ⊎ (result ≡ FDB_FAULT) ⊎ (result ≡ FDB_ROOM)
-        ⊎ (result ≡ FDB_MEMORY) ⊎ IsRefusal result }
+    ensures verdict { IsSaid (reading_in log.now) (λ reading. IsTextOfReading reading
+        (opts_of options.now) (wanted_of options.now)) text.old text.new size.new result }
+    ensures refusal { IsRefusedAs (reading_in log.now) text.old text.new size.old size.new
+        refused.old refused.new result }
 {
     match judge_text(alloc, log, &opts_of(*options), wanted_of(*options)) {
         Ok(found) => tell(&found, text, size),
@@ -240,25 +198,10 @@ pub extern "C" fn fdb_audit_calls_text(
     size: &mut u64,
     refused: &mut FdbRefused,
 ) -> u8
-    ensures ok { (result ≡ FDB_OK) → (log : Lines) × (log_in calls.now ≡ Ok log)
-        × (written : List ℕ)
-        × IsText log [] (opts_of options.now) (wanted_of options.now) None written
-        × IsWritten written text.old text.new size.new }
-    ensures fault { (result ≡ FDB_FAULT) → (log : Lines) × (log_in calls.now ≡ Ok log)
-        × (first : Found) × (written : List ℕ)
-        × IsText log [] (opts_of options.now) (wanted_of options.now) (Some first) written
-        × IsWritten written text.old text.new size.new }
-    ensures room { (result ≡ FDB_ROOM) → (log : Lines) × (log_in calls.now ≡ Ok log)
-        × (first : Option Found) × (written : List ℕ)
-        × IsText log [] (opts_of options.now) (wanted_of options.now) first written
-        × HasNoRoom written text.old text.new size.new }
-    ensures refused { IsRefusal result → (error : ReadError) × (log_in calls.now ≡ Err error)
-        × (result ≡ status_of error.why) × (refused.new ≡ refused_of error) }
-    ensures untold { IsRefusal result → (text.new ≡ text.old) × (size.new ≡ size.old) }
-    ensures memory { (result ≡ FDB_MEMORY) → (text.new ≡ text.old) × (size.new ≡ size.old) }
-    ensures taken { ¬ IsRefusal result → refused.new ≡ refused.old }
-    ensures statuses { (result ≡ FDB_OK) ⊎ (result ≡ FDB_FAULT) ⊎ (result ≡ FDB_ROOM)
-        ⊎ (result ≡ FDB_MEMORY) ⊎ IsRefusal result }
+    ensures verdict { IsSaid (log_in calls.now) (λ log. IsText log [] (opts_of options.now)
+        (wanted_of options.now)) text.old text.new size.new result }
+    ensures refusal { IsRefusedAs (log_in calls.now) text.old text.new size.old size.new
+        refused.old refused.new result }
 {
     match log_of(alloc, calls) {
         Ok(log) => match judge(alloc, &log, &[], &opts_of(*options), wanted_of(*options)) {

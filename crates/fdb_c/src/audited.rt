@@ -1,17 +1,16 @@
 //! A log that is audited piece by piece, by its handle, and what was found.
 
-ghost use Rattle.std.specs.Prelude.{◌≡◌, ◌≢◌, ◌↔◌, ◌⊎◌, ◌++◌, Err, IfOk, None, Some, false, map};
-ghost use Rattle.std.specs.Prelude.{string_bytes, true, IfSome, IsNone, IsSome};
+ghost use Rattle.std.specs.Prelude.{◌≡◌, ◌≢◌, ◌↔◌, ◌⊎◌, Err, IfOk, IfSome, IsNone, IsSome, None};
+ghost use Rattle.std.specs.Prelude.{Some, map, string_bytes};
 ghost use Rattle.fdb_lines.specs.Judged.{AreAll};
 ghost use Rattle.fdb_lines.specs.declared.fault.Found.{Found};
 ghost use Rattle.fdb_log_reader.specs.Reading.{reading_of};
-ghost use Rattle.fdb_log_reader.specs.declared.error.ReadError.{ReadError};
 ghost use Rattle.fdb_audit.specs.Judged.{keys_of_lines, HasOwnKeys};
 ghost use Rattle.core.specs.Str.{IsUtf8};
-ghost use Rattle.fdb_c.specs.Audit.{IsRefusal, asked_by, asked_in, refused_of, status_of, told};
-ghost use Rattle.fdb_c.specs.Audit.{HasNoRoom, IsWritten};
-ghost use Rattle.fdb_c.specs.Audited.{HasFound, HasFoundFault, IsEnded, IsFoundOf, IsRefusedFor};
-ghost use Rattle.fdb_c.specs.Audited.{fed, new_audit, over, reading_by};
+ghost use Rattle.fdb_c.specs.Audit.{IsGiven, IsRefusal, IsToldWhy, IsUntold, asked_by, asked_in};
+ghost use Rattle.fdb_c.specs.Audit.{told};
+ghost use Rattle.fdb_c.specs.Audited.{HasEnded, IsFoundOf, IsRefusedFor, IsVerdict, fed};
+ghost use Rattle.fdb_c.specs.Audited.{new_audit, over, reading_by};
 
 use crate::audit::{FdbAuditOptions, FdbRefused, asked_with, opts_of, refuse, texts_of, wanted_of};
 use crate::audit_faults::FdbFault;
@@ -152,12 +151,10 @@ impl Audited {
     /// Reads on. Where the log or memory is refused, the audit is over.
     pub(crate) fn push(&mut self, bytes: &[u8], refused: &mut FdbRefused) -> u8
         ensures ok { (result ≡ FDB_OK) → self.new ≡ fed self.old bytes.now }
-        ensures refused { IsRefusal result → (result ≢ FDB_OVER) → (error : ReadError)
-            × IsRefusedFor self.old bytes.now error
-            × (result ≡ status_of error.why) × (refused.new ≡ refused_of error) }
-        ensures untold { ¬ IsRefusal result → refused.new ≡ refused.old }
-        ensures over { (result ≡ FDB_OVER) ↔ (self.old.is_over ≡ true) }
-        ensures not_told { (result ≡ FDB_OVER) → refused.new ≡ refused.old }
+        ensures refused { IsRefusal result → (result ≢ FDB_OVER)
+            → IsToldWhy (IsRefusedFor self.old bytes.now) refused.new result }
+        ensures untold { IsUntold (IsRefusal result) self.old.is_over
+            refused.old refused.new result }
         ensures ends { (result ≢ FDB_OK) → self.new ≡ over self.old }
         ensures statuses { (result ≡ FDB_OK) ⊎ (result ≡ FDB_MEMORY) ⊎ IsRefusal result }
     {
@@ -176,16 +173,13 @@ impl Audited {
 
     /// Finds what there is, where the log ends here: the audit is then over.
     pub(crate) fn end(&mut self, alloc: Global, refused: &mut FdbRefused) -> u8
-        ensures found { (result ≡ FDB_OK) ⊎ (result ≡ FDB_FAULT) → IsEnded self.old self.new }
-        ensures ok { (result ≡ FDB_OK) → HasFound self.new None }
-        ensures fault { (result ≡ FDB_FAULT) → HasFoundFault self.new }
-        ensures refused { IsRefusal result → (result ≢ FDB_OVER) → (error : ReadError)
-            × (reading_by self.old.asked self.old.bytes ≡ Err error)
-            × (result ≡ status_of error.why) × (refused.new ≡ refused_of error) }
-        ensures untold { ¬ IsRefusal result → refused.new ≡ refused.old }
-        ensures over { (result ≡ FDB_OVER) ↔ (self.old.is_over ≡ true) }
-        ensures not_told { (result ≡ FDB_OVER) → refused.new ≡ refused.old }
-        ensures ends { (result ≢ FDB_OK) → (result ≢ FDB_FAULT) → self.new ≡ over self.old }
+        ensures ended { HasEnded self.old self.new result }
+        ensures verdict { IsVerdict self.new result }
+        ensures refused { IsRefusal result → (result ≢ FDB_OVER)
+            → IsToldWhy (λ error. reading_by self.old.asked self.old.bytes ≡ Err error)
+            refused.new result }
+        ensures untold { IsUntold (IsRefusal result) self.old.is_over
+            refused.old refused.new result }
         ensures statuses { (result ≡ FDB_OK) ⊎ (result ≡ FDB_FAULT) ⊎ (result ≡ FDB_MEMORY)
             ⊎ IsRefusal result }
     {
@@ -264,12 +258,9 @@ pub extern "C" fn fdb_audit_push(
     ensures ok { (result ≡ FDB_OK) → IfSome audit.old.audit
         (λ before. audit.new.audit ≡ Some (fed before bytes.now)) }
     ensures refused { IsRefusal result → (result ≢ FDB_OVER) → IfSome audit.old.audit
-        (λ before. (error : ReadError) × IsRefusedFor before bytes.now error
-        × (result ≡ status_of error.why) × (refused.new ≡ refused_of error)) }
-    ensures untold { ¬ IsRefusal result → refused.new ≡ refused.old }
-    ensures over { (result ≡ FDB_OVER)
-        ↔ IfSome audit.old.audit (λ before. before.is_over ≡ true) }
-    ensures not_told { (result ≡ FDB_OVER) → refused.new ≡ refused.old }
+        (λ before. IsToldWhy (IsRefusedFor before bytes.now) refused.new result) }
+    ensures untold { IfSome audit.old.audit
+        (λ before. IsUntold (IsRefusal result) before.is_over refused.old refused.new result) }
     ensures ends { (result ≢ FDB_OK) → IfSome audit.old.audit
         (λ before. audit.new.audit ≡ Some (over before)) }
     ensures statuses { (result ≡ FDB_OK) ⊎ (result ≡ FDB_MEMORY) ⊎ IsRefusal result }
@@ -286,19 +277,14 @@ pub extern "C" fn fdb_audit_push(
 #[unsafe(no_mangle)]
 pub extern "C" fn fdb_audit_end(alloc: Global, audit: &mut FdbAudit, refused: &mut FdbRefused) -> u8
     requires { IsSome audit.old.audit }
-    ensures found { (result ≡ FDB_OK) ⊎ (result ≡ FDB_FAULT) → IfSome audit.old.audit
-        (λ before. IfSome audit.new.audit (IsEnded before)) }
-    ensures ok { (result ≡ FDB_OK) → IfSome audit.new.audit (λ it. HasFound it None) }
-    ensures fault { (result ≡ FDB_FAULT) → IfSome audit.new.audit HasFoundFault }
+    ensures ended { IfSome audit.old.audit
+        (λ before. IfSome audit.new.audit (λ after. HasEnded before after result)) }
+    ensures verdict { IfSome audit.new.audit (λ it. IsVerdict it result) }
     ensures refused { IsRefusal result → (result ≢ FDB_OVER) → IfSome audit.old.audit
-        (λ before. (error : ReadError) × (reading_by before.asked before.bytes ≡ Err error)
-        × (result ≡ status_of error.why) × (refused.new ≡ refused_of error)) }
-    ensures untold { ¬ IsRefusal result → refused.new ≡ refused.old }
-    ensures over { (result ≡ FDB_OVER)
-        ↔ IfSome audit.old.audit (λ before. before.is_over ≡ true) }
-    ensures not_told { (result ≡ FDB_OVER) → refused.new ≡ refused.old }
-    ensures ends { (result ≢ FDB_OK) → (result ≢ FDB_FAULT) → IfSome audit.old.audit
-        (λ before. audit.new.audit ≡ Some (over before)) }
+        (λ before. IsToldWhy (λ error. reading_by before.asked before.bytes ≡ Err error)
+        refused.new result) }
+    ensures untold { IfSome audit.old.audit
+        (λ before. IsUntold (IsRefusal result) before.is_over refused.old refused.new result) }
     ensures statuses { (result ≡ FDB_OK) ⊎ (result ≡ FDB_FAULT) ⊎ (result ≡ FDB_MEMORY)
         ⊎ IsRefusal result }
     ensures held { IsSome audit.new.audit }
@@ -319,11 +305,8 @@ pub extern "C" fn fdb_audit_text(
     size: &mut u64,
 ) -> u8
     requires { IsSome audit.old.audit }
-    ensures ok { (result ≡ FDB_OK) → IfSome audit.old.audit
-        (λ it. IsWritten it.text text.old text.new size.new) }
-    ensures room { (result ≡ FDB_ROOM) → IfSome audit.old.audit
-        (λ it. HasNoRoom it.text text.old text.new size.new) }
-    ensures statuses { (result ≡ FDB_OK) ⊎ (result ≡ FDB_ROOM) }
+    ensures given { IfSome audit.old.audit
+        (λ it. IsGiven it.text text.old text.new size.new result) }
     ensures kept { audit.new.audit ≡ audit.old.audit }
 {
     let core = audit.swap(Held::none()).into_box(alloc).unwrap();
@@ -342,11 +325,8 @@ pub extern "C" fn fdb_audit_faults(
     size: &mut u64,
 ) -> u8
     requires { IsSome audit.old.audit }
-    ensures ok { (result ≡ FDB_OK) → IfSome audit.old.audit
-        (λ it. IsWritten it.faults faults.old faults.new size.new) }
-    ensures room { (result ≡ FDB_ROOM) → IfSome audit.old.audit
-        (λ it. HasNoRoom it.faults faults.old faults.new size.new) }
-    ensures statuses { (result ≡ FDB_OK) ⊎ (result ≡ FDB_ROOM) }
+    ensures given { IfSome audit.old.audit
+        (λ it. IsGiven it.faults faults.old faults.new size.new result) }
     ensures kept { audit.new.audit ≡ audit.old.audit }
 {
     let core = audit.swap(Held::none()).into_box(alloc).unwrap();

@@ -5,9 +5,9 @@ ghost use Rattle.std.specs.Prelude.{IfSome, IsSome, IfOk, Ok, OnOk};
 ghost use Rattle.std.specs.Bool.{OnTrue};
 ghost use Rattle.fdb_queue.specs.Config.{IsConfig};
 ghost use Rattle.fdb_queue.specs.Queue.{new_queue};
-ghost use Rattle.fdb_c.specs.Queue.{after, after_op, config_of, op_of, outcome, request_of, shown};
-ghost use Rattle.fdb_c.specs.Queue.{started_at, started_by, started_each, status_at, told};
-ghost use Rattle.fdb_c.specs.Queue.{told_each};
+ghost use Rattle.fdb_c.specs.Queue.{AreWritten, after, after_op, config_of, op_of, outcome};
+ghost use Rattle.fdb_c.specs.Queue.{request_of, shown, started_at, started_by, started_each};
+ghost use Rattle.fdb_c.specs.Queue.{status_at, told, told_each};
 
 use crate::queue::{
     FdbOp, FdbOutcome, FdbQueueConfig, FdbRequest, Op, offer_shown, op_of, pop_shown, request_of,
@@ -117,14 +117,8 @@ pub extern "C" fn fdb_queue_outcomes(
     started: &mut [FdbRequest],
     size: &mut u64,
 ) -> u8
-    ensures outcomes { (result ≡ FDB_OK) → outcomes.new
-        ≡ told_each (new_queue (config_of config.now)) ops.now
-        ++ drop (length ops.now) outcomes.old }
-    ensures started { (result ≡ FDB_OK) → started.new
-        ≡ started_each (new_queue (config_of config.now)) ops.now
-        ++ drop (length (started_each (new_queue (config_of config.now)) ops.now)) started.old }
-    ensures size { (result ≡ FDB_OK) → size.new
-        ≡ length (started_each (new_queue (config_of config.now)) ops.now) }
+    ensures ok { (result ≡ FDB_OK) → AreWritten (new_queue (config_of config.now)) ops.now
+        outcomes.old outcomes.new started.old started.new size.new }
     ensures bad_config { (length ops.now ≤ length outcomes.old)
         → ((result ≡ FDB_BAD_CONFIG) ↔ ¬ IsConfig (config_of config.now)) }
     ensures no_room { (length outcomes.old < length ops.now)

@@ -1,14 +1,14 @@
 //! The queue by its handle, and a window whose requests go to a slice.
 
 ghost use Rattle.std.specs.Prelude.{◌≡◌, ◌+◌, ◌<◌, ◌≤◌, ◌⊎◌, ◌↔◌, ◌++◌, length, drop, None, Some};
-ghost use Rattle.std.specs.Prelude.{IsNone, IsSome, IfSome, Err, OnOk, OnErr, IfOk, IfErr, map};
+ghost use Rattle.std.specs.Prelude.{IsNone, IsSome, IfSome, Err, OnErr, IfOk, IfErr, map};
 ghost use Rattle.fdb_queue.specs.Config.{IsConfig};
 ghost use Rattle.fdb_queue.specs.Queue.{new_queue};
 ghost use Rattle.fdb_queue.specs.Waiting.{row};
 ghost use Rattle.fdb_queue.specs.Window.{window};
 ghost use Rattle.fdb_queue.specs.declared.config.TheConstants.{MAX_STARTED};
-ghost use Rattle.fdb_c.specs.Queue.{after, config_of, IsDone, offered, started_by, status_told};
-ghost use Rattle.fdb_c.specs.Queue.{told, after_op, outcome, request_of, started_at};
+ghost use Rattle.fdb_c.specs.Queue.{HasHeld, IsDone, after, config_of, offered, request_of};
+ghost use Rattle.fdb_c.specs.Queue.{started_at, started_by, status_told, told};
 
 use crate::handle::{FdbQueue, Held, boxed};
 use crate::queue::{
@@ -117,10 +117,8 @@ fn window_told(
     elapsed: u64,
     started: &mut [FdbRequest],
 ) -> Result<FdbOutcome, u8>
-    ensures outcome { IfOk result (λ given. given ≡ told queue.old (Some (Op.Window elapsed))) }
-    ensures after { OnOk result (queue.new ≡ after queue.old (Some (Op.Window elapsed))) }
-    ensures started { OnOk result (started.new ≡ started_by queue.old (Some (Op.Window elapsed))
-        ++ drop (length (started_by queue.old (Some (Op.Window elapsed)))) started.old) }
+    ensures held { IfOk result
+        (λ given. HasHeld elapsed queue.old queue.new given started.old started.new) }
     ensures done { IfOk result (λ given. IsDone given.status) }
     ensures not_done { IfErr result (λ status. ¬ IsDone status) }
     ensures unchanged { OnErr result ((queue.new ≡ queue.old) × (started.new ≡ started.old)) }
@@ -149,14 +147,9 @@ pub extern "C" fn fdb_queue_window(
     started: &mut [FdbRequest],
 ) -> u8
     requires { IsSome queue.old.queue }
-    ensures outcome { IsDone result → IfSome queue.old.queue
-        (λ before. outcome.new ≡ told before (Some (Op.Window elapsed))) }
+    ensures done { IsDone result → IfSome queue.old.queue (λ before. IfSome queue.new.queue
+        (λ after. HasHeld elapsed before after outcome.new started.old started.new)) }
     ensures status { IsDone result → result ≡ outcome.new.status }
-    ensures after { IsDone result → IfSome queue.old.queue
-        (λ before. queue.new.queue ≡ Some (after before (Some (Op.Window elapsed)))) }
-    ensures started { IsDone result → IfSome queue.old.queue
-        (λ before. started.new ≡ started_by before (Some (Op.Window elapsed))
-        ++ drop (length (started_by before (Some (Op.Window elapsed)))) started.old) }
     ensures not_done { ¬ IsDone result → (queue.new.queue ≡ queue.old.queue)
         × (outcome.new ≡ outcome.old) × (started.new ≡ started.old) }
     ensures room { (result ≡ FDB_ROOM) → IfSome queue.old.queue
@@ -222,10 +215,8 @@ pub(crate) fn window_shown(
     started: &mut [FdbRequest],
 ) -> Option<FdbOutcome>
     requires { length (window queue.old) ≤ length started.old }
-    ensures outcome { IfSome result (λ given. given ≡ outcome queue.old (Op.Window elapsed)) }
-    ensures after { IfSome result (λ _. queue.new ≡ after_op queue.old (Op.Window elapsed)) }
-    ensures started { IfSome result (λ _. started.new ≡ started_at queue.old (Op.Window elapsed)
-        ++ drop (length (started_at queue.old (Op.Window elapsed))) started.old) }
+    ensures held { IfSome result
+        (λ given. HasHeld elapsed queue.old queue.new given started.old started.new) }
     ensures not_memory { IfSome result (λ given. given.status ≡ FDB_MEMORY → ⊥) }
     ensures memory { IsNone result → (queue.new ≡ queue.old) × (started.new ≡ started.old) }
     ensures due { IsNone result → 0 < length (started_at queue.old (Op.Window elapsed)) }

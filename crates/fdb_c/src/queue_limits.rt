@@ -3,13 +3,12 @@
 ghost use Rattle.std.specs.Prelude.{◌≡◌, ◌<◌, ◌≤◌, ◌⊎◌, ◌↔◌, ◌++◌, map, length, drop, Some, IsSome};
 ghost use Rattle.std.specs.Prelude.{IfSome, [], ◌∷◌, None, true, false, IsNone, IsSomeAnd, IsTrue};
 ghost use Rattle.std.specs.Prelude.{IfOk, OnOk, OnErr};
-ghost use Rattle.fdb_queue.specs.Config.{IsConfig, IsElapsed};
-ghost use Rattle.fdb_queue.specs.NewRates.{under_rates, with_rates};
+ghost use Rattle.fdb_queue.specs.Config.{IsElapsed};
 ghost use Rattle.fdb_queue.specs.Throttles.{last_set, limits_of, SameThrottles, unexpired};
 ghost use Rattle.fdb_queue.specs.Waiting.{first, row};
 ghost use Rattle.fdb_queue.specs.Waits.{IsSure, StartsAfter};
 ghost use Rattle.fdb_queue.specs.declared.config.TheConstants.{MAX_TAG};
-ghost use Rattle.fdb_c.specs.Rates.{IsForgotten, turned_away_by, turned_away_of};
+ghost use Rattle.fdb_c.specs.Rates.{AreNewRates, AreRefused, IsForgotten, turned_away_of};
 ghost use Rattle.fdb_c.specs.Queue.{IsSet, limit_shown, priority_of};
 
 use crate::handle::{FdbQueue, Held};
@@ -63,23 +62,12 @@ fn set_told(
     turned_away: &mut [FdbTurnedAway],
     size: &mut u64,
 ) -> u8
-    ensures set { (result ≡ FDB_OK) → queue.new ≡ under_rates normal batch queue.old }
-    ensures written { (result ≡ FDB_OK) → turned_away.new ≡ turned_away_by normal batch queue.old
-        ++ drop (length (turned_away_by normal batch queue.old)) turned_away.old }
-    ensures size { (result ≡ FDB_OK) → size.new ≡ length (turned_away_by normal batch queue.old) }
-    ensures room { (result ≡ FDB_ROOM)
-        ↔ (length turned_away.old < length queue.old.waiting.batch) }
-    ensures needed { (result ≡ FDB_ROOM) → size.new ≡ length queue.old.waiting.batch }
-    ensures bad_config { (result ≡ FDB_BAD_CONFIG)
-        ↔ ((length queue.old.waiting.batch ≤ length turned_away.old)
-        × ¬ IsConfig (with_rates normal batch queue.old.config)) }
-    ensures else_memory { (result ≡ FDB_MEMORY)
-        → 0 < length (turned_away_by normal batch queue.old) }
+    ensures ok { (result ≡ FDB_OK) → AreNewRates normal batch queue.old queue.new turned_away.old
+        turned_away.new size.new }
+    ensures refused { AreRefused normal batch queue.old queue.new turned_away.old turned_away.new
+        size.old size.new result }
     ensures known { (result ≡ FDB_OK) ⊎ ((result ≡ FDB_ROOM)
         ⊎ ((result ≡ FDB_BAD_CONFIG) ⊎ (result ≡ FDB_MEMORY))) }
-    ensures unchanged { (result ≡ FDB_OK → ⊥)
-        → (queue.new ≡ queue.old) × (turned_away.new ≡ turned_away.old) }
-    ensures size_stays { (result ≡ FDB_OK → ⊥) → (result ≡ FDB_ROOM → ⊥) → size.new ≡ size.old }
 {
     // The check learns here that new rates turn away batch requests alone.
     laws::new_rates_lose_nobody::<u64>();
@@ -113,27 +101,13 @@ pub extern "C" fn fdb_queue_set_rates(
     size: &mut u64,
 ) -> u8
     requires { IsSome queue.old.queue }
-    ensures set { (result ≡ FDB_OK) → IfSome queue.old.queue
-        (λ before. queue.new.queue ≡ Some (under_rates normal batch before)) }
-    ensures written { (result ≡ FDB_OK) → IfSome queue.old.queue
-        (λ before. turned_away.new ≡ turned_away_by normal batch before
-        ++ drop (length (turned_away_by normal batch before)) turned_away.old) }
-    ensures size { (result ≡ FDB_OK) → IfSome queue.old.queue
-        (λ before. size.new ≡ length (turned_away_by normal batch before)) }
-    ensures room { IfSome queue.old.queue (λ before. (result ≡ FDB_ROOM)
-        ↔ (length turned_away.old < length before.waiting.batch)) }
-    ensures needed { (result ≡ FDB_ROOM) → IfSome queue.old.queue
-        (λ before. size.new ≡ length before.waiting.batch) }
-    ensures bad_config { IfSome queue.old.queue (λ before. (result ≡ FDB_BAD_CONFIG)
-        ↔ ((length before.waiting.batch ≤ length turned_away.old)
-        × ¬ IsConfig (with_rates normal batch before.config))) }
-    ensures else_memory { (result ≡ FDB_MEMORY) → IfSome queue.old.queue
-        (λ before. 0 < length (turned_away_by normal batch before)) }
+    ensures ok { (result ≡ FDB_OK) → IfSome queue.old.queue (λ before. IfSome queue.new.queue
+        (λ after. AreNewRates normal batch before after turned_away.old turned_away.new size.new)) }
+    ensures refused { IfSome queue.old.queue (λ before. IfSome queue.new.queue
+        (λ after. AreRefused normal batch before after turned_away.old turned_away.new
+        size.old size.new result)) }
     ensures known { (result ≡ FDB_OK) ⊎ ((result ≡ FDB_ROOM)
         ⊎ ((result ≡ FDB_BAD_CONFIG) ⊎ (result ≡ FDB_MEMORY))) }
-    ensures unchanged { (result ≡ FDB_OK → ⊥)
-        → (queue.new.queue ≡ queue.old.queue) × (turned_away.new ≡ turned_away.old) }
-    ensures size_stays { (result ≡ FDB_OK → ⊥) → (result ≡ FDB_ROOM → ⊥) → size.new ≡ size.old }
     ensures held { IsSome queue.new.queue }
 {
     let mut core = queue.swap(Held::none()).into_box(alloc).unwrap();

@@ -1,16 +1,12 @@
 //! The watch of a log that grows, by its handle.
 
-ghost use Rattle.std.specs.Prelude.{◌≡◌, ◌≢◌, ◌↔◌, ◌⊎◌, ℕ, IfOk, IfSome, IsNone, IsSome, None};
-ghost use Rattle.std.specs.Prelude.{List, Option, Some, false, true};
+ghost use Rattle.std.specs.Prelude.{◌≡◌, ◌≢◌, ◌↔◌, ◌⊎◌, IfOk, IfSome, IsNone, IsSome, None, Some};
+ghost use Rattle.std.specs.Prelude.{false, true};
 ghost use Rattle.core.specs.Str.{IsUtf8};
-ghost use Rattle.fdb_log_reader.specs.declared.error.ReadError.{ReadError};
-ghost use Rattle.fdb_audit.specs.declared.refusal.KeptRefused.{KeptRefused};
-ghost use Rattle.fdb_c.specs.Audit.{HasNoRoom, IsRefusal, IsWritten, asked_with, refused_of};
-ghost use Rattle.fdb_c.specs.Audit.{status_of};
-ghost use Rattle.fdb_c.specs.Watch.{HasCounted, HasLeftOut, HasTakenAll, HasTold, HasToldAll};
-ghost use Rattle.fdb_c.specs.Watch.{HasToldFault, IsKept, IsTold, kept_refused, new_watch, no_line};
-ghost use Rattle.fdb_c.specs.Watch.{opts_in, over, restored, status_of_why, unjudged_at, wanted_in};
-ghost use Rattle.fdb_c.specs.Watch.{with_bytes};
+ghost use Rattle.fdb_c.specs.Audit.{IsGiven, IsRefusal, IsUntold, asked_with};
+ghost use Rattle.fdb_c.specs.Watch.{GoesOnOrEnds, HasCounted, HasTold, IsKeptGiven, IsKeptRefused};
+ghost use Rattle.fdb_c.specs.Watch.{IsToldBesides, IsWatchEnded, IsWatchVerdict, new_watch};
+ghost use Rattle.fdb_c.specs.Watch.{opts_in, restored, wanted_in, with_bytes};
 
 use crate::audit::{FdbRefused, texts_of};
 use crate::audit_listing::write_text;
@@ -109,11 +105,7 @@ pub extern "C" fn fdb_watch_restore(
         options.now.behind kept.now) }
     ensures told { (result ≡ FDB_OK) → IfSome watch.new.watch HasTold }
     ensures refused { (result ≢ FDB_OK) → watch.new.watch ≡ None }
-    ensures names { ¬ (IsUtf8 key.now × IsUtf8 shown.now)
-        → (result ≡ FDB_BAD_MEMBER) × (refused.new ≡ no_line) }
-    ensures why { IsRefusal result → IsUtf8 key.now × IsUtf8 shown.now → (it : KeptRefused)
-        × (result ≡ status_of_why it.why) × (refused.new ≡ kept_refused it) }
-    ensures untold { ¬ IsRefusal result → refused.new ≡ refused.old }
+    ensures refusal { IsKeptRefused key.now shown.now refused.old refused.new result }
     ensures statuses { (result ≡ FDB_OK) ⊎ (result ≡ FDB_MEMORY) ⊎ IsRefusal result }
 {
     let Some((key, shown)) = texts_of(key, shown) else {
@@ -137,11 +129,8 @@ pub extern "C" fn fdb_watch_push(alloc: Global, watch: &mut FdbWatch, bytes: &[u
     ensures ok { (result ≡ FDB_OK) → IfSome watch.old.watch
         (λ before. watch.new.watch ≡ Some (with_bytes before bytes.now)) }
     ensures told { (result ≡ FDB_OK) → IfSome watch.new.watch HasTold }
-    ensures over { (result ≡ FDB_OVER)
-        ↔ IfSome watch.old.watch (λ before. before.is_over ≡ true) }
-    ensures ends { (result ≢ FDB_OK) → IfSome watch.old.watch
-        (λ before. watch.new.watch ≡ Some (over before)) }
-    ensures statuses { (result ≡ FDB_OK) ⊎ (result ≡ FDB_OVER) ⊎ (result ≡ FDB_MEMORY) }
+    ensures goes_on { IfSome watch.old.watch
+        (λ before. IfSome watch.new.watch (λ after. GoesOnOrEnds before after result)) }
     ensures held { IsSome watch.new.watch }
 {
     let mut core = watch.swap(Held::none()).into_box(alloc).unwrap();
@@ -155,13 +144,10 @@ pub extern "C" fn fdb_watch_push(alloc: Global, watch: &mut FdbWatch, bytes: &[u
 pub extern "C" fn fdb_watch_tell(alloc: Global, watch: &mut FdbWatch, is_idle: bool) -> u8
     requires { IsSome watch.old.watch }
     ensures ok { (result ≡ FDB_OK) → IfSome watch.old.watch (λ before. IfSome watch.new.watch
-        (λ after. IsTold before after × (after.is_over ≡ false))) }
+        (λ after. IsToldBesides before after × (after.is_over ≡ false))) }
     ensures told { (result ≡ FDB_OK) → IfSome watch.new.watch HasTold }
-    ensures over { (result ≡ FDB_OVER)
-        ↔ IfSome watch.old.watch (λ before. before.is_over ≡ true) }
-    ensures ends { (result ≢ FDB_OK) → IfSome watch.old.watch
-        (λ before. watch.new.watch ≡ Some (over before)) }
-    ensures statuses { (result ≡ FDB_OK) ⊎ (result ≡ FDB_OVER) ⊎ (result ≡ FDB_MEMORY) }
+    ensures goes_on { IfSome watch.old.watch
+        (λ before. IfSome watch.new.watch (λ after. GoesOnOrEnds before after result)) }
     ensures held { IsSome watch.new.watch }
 {
     let mut core = watch.swap(Held::none()).into_box(alloc).unwrap();
@@ -175,27 +161,14 @@ pub extern "C" fn fdb_watch_tell(alloc: Global, watch: &mut FdbWatch, is_idle: b
 #[unsafe(no_mangle)]
 pub extern "C" fn fdb_watch_end(alloc: Global, watch: &mut FdbWatch, refused: &mut FdbRefused) -> u8
     requires { IsSome watch.old.watch }
-    ensures said { (result ≢ FDB_OVER) → (result ≢ FDB_MEMORY) → IfSome watch.old.watch
-        (λ before. IfSome watch.new.watch (IsTold before)) }
-    ensures ok { (result ≡ FDB_OK)
-        → IfSome watch.new.watch (λ it. HasToldAll it None None × HasTakenAll it) }
-    ensures unjudged { (result ≡ FDB_UNJUDGED) → IfSome watch.new.watch (λ it. HasTakenAll it
-        × (number : ℕ) × HasToldAll it None (Some number)
-        × (refused.new ≡ unjudged_at number)) }
-    ensures fault { (result ≡ FDB_FAULT) → IfSome watch.new.watch HasToldFault }
-    ensures left_out { IsRefusal result → (result ≢ FDB_OVER)
-        → IfSome watch.new.watch (λ it. (last_early : Option ℕ) × HasToldAll it None last_early
-        × (error : ReadError) × HasLeftOut it error × (result ≡ status_of error.why)
-        × (refused.new ≡ refused_of error)) }
+    ensures ended { IfSome watch.old.watch
+        (λ before. IfSome watch.new.watch (λ after. IsWatchEnded before after result)) }
+    ensures verdict { IfSome watch.new.watch (λ it. IsWatchVerdict it refused.new result) }
+    ensures untold { IfSome watch.old.watch
+        (λ before. IsUntold (IsRefusal result ⊎ (result ≡ FDB_UNJUDGED)) before.is_over
+        refused.old refused.new result) }
     ensures statuses { (result ≡ FDB_OK) ⊎ (result ≡ FDB_FAULT) ⊎ (result ≡ FDB_MEMORY)
         ⊎ (result ≡ FDB_UNJUDGED) ⊎ IsRefusal result }
-    ensures untold { ¬ IsRefusal result → (result ≢ FDB_UNJUDGED)
-        → refused.new ≡ refused.old }
-    ensures over { (result ≡ FDB_OVER)
-        ↔ IfSome watch.old.watch (λ before. before.is_over ≡ true) }
-    ensures not_told { (result ≡ FDB_OVER) → refused.new ≡ refused.old }
-    ensures unchanged { (result ≡ FDB_OVER) → watch.new.watch ≡ watch.old.watch }
-    ensures ends { IfSome watch.new.watch (λ after. after.is_over ≡ true) }
     ensures held { IsSome watch.new.watch }
 {
     let mut core = watch.swap(Held::none()).into_box(alloc).unwrap();
@@ -214,11 +187,8 @@ pub extern "C" fn fdb_watch_text(
     size: &mut u64,
 ) -> u8
     requires { IsSome watch.old.watch }
-    ensures ok { (result ≡ FDB_OK) → IfSome watch.old.watch
-        (λ it. IsWritten it.text text.old text.new size.new) }
-    ensures room { (result ≡ FDB_ROOM) → IfSome watch.old.watch
-        (λ it. HasNoRoom it.text text.old text.new size.new) }
-    ensures statuses { (result ≡ FDB_OK) ⊎ (result ≡ FDB_ROOM) }
+    ensures given { IfSome watch.old.watch
+        (λ it. IsGiven it.text text.old text.new size.new result) }
     ensures kept { watch.new.watch ≡ watch.old.watch }
 {
     let core = watch.swap(Held::none()).into_box(alloc).unwrap();
@@ -236,11 +206,8 @@ pub extern "C" fn fdb_watch_warnings(
     size: &mut u64,
 ) -> u8
     requires { IsSome watch.old.watch }
-    ensures ok { (result ≡ FDB_OK) → IfSome watch.old.watch
-        (λ it. IsWritten it.warnings text.old text.new size.new) }
-    ensures room { (result ≡ FDB_ROOM) → IfSome watch.old.watch
-        (λ it. HasNoRoom it.warnings text.old text.new size.new) }
-    ensures statuses { (result ≡ FDB_OK) ⊎ (result ≡ FDB_ROOM) }
+    ensures given { IfSome watch.old.watch
+        (λ it. IsGiven it.warnings text.old text.new size.new result) }
     ensures kept { watch.new.watch ≡ watch.old.watch }
 {
     let core = watch.swap(Held::none()).into_box(alloc).unwrap();
@@ -260,16 +227,8 @@ pub extern "C" fn fdb_watch_keep(
     size: &mut u64,
 ) -> u8
     requires { IsSome watch.old.watch }
-    ensures ok { (result ≡ FDB_OK) → IfSome watch.old.watch (λ it. (kept : List ℕ)
-        × IsKept it kept × IsWritten kept text.old text.new size.new) }
-    ensures room { (result ≡ FDB_ROOM) → IfSome watch.old.watch (λ it. (kept : List ℕ)
-        × IsKept it kept × HasNoRoom kept text.old text.new size.new) }
-    ensures over { (result ≡ FDB_OVER)
-        ↔ IfSome watch.old.watch (λ before. before.is_over ≡ true) }
-    ensures untold { (result ≢ FDB_OK) → (result ≢ FDB_ROOM)
-        → (text.new ≡ text.old) × (size.new ≡ size.old) }
-    ensures statuses { (result ≡ FDB_OK) ⊎ (result ≡ FDB_ROOM) ⊎ (result ≡ FDB_NOT_KEPT)
-        ⊎ (result ≡ FDB_OVER) ⊎ (result ≡ FDB_MEMORY) }
+    ensures given { IfSome watch.old.watch
+        (λ it. IsKeptGiven it text.old text.new size.old size.new result) }
     ensures kept { watch.new.watch ≡ watch.old.watch }
 {
     let mut core = watch.swap(Held::none()).into_box(alloc).unwrap();

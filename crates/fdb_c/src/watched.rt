@@ -1,15 +1,13 @@
 //! A log that is watched as it grows, and what was said of it last.
 
-ghost use Rattle.std.specs.Prelude.{◌≡◌, ◌≢◌, ◌++◌, ◌↔◌, ◌⊎◌, ℕ, Err, IfErr, IfOk, List};
-ghost use Rattle.std.specs.Prelude.{MatchOption, None, Option, Some, false, true};
-ghost use Rattle.fdb_log_reader.specs.declared.error.ReadError.{ReadError};
+ghost use Rattle.std.specs.Prelude.{◌≡◌, ◌≢◌, ◌++◌, ◌↔◌, ◌⊎◌, ℕ, Err, IfErr, IfOk, MatchOption};
+ghost use Rattle.std.specs.Prelude.{None, Some, false, true};
 ghost use Rattle.fdb_audit.specs.declared.printer.LogFault.{LogFault};
-ghost use Rattle.fdb_c.specs.Audit.{HasNoRoom, IsRefusal, IsWritten, asked_with, refused_of};
-ghost use Rattle.fdb_c.specs.Audit.{status_of};
-ghost use Rattle.fdb_c.specs.Watch.{HasCounted, HasLeftOut, HasTakenAll, HasTold, HasToldAll};
-ghost use Rattle.fdb_c.specs.Watch.{HasToldFault, IsKept, IsTold, kept_refused, new_watch, opts_in};
-ghost use Rattle.fdb_c.specs.Watch.{over, restored, status_of_why, unjudged_at, wanted_in};
-ghost use Rattle.fdb_c.specs.Watch.{with_bytes};
+ghost use Rattle.fdb_c.specs.Audit.{IsRefusal, IsToldWhy, IsUntold, asked_with};
+ghost use Rattle.fdb_c.specs.Watch.{GoesOnOrEnds, HasCounted, HasTold, IsKept, IsKeptGiven};
+ghost use Rattle.fdb_c.specs.Watch.{IsToldBesides, IsWatchEnded, IsWatchVerdict, kept_refused};
+ghost use Rattle.fdb_c.specs.Watch.{new_watch, opts_in, restored, status_of_why, unjudged_at};
+ghost use Rattle.fdb_c.specs.Watch.{wanted_in, with_bytes};
 
 use crate::audit::{FdbRefused, refuse};
 use crate::audit_listing::write_text;
@@ -153,15 +151,7 @@ impl Watched {
     /// Writes the text of the lines that are kept to the start of `text`, and its size. Where there is
     /// no room for it, it is held for the next time.
     pub(crate) fn keep(&mut self, text: &mut [u8], size: &mut u64) -> u8
-        ensures ok { (result ≡ FDB_OK) → (kept : List ℕ) × IsKept self.old kept
-            × IsWritten kept text.old text.new size.new }
-        ensures room { (result ≡ FDB_ROOM) → (kept : List ℕ) × IsKept self.old kept
-            × HasNoRoom kept text.old text.new size.new }
-        ensures over { (result ≡ FDB_OVER) ↔ (self.old.is_over ≡ true) }
-        ensures untold { (result ≢ FDB_OK) → (result ≢ FDB_ROOM)
-            → (text.new ≡ text.old) × (size.new ≡ size.old) }
-        ensures statuses { (result ≡ FDB_OK) ⊎ (result ≡ FDB_ROOM) ⊎ (result ≡ FDB_NOT_KEPT)
-            ⊎ (result ≡ FDB_OVER) ⊎ (result ≡ FDB_MEMORY) }
+        ensures given { IsKeptGiven self.old text.old text.new size.old size.new result }
         ensures kept { self.new ≡ self.old }
     {
         let kept = match self.take_kept() {
@@ -202,9 +192,7 @@ impl Watched {
     pub(crate) fn push(&mut self, bytes: &[u8]) -> u8
         ensures ok { (result ≡ FDB_OK) → self.new ≡ with_bytes self.old bytes.now }
         ensures told { (result ≡ FDB_OK) → HasTold self.new }
-        ensures over { (result ≡ FDB_OVER) ↔ (self.old.is_over ≡ true) }
-        ensures ends { (result ≢ FDB_OK) → self.new ≡ over self.old }
-        ensures statuses { (result ≡ FDB_OK) ⊎ (result ≡ FDB_OVER) ⊎ (result ≡ FDB_MEMORY) }
+        ensures goes_on { GoesOnOrEnds self.old self.new result }
     {
         let Some(mut follower) = mem::replace(&mut self.follower, None) else {
             return FDB_OVER;
@@ -222,11 +210,10 @@ impl Watched {
 
     /// Says what has become certain. Where memory is refused, the watch is over.
     pub(crate) fn tell(&mut self, is_idle: bool) -> u8
-        ensures ok { (result ≡ FDB_OK) → IsTold self.old self.new × (self.new.is_over ≡ false) }
+        ensures ok { (result ≡ FDB_OK)
+            → IsToldBesides self.old self.new × (self.new.is_over ≡ false) }
         ensures told { (result ≡ FDB_OK) → HasTold self.new }
-        ensures over { (result ≡ FDB_OVER) ↔ (self.old.is_over ≡ true) }
-        ensures ends { (result ≢ FDB_OK) → self.new ≡ over self.old }
-        ensures statuses { (result ≡ FDB_OK) ⊎ (result ≡ FDB_OVER) ⊎ (result ≡ FDB_MEMORY) }
+        ensures goes_on { GoesOnOrEnds self.old self.new result }
     {
         let Some(mut follower) = mem::replace(&mut self.follower, None) else {
             return FDB_OVER;
@@ -247,23 +234,12 @@ impl Watched {
     /// Says what is left, where the log ends here: the watch is then over. The status is the verdict,
     /// or why the last line was refused that was, or that lines came early.
     pub(crate) fn end(&mut self, refused: &mut FdbRefused) -> u8
-        ensures said { (result ≢ FDB_OVER) → (result ≢ FDB_MEMORY) → IsTold self.old self.new }
-        ensures ok { (result ≡ FDB_OK) → HasToldAll self.new None None × HasTakenAll self.new }
-        ensures unjudged { (result ≡ FDB_UNJUDGED) → HasTakenAll self.new × (number : ℕ)
-            × HasToldAll self.new None (Some number) × (refused.new ≡ unjudged_at number) }
-        ensures fault { (result ≡ FDB_FAULT) → HasToldFault self.new }
-        ensures left_out { IsRefusal result → (result ≢ FDB_OVER) → (last_early : Option ℕ)
-            × HasToldAll self.new None last_early × (error : ReadError)
-            × HasLeftOut self.new error
-            × (result ≡ status_of error.why) × (refused.new ≡ refused_of error) }
+        ensures ended { IsWatchEnded self.old self.new result }
+        ensures verdict { IsWatchVerdict self.new refused.new result }
+        ensures untold { IsUntold (IsRefusal result ⊎ (result ≡ FDB_UNJUDGED)) self.old.is_over
+            refused.old refused.new result }
         ensures statuses { (result ≡ FDB_OK) ⊎ (result ≡ FDB_FAULT) ⊎ (result ≡ FDB_MEMORY)
             ⊎ (result ≡ FDB_UNJUDGED) ⊎ IsRefusal result }
-        ensures untold { ¬ IsRefusal result → (result ≢ FDB_UNJUDGED)
-            → refused.new ≡ refused.old }
-        ensures over { (result ≡ FDB_OVER) ↔ (self.old.is_over ≡ true) }
-        ensures not_told { (result ≡ FDB_OVER) → refused.new ≡ refused.old }
-        ensures unchanged { (result ≡ FDB_OVER) → self.new ≡ self.old }
-        ensures ends { self.new.is_over ≡ true }
     {
         let Some(follower) = mem::replace(&mut self.follower, None) else {
             return FDB_OVER;
@@ -300,10 +276,10 @@ fn status_at_end(
     ensures fault { (result ≡ FDB_FAULT) → (first : LogFault) × (found ≡ Some first) }
     ensures unjudged { (result ≡ FDB_UNJUDGED) → (found ≡ None) × (left_out ≡ None)
         × (number : ℕ) × (last_early ≡ Some number) × (refused.new ≡ unjudged_at number) }
-    ensures refused { IsRefusal result → (found ≡ None) × (error : ReadError)
-        × (left_out ≡ Some error) × (result ≡ status_of error.why)
-        × (refused.new ≡ refused_of error) }
-    ensures untold { ¬ IsRefusal result → (result ≢ FDB_UNJUDGED) → refused.new ≡ refused.old }
+    ensures refused { IsRefusal result → (found ≡ None)
+        × IsToldWhy (λ error. left_out ≡ Some error) refused.new result }
+    ensures untold { ¬ (IsRefusal result ⊎ (result ≡ FDB_UNJUDGED))
+        → refused.new ≡ refused.old }
     ensures statuses { (result ≡ FDB_OK) ⊎ (result ≡ FDB_FAULT) ⊎ (result ≡ FDB_MEMORY)
         ⊎ (result ≡ FDB_UNJUDGED) ⊎ IsRefusal result }
     ensures not_over { result ≢ FDB_OVER }

@@ -25,7 +25,7 @@ use Rattle.fdb_lines.specs.Explained.{taken, taken_by, Explains, Happens, IsMome
 use Rattle.fdb_lines.specs.Faults.{IsFaultless}
 use Rattle.fdb_lines.specs.Lines.{Kind, Read, Commit, Ask, Report, Learn, Case, draws, kind_at, shows, version_at}
 use Rattle.fdb_lines.specs.Order.{Item, IsRanked, ask_item, needs_ask, needs_report, report_item, shared_item, take_by, take_item}
-use Rattle.fdb_lines.specs.OrderSteps.{effects_of, IsOrderOf, StandsAt}
+use Rattle.fdb_lines.specs.OrderSteps.{effects_of, IsOrderOf, IsStepAt}
 use Rattle.fdb_lines.specs.private.Slots.{entries_below, entry_of, item_of, slot_rank, steps_from}
 use Rattle.fdb_lines.proofs.Complete.{explained_by, IsEffectOf, IsExplained}
 use Rattle.fdb_lines.proofs.Legal.{Origin, Asked as AskedBy, origin_take, origin_report, same_items}
@@ -185,7 +185,7 @@ module _ (c : Case) (ranked : IsRanked c (slot_rank c.lines)) (none : IsFaultles
 
   -- the item at which a step stands is that of its slot
   each : (i : ℕ) (step : OrderStep) → slice_get (steps_from None slots) i ≡ Some step
-      → (m : ℕ) × StandsAt (steps_from None slots) i m × Happens (effects_of (steps_from None slots)) m step.effect
+      → (m : ℕ) × IsStepAt (steps_from None slots) i m × Happens (effects_of (steps_from None slots)) m step.effect
       × IfSome step.line (λ k. (k < length c.lines) × IsMoment c asked took k m)
   each i step h =
       let it = stepped_at slots i step h in
@@ -206,7 +206,7 @@ module _ (c : Case) (ranked : IsRanked c (slot_rank c.lines)) (none : IsFaultles
   -- a step with the effect of a moment of its line stands there
   stands : (k m : ℕ) (effect : Effect) → k < length c.lines → IsMoment c asked took k m → Happens (effects_of (steps_from None slots)) m effect
       → HasOrderStep (steps_from None slots) k effect
-      → (i : ℕ) × (step : OrderStep) × (slice_get (steps_from None slots) i ≡ Some step) × (step.line ≡ Some k) × StandsAt (steps_from None slots) i m
+      → (i : ℕ) × (step : OrderStep) × (slice_get (steps_from None slots) i ≡ Some step) × (step.line ≡ Some k) × IsStepAt (steps_from None slots) i m
   stands k m effect lt is happens has =
       let it = each has.0 has.1 has.2 in
       let own = MatchOption-at_some (Unit {0}) (λ k. (k < length c.lines) × IsMoment c asked took k it.0) k has.3 it.3 in
@@ -214,7 +214,7 @@ module _ (c : Case) (ranked : IsRanked c (slot_rank c.lines)) (none : IsFaultles
       (has.0, has.1, has.2, has.3, it.1 ∙ ap suc same)
 
   at_all : (k m : ℕ) → k < length c.lines → IsMoment c asked took k m
-      → (i : ℕ) × (step : OrderStep) × (slice_get (steps_from None slots) i ≡ Some step) × (step.line ≡ Some k) × StandsAt (steps_from None slots) i m
+      → (i : ℕ) × (step : OrderStep) × (slice_get (steps_from None slots) i ≡ Some step) × (step.line ≡ Some k) × IsStepAt (steps_from None slots) i m
   at_all k m lt (inl asks) =
       stands k m (Asks (version_at c k)) lt (inl asks) (ap (slice_get _) asks.1 ∙ explain.explains.asks k lt asks.0)
       ((found k _ lt (has_ask c k (asks_drawn c k asks.0))).1 (ap (λ b. cond b (Some k) None) asks.0))

@@ -17,7 +17,7 @@ use Rattle.fdb_lines.specs.declared.fault.Finding.{Finding}
 use Rattle.fdb_lines.specs.Before.{began}
 use Rattle.fdb_lines.specs.KeyParts.{lines_of_one, names_of, HasSeenOne}
 use Rattle.fdb_lines.specs.Keys.{key_at, keys_of, placed_found, places_of}
-use Rattle.fdb_lines.specs.KeyWatch.{AreTold, GoesOn, HasEntry, HasNothingToTell, IsToldOf}
+use Rattle.fdb_lines.specs.KeyWatch.{AreTold, SettlesOrStays, HasEntry, HasNothingToTell, IsToldOf}
 use Rattle.fdb_lines.specs.Lines.{Case, line_at}
 use Rattle.fdb_lines.specs.Listing.{faults_of}
 use Rattle.fdb_lines.specs.Reasons.{found_of}
@@ -123,8 +123,8 @@ entry_told to lines keys entry part is =
     let found = entry.settled.found.items in
     ap (λ (ns : List ℕ). map (λ (finding : Finding). placed_found ns (found_of finding)) found) is.numbers
     ∙ (maps_same (λ (finding : Finding). placed_found (map (slice_index mine) numbers) (found_of finding)) (λ (finding : Finding). placed_found mine (placed_found numbers (found_of finding))) found
-    (λ k d lt. placed_twice mine numbers (found_of (get_or found k d)) (is.told.within k d lt))
-    ∙ (sym (map-map (placed_found mine) (λ (finding : Finding). placed_found numbers (found_of finding)) found) ∙ ap (map (placed_found mine)) is.told.told))
+    (λ k d lt. placed_twice mine numbers (found_of (get_or found k d)) (is.told.tells.within k d lt))
+    ∙ (sym (map-map (placed_found mine) (λ (finding : Finding). placed_found numbers (found_of finding)) found) ∙ ap (map (placed_found mine)) is.told.tells.told))
 
 record IsOf (keys : List (Option ℕ)) (key : Option ℕ) (found : Found) : Type 0 where
   there : found.line < length keys
@@ -305,14 +305,14 @@ module _ (lines : List Line) (keys : List (Option ℕ)) (as_many : length keys �
 -- how each key goes on
 pub settled_on : (lines : List Line) (keys : List (Option ℕ)) → length keys ≡ length lines → (old new : List KeyPart) → names_of old ≡ keys_of keys → All (HasSeenOne lines keys) old
     → (at margin : ℕ) (entries : List SettledKey) (told : List Found) → AreTold (Some at) lines keys old entries → length new ≡ length old
-    → ((i : ℕ) (d : KeyPart) → i < length old → GoesOn at lines keys entries (get_or old i d) (get_or new i d))
+    → ((i : ℕ) (d : KeyPart) → i < length old → SettlesOrStays at lines keys entries (get_or old i d) (get_or new i d))
     → All (λ (part : KeyPart). (part.watch.margin ≡ margin) × (part.watch.from ≤ at)) old → All (λ (part : KeyPart). part.watch.margin ≡ margin) new
     → All (HasToldOne lines keys told) old → All (HasToldOne lines keys (told ++ told_by_all entries)) new
 settled_on lines keys as_many old new named each at margin entries told tell size goes low same has i d lt =
     let inside : i < length old = omega (arith, lt, size) in
     by inside (goes i d inside)
   where
-    by : i < length old → GoesOn at lines keys entries (get_or old i d) (get_or new i d) → HasToldOne lines keys (told ++ told_by_all entries) (get_or new i d)
+    by : i < length old → SettlesOrStays at lines keys entries (get_or old i d) (get_or new i d) → HasToldOne lines keys (told ++ told_by_all entries) (get_or new i d)
     by inside (inl (entry, on)) =
         let it = told_to lines keys as_many old named each (Some at) entries tell told i d inside (has i d inside) (inl entry) (low i d inside).1 in
         let margins : (get_or old i d).watch.margin ≡ (get_or new i d).watch.margin = (low i d inside).0 ∙ sym (same i d lt) in

@@ -5,7 +5,7 @@ use Rattle.fdb_lines.specs.Faults.{IsFaultless}
 use Rattle.fdb_lines.specs.Lines.{Case, Read, kind_at, version_at, shows}
 use Rattle.fdb_lines.specs.declared.slot.Effect.{Effect}
 use Rattle.fdb_lines.specs.declared.slot.Effect.TheVariants.{Asks, Reports, Reads}
-use Rattle.fdb_lines.specs.Explained.{Happens, ReportedBefore, IsLegal}
+use Rattle.fdb_lines.specs.Explained.{Happens, ReportedBefore, IsLegalHistory}
 use Rattle.fdb_lines.specs.Order.{Item, ask_item, shared_item, take_item, needs_ask, needs_report, IsRanked}
 use Rattle.fdb_lines.proofs.Sorted.{In, KeyLess, SameKey, Rises, index_of, in_at, rises_at, places, index_at, effect_at, item_at}
 use Rattle.fdb_lines.proofs.Steps.{IsAllowed, legal_allowed}
@@ -117,5 +117,5 @@ module _ (c : Case) (rank : ℕ → ℕ) (ranked : IsRanked c rank) (none : IsFa
         λ w r. let under = low m w x.0 x.1 r in omega arith,
       )
 
-  pub legal : IsLegal c.start (map (λ z. z.effect) items)
+  pub legal : IsLegalHistory c.start (map (λ z. z.effect) items)
   legal = (legal_allowed c.start (map (λ z. z.effect) items)).0 allowed

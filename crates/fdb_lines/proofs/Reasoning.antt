@@ -11,13 +11,13 @@ use Rattle.fdb_lines.specs.declared.fault.Witness.{Witness}
 use Rattle.fdb_lines.specs.declared.known.Exposure.{Exposure}
 use Rattle.fdb_lines.specs.declared.known.Exposure.TheVariants.{Shown, Drawn}
 use Rattle.fdb_lines.specs.declared.locators.LineKind.TheVariants.{Raises, Owned, Nameless}
-use Rattle.fdb_lines.specs.declared.tables.Made.{Made}
+use Rattle.fdb_lines.specs.declared.tables.LogTables.{LogTables}
 use Rattle.fdb_lines.specs.Audit.{case_of, start_of}
 use Rattle.fdb_lines.specs.Before.{comes_before}
 use Rattle.fdb_lines.specs.Faults.{is_drawn, is_own, is_raised, knows, some_below, last, stands, draws_again, draws_it, reports_it}
 use Rattle.fdb_lines.specs.Lines.{Case, Kind, Lines, Read, Commit, Ask, Report, Learn, client_at, draws, is_ask, is_commit, kind_at, kind_of, line_at, may_be_same_client, nobody, reports, same_client, shows, version_at}
 use Rattle.fdb_lines.specs.Log.{lines_of}
-use Rattle.fdb_lines.specs.Reasons.{IsFirst, IsKnown, IsReason, shows_or_draws}
+use Rattle.fdb_lines.specs.Reasons.{IsFirstPassing, IsKnown, IsReason, shows_or_draws}
 use Rattle.fdb_lines.specs.private.Entries.{other, IsFirstFrom}
 use Rattle.fdb_lines.specs.private.Known.{by_at, counts_at, newest_known, of_version, version_by, version_in}
 use Rattle.fdb_lines.specs.private.Locators.{is_located_at, knows_at, name}
@@ -29,7 +29,7 @@ use Rattle.fdb_lines.proofs.Numbers.{greatest_bound, greatest_least, some_at}
 -- ---- the tables
 
 -- what holds of the tables of a log, of what is asked of it
-pub are_asked : {log : Log} {opts : AuditOpts} {made : Made} {asked : Asked} → asked_of log opts ≡ asked → AreTables (lines_of log) opts made
+pub are_asked : {log : Log} {opts : AuditOpts} {made : LogTables} {asked : Asked} → asked_of log opts ≡ asked → AreTables (lines_of log) opts made
     → AreTables (lines_of asked.log) asked.opts made
 are_asked {made = made} same are = subst (λ (asked : Asked). AreTables (lines_of asked.log) asked.opts made) same are
 
@@ -171,7 +171,7 @@ pub order_is : (log : Lines) (opts : AuditOpts) (k version : ℕ) (by : Option W
     → IsFoundIn log opts Shown k version by → IsReason log opts k Order (Known version by)
 order_is log opts k version by stand is found = (grind (arith, nat_tests), is, shown_is log opts k version by found is)
 
-is_first : (test : ℕ → Bool) (n j : ℕ) → IsFirstFrom test 0 n (Some j) → IsFirst test n j
+is_first : (test : ℕ → Bool) (n j : ℕ) → IsFirstFrom test 0 n (Some j) → IsFirstPassing test n j
 is_first test n j first = (first.1, first.2, λ i lt. first.3 i (omega arith) lt)
 
 pub wrong_is : (log : Lines) (opts : AuditOpts) (k j version : ℕ) (by : Option Witness) → stands (case_of log opts) Wrong k ≡ true

@@ -15,7 +15,7 @@ use Rattle.fdb_lines.specs.Keys.{key_at, keys_below, keys_of, place_among, place
 use Rattle.fdb_lines.specs.Lines.{line_at, lines_in, nobody}
 use Rattle.fdb_lines.specs.Watch.{HasSeen}
 use Rattle.fdb_lines.specs.private.Keys.{number_of, AreNumbered}
-use Rattle.fdb_lines.specs.private.KeyParts.{HasNoMore, HasNoMoreAt, HasOneMore, HasOneMoreAt, IsAlike, IsFirst, IsNext, StaysAt}
+use Rattle.fdb_lines.specs.private.KeyParts.{HasNoMore, HasNoMoreAt, HasOneMore, HasOneMoreAt, IsAlike, BeginsWith, IsNext, StaysAt}
 use Rattle.fdb_lines.proofs.Keyed.{each_once, has_lines, has_none, place_is, same_is, same_self}
 
 abbrev key_is : KeyPart → Option ℕ
@@ -218,7 +218,7 @@ module _ (lines : List Line) (keys : List (Option ℕ)) (as_many : length keys �
           ]
 
   pub seen_first : (margin horizon : ℕ) (part : KeyPart) (new : List KeyPart) → ((i : ℕ) → i < length (names_of parts) → key_at (names_of parts) i ≢ key)
-      → IsFirst key margin horizon line (length lines) part → new ≡ parts ++ part ∷ []
+      → BeginsWith key margin horizon line (length lines) part → new ≡ parts ++ part ∷ []
       → (names_of new ≡ keys_of (keys ++ key ∷ [])) × All (HasSeenOne (lines ++ line ∷ []) (keys ++ key ∷ [])) new
   seen_first margin horizon part new absent first is = (
     ap names_of is ∙ (map_push key_is parts part ∙ (ap (λ q. names_of parts ++ q ∷ []) named ∙ (ap (λ (ks : List (Option ℕ)). ks ++ key ∷ []) are ∙ sym one_name))),
@@ -280,7 +280,7 @@ alike_stay margin horizon from place old new lt each (part, stay, same, is) =
     }) each)
 
 pub alike_first : (name : Option ℕ) (margin horizon from : ℕ) (line : Line) (number : ℕ) (old : List KeyPart) (part : KeyPart) → All (IsAlike margin horizon from) old
-    → IsFirst name margin horizon line number part → All (IsAlike margin horizon from) (old ++ part ∷ [])
+    → BeginsWith name margin horizon line number part → All (IsAlike margin horizon from) (old ++ part ∷ [])
 alike_first name margin horizon from line number old part each first =
     let up = first.alike.its_from in
     All-append (IsAlike margin horizon from) old (part ∷ []) each
@@ -310,7 +310,7 @@ stay_at place old new lt (part, stay, same, is) = subst (HaveStayed old) (sym is
     ])
 
 pub stay_first : (name : Option ℕ) (margin horizon : ℕ) (line : Line) (number : ℕ) (old new : List KeyPart) (part : KeyPart)
-    → IsFirst name margin horizon line number part → new ≡ old ++ part ∷ [] → HaveStayed old new
+    → BeginsWith name margin horizon line number part → new ≡ old ++ part ∷ [] → HaveStayed old new
 stay_first name margin horizon line number old new part first is = subst (HaveStayed old) (sym is) (λ i d less.
     elim (cases_lt i (length old)) [
       | inl inside ↦ inl (inside, subst (HasStayed (get_or old i d)) (sym (get_or_append_left old (part ∷ []) d i inside)) (record { key = refl; from = refl; settled = refl }))

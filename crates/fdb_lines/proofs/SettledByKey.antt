@@ -15,7 +15,7 @@ use Rattle.fdb_lines.specs.declared.watch.Watch.{Watch}
 use Rattle.fdb_lines.specs.Before.{began}
 use Rattle.fdb_lines.specs.KeyParts.{lines_of_one, names_of, HasSeenOne}
 use Rattle.fdb_lines.specs.Keys.{key_at, keys_of, places_of}
-use Rattle.fdb_lines.specs.KeyWatch.{AreTold, GoesOn, HasEntry, HasNothingToTell, IsToldOf, KeepsOn}
+use Rattle.fdb_lines.specs.KeyWatch.{AreTold, SettlesOrStays, HasEntry, HasNothingToTell, IsToldOf, KeepsOn}
 use Rattle.fdb_lines.specs.Lines.{Case, line_at, lines_in, nobody}
 use Rattle.fdb_lines.specs.Log.{lines_of}
 use Rattle.fdb_lines.specs.Watch.{due, judged_from, HasSeen, IsTold}
@@ -284,10 +284,10 @@ module _ (at : ℕ) (old : List KeyPart) (places : List ℕ) (nexts : List KeyPa
   pub goes_on : (margin horizon from : ℕ) → from ≤ at → All (IsAlike margin horizon from) old
       → (lines : List Line) (keys : List (Option ℕ))
       → ((i : ℕ) (d : KeyPart) → i < length old → flag_at (flags_of old) i ≡ false → HasNothingToTell (Some at) lines keys (get_or old i d))
-      → (i : ℕ) (d : KeyPart) → i < length old → GoesOn at lines keys given (get_or old i d) (get_or new i d)
+      → (i : ℕ) (d : KeyPart) → i < length old → SettlesOrStays at lines keys given (get_or old i d) (get_or new i d)
   goes_on margin horizon from le all lines keys none i d lt = by (flag_at (flags_of old) i) refl
     where
-      by : (b : Bool) → flag_at (flags_of old) i ≡ b → GoesOn at lines keys given (get_or old i d) (get_or new i d)
+      by : (b : Bool) → flag_at (flags_of old) i ≡ b → SettlesOrStays at lines keys given (get_or old i d) (get_or new i d)
       by b f = elim (where_is i d b f) [
         | inl it ↦
             let n = (its i d it).0 in

@@ -10,7 +10,7 @@ use Rattle.fdb_lines.specs.declared.slot.Effect.{Effect}
 use Rattle.fdb_lines.specs.declared.slot.Key.{Key}
 use Rattle.fdb_lines.specs.declared.slot.Slot.{Slot}
 use Rattle.fdb_lines.specs.declared.slot.OrderStep.{OrderStep}
-use Rattle.fdb_lines.specs.OrderSteps.{effects_of, StandsAt}
+use Rattle.fdb_lines.specs.OrderSteps.{effects_of, IsStepAt}
 use Rattle.fdb_lines.specs.private.Slots.{item_of, shares, steps_from}
 
 -- whether two slots stand at one place, so that they are one effect
@@ -95,7 +95,7 @@ told_after x (s ∷ ss) i step h = by (is_one s x) (is_some s.line) refl i (λ x
     by true false same i after h = further s ss _ step _ (subst (λ ts. After ss step x ts i) (sym (from_one s.key x.key ss same)) (after x i) h)
 
 pub stepped_at : (ss : List Slot) (i : ℕ) (step : OrderStep) → slice_get (steps_from None ss) i ≡ Some step
-    → (m : ℕ) × StandsAt (steps_from None ss) i m × IsOrderStepAt ss (dedup is_one ss) step m
+    → (m : ℕ) × IsStepAt (steps_from None ss) i m × IsOrderStepAt ss (dedup is_one ss) step m
 stepped_at [] i step h = absurd (none-some step h)
 stepped_at (s ∷ ss) zero step h = (0, refl, here s s ss _ false 0 (kept_first s ss) (laws-law.refl s.key) step h)
 stepped_at (s ∷ ss) (suc i) step h = (told (steps_from (Some s.key) ss) i, refl, further s ss _ step _ (told_after s ss i step h))

@@ -5,7 +5,7 @@ use Rattle.std.proofs.lemmas.Bool.Decides.{nat_tests}
 use Rattle.std.proofs.lemmas.Option.{same_Some, none-some}
 use Rattle.fdb_lines.specs.declared.slot.Effect.{Effect}
 use Rattle.fdb_lines.specs.declared.slot.Effect.TheVariants.{Asks, Reports, Reads}
-use Rattle.fdb_lines.specs.Explained.{Happens, ReportedBefore, AskedBefore, IsLegal}
+use Rattle.fdb_lines.specs.Explained.{Happens, ReportedBefore, AskedBefore, IsLegalHistory}
 use Rattle.fdb_lines.specs.Steps.{State, is_in, may, after, runs, fresh}
 
 -- whether an effect is legal at a moment
@@ -70,7 +70,7 @@ module _ (start : ℕ) (history : List Effect) where
         λ all. let may_here = (may_allowed m s a at).1 (all m a (omega arith) here) in and_from _ _ may_here ((on may_here).1 (λ n effect le. all n effect (omega arith))),
       )
 
-  pub legal_allowed : ((m : ℕ) (effect : Effect) → Happens history m effect → IsAllowed start history m effect) ↔ IsLegal start history
+  pub legal_allowed : ((m : ℕ) (effect : Effect) → Happens history m effect → IsAllowed start history m effect) ↔ IsLegalHistory start history
   legal_allowed = (
     λ all. record {
       had = λ m v is. (all m (Reads v) is).0;
@@ -86,7 +86,7 @@ module _ (start : ℕ) (history : List Effect) where
     ],
   )
 
-  pub legal_runs : (runs (fresh start) history ≡ true) ↔ IsLegal start history
+  pub legal_runs : (runs (fresh start) history ≡ true) ↔ IsLegalHistory start history
   legal_runs =
       let begun : IsStateAt start history 0 (fresh start) = record {
         register = inl refl;

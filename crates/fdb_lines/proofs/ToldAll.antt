@@ -99,24 +99,26 @@ module _ (watch : Watch) (to : Option ℕ) (lines : List Line) (seen : HasSeen w
 
   told_all : IsTold watch to lines numbers found
   told_all = record {
-    told =
-        sym (map-map (placed_found numbers) found_of found)
-        ∙ (ap (map (placed_found numbers)) are.told
-        ∙ (ap (λ n. map (placed_found numbers) (told_below test (case_of (with_times part) (opts_of watch.margin)) n)) (length-map numbers (line_at lines))
-        ∙ told_of_all watch.margin at lines numbers seen.stand (due watch to) (since_judged watch to)));
-    reasons = λ j d lt.
-        let finding = slice_index_or found j d in
-        let it = each_told j d lt in
-        reason_same watch.margin at lines numbers seen.stand finding.found.line (there finding.found it) (begins finding.found it) finding.found.fault finding.reason it.is_of
-        (are.reasons j d lt);
-    late = λ j d lt.
-        let finding = slice_index_or found j d in
-        let it = each_told j d lt in
-        let li = there finding.found it in
-        let from = begins finding.found it in
-        late_same watch.margin at lines numbers seen.stand finding.found.line li from finding.found.fault it.is_of
-        (stands_all finding.found.fault finding.found.line li from it.is_of it.stand) finding.late (are.late j d lt);
-    within = λ j d lt. let finding = slice_index_or found j d in there finding.found (each_told j d lt);
+    tells = record {
+      told =
+          sym (map-map (placed_found numbers) found_of found)
+          ∙ (ap (map (placed_found numbers)) are.told
+          ∙ (ap (λ n. map (placed_found numbers) (told_below test (case_of (with_times part) (opts_of watch.margin)) n)) (length-map numbers (line_at lines))
+          ∙ told_of_all watch.margin at lines numbers seen.stand (due watch to) (since_judged watch to)));
+      reasons = λ j d lt.
+          let finding = slice_index_or found j d in
+          let it = each_told j d lt in
+          reason_same watch.margin at lines numbers seen.stand finding.found.line (there finding.found it) (begins finding.found it) finding.found.fault finding.reason it.is_of
+          (are.reasons j d lt);
+      late = λ j d lt.
+          let finding = slice_index_or found j d in
+          let it = each_told j d lt in
+          let li = there finding.found it in
+          let from = begins finding.found it in
+          late_same watch.margin at lines numbers seen.stand finding.found.line li from finding.found.fault it.is_of
+          (stands_all finding.found.fault finding.found.line li from it.is_of it.stand) finding.late (are.late j d lt);
+      within = λ j d lt. let finding = slice_index_or found j d in there finding.found (each_told j d lt);
+    };
     kept = kept;
   }
 

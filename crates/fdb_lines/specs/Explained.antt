@@ -17,7 +17,7 @@ ReportedBefore start history moment v =
 abbrev pub AskedBefore : List Effect → ℕ → ℕ → Type 0
 AskedBefore history moment v = (m : ℕ) × (m < moment) × Happens history m (Asks v)
 
-pub record IsLegal (start : ℕ) (history : List Effect) : Type 0 where
+pub record IsLegalHistory (start : ℕ) (history : List Effect) : Type 0 where
   -- a read has a version that was reported before it, and the greatest
   pub had : (m v : ℕ) → Happens history m (Reads v) → ReportedBefore start history m v
   pub greatest : (m v w : ℕ) → Happens history m (Reads v) → ReportedBefore start history m w → w ≤ v
@@ -54,7 +54,7 @@ IsMoment c asked took k m =
     (IsTrue (draws (kind_at c k)) × (m ≡ asked k)) ⊎ (IsTrue (shows (kind_at c k)) × (m ≡ took k))
 
 pub record Explains (c : Case) (history : List Effect) : Type 0 where
-  pub legal : IsLegal c.start history
+  pub legal : IsLegalHistory c.start history
   -- each line's ask has a moment, and its read or report has one
   pub asked : ℕ → ℕ
   pub took : ℕ → ℕ

@@ -75,8 +75,8 @@ pub record StaysQuiet (to : ℕ) (lines : List Line) (keys : List (Option ℕ)) 
   pub nothing : HasNothingToTell (Some to) lines keys old
   pub few : length old.watch.numbers.items ≤ 2
 
-abbrev pub GoesOn : ℕ → List Line → List (Option ℕ) → List SettledKey → KeyPart → KeyPart → Type 0
-GoesOn to lines keys entries old new = (HasEntry entries old.key × HasSettled to old new) ⊎ StaysQuiet to lines keys old new
+abbrev pub SettlesOrStays : ℕ → List Line → List (Option ℕ) → List SettledKey → KeyPart → KeyPart → Type 0
+SettlesOrStays to lines keys entries old new = (HasEntry entries old.key × HasSettled to old new) ⊎ StaysQuiet to lines keys old new
 
 -- An entry says which of the lines that a key had kept, by their places among these, it keeps on.
 pub record KeepsOnAt (entry : SettledKey) (part : KeyPart) : Type 0 where

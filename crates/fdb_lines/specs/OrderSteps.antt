@@ -11,19 +11,19 @@ effects_of [] = []
 effects_of (step ∷ steps) = cond step.shared (effects_of steps) (step.effect ∷ effects_of steps)
 
 -- the step at a place stands at a moment: that of the last effect up to it
-abbrev pub StandsAt : List OrderStep → ℕ → ℕ → Type 0
-StandsAt steps i m = length (effects_of (take (suc i) steps)) ≡ suc m
+abbrev pub IsStepAt : List OrderStep → ℕ → ℕ → Type 0
+IsStepAt steps i m = length (effects_of (take (suc i) steps)) ≡ suc m
 
 -- OrderSteps are an order of lines: their effects explain these, and each step stands where its line does.
 pub record IsOrderOf (c : Case) (steps : List OrderStep) : Type 0 where
   pub explains : Explains c (effects_of steps)
   -- a step has the effect of the moment at which it stands, and that is one of its line, where it is of one
   pub each : (i : ℕ) (step : OrderStep) → slice_get steps i ≡ Some step
-      → (m : ℕ) × StandsAt steps i m × Happens (effects_of steps) m step.effect
+      → (m : ℕ) × IsStepAt steps i m × Happens (effects_of steps) m step.effect
       × IfSome step.line (λ k. (k < length c.lines) × IsMoment c explains.asked explains.took k m)
   -- at each moment of a line stands a step of it
   pub all : (k m : ℕ) → k < length c.lines → IsMoment c explains.asked explains.took k m
-      → (i : ℕ) × (step : OrderStep) × (slice_get steps i ≡ Some step) × (step.line ≡ Some k) × StandsAt steps i m
+      → (i : ℕ) × (step : OrderStep) × (slice_get steps i ≡ Some step) × (step.line ≡ Some k) × IsStepAt steps i m
   -- and steps that share an effect are of lines, in their order
   pub shared : (i : ℕ) (above step : OrderStep) → slice_get steps i ≡ Some above → slice_get steps (suc i) ≡ Some step → IsTrue step.shared
       → (a b : ℕ) × (above.line ≡ Some a) × (step.line ≡ Some b) × (a < b)

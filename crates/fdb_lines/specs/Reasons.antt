@@ -47,8 +47,8 @@ IsKnown log opts lets_know k version (Some by) = IsWitness log opts lets_know k 
 
 -- ---- the first line that passes a test, and the tests of the reasons
 
-abbrev pub IsFirst : (ℕ → Bool) → ℕ → ℕ → Type 0
-IsFirst test n j = (j < n) × IsTrue (test j) × ((i : ℕ) → i < j → IsFalse (test i))
+abbrev pub IsFirstPassing : (ℕ → Bool) → ℕ → ℕ → Type 0
+IsFirstPassing test n j = (j < n) × IsTrue (test j) × ((i : ℕ) → i < j → IsFalse (test i))
 
 -- which kinds have a version that others may know: one that was shown or drawn
 abbrev pub shows_or_draws : Kind → Bool
@@ -64,17 +64,17 @@ IsReason log opts k Wrong Unreported = let c = case_of log opts in is_reported c
 -- the first line that reports it knew it, or a newer one, before: that is the greatest that it knew
 IsReason log opts k Wrong (Reported j version by) =
     let c = case_of log opts in
-    IsFirst (reports_it c (version_at c k)) (length log.lines) j × (version_at c k ≤ version) × (version ≡ knows c j)
+    IsFirstPassing (reports_it c (version_at c k)) (length log.lines) j × (version_at c k ≤ version) × (version ≡ knows c j)
     × IsKnown log opts shows j version by
 -- the new version is not above the greatest that was shown or drawn before
 IsReason log opts k NotAbove (Known version by) =
     let c = case_of log opts in
     (version_at c k ≤ version) × (version ≡ max (knows c k) (last c k)) × IsKnown log opts shows_or_draws k version by
 -- another line drew it, and not both are commits: the first such line
-IsReason log opts k Twice (Drawn j) = let c = case_of log opts in IsFirst (draws_again c k) (length log.lines) j
+IsReason log opts k Twice (Drawn j) = let c = case_of log opts in IsFirstPassing (draws_again c k) (length log.lines) j
 -- a line drew it, and none of the client that reports it: the first that drew it
 IsReason log opts k Stray (Drawn j) =
-    let c = case_of log opts in IsFirst (draws_it c (version_at c k)) (length log.lines) j × (is_own c k ≡ false)
+    let c = case_of log opts in IsFirstPassing (draws_it c (version_at c k)) (length log.lines) j × (is_own c k ≡ false)
 -- no line drew the version that is reported
 IsReason log opts k Stray Undrawn = let c = case_of log opts in is_drawn c (version_at c k) ≡ false
 IsReason log opts k fault reason = ⊥

@@ -48,7 +48,7 @@ pub struct KeyWatch {
 
 impl KeyWatch {
     ghost use Rattle.fdb_lines.specs.declared.watch.WatchError.TheVariants.{NoTimes};
-    ghost use Rattle.fdb_lines.specs.KeyWatch.{AreKept, AreTold, GoesOn, HasEntry};
+    ghost use Rattle.fdb_lines.specs.KeyWatch.{AreKept, AreTold, SettlesOrStays, HasEntry};
     ghost use Rattle.fdb_lines.specs.KeyWatch.{HasNothingToTell, HasSeenByKey, IsLogOf, KeepsOn};
     ghost use Rattle.fdb_lines.specs.KeyWatch.{IsJudgedFrom};
     ghost use Rattle.fdb_lines.specs.Watch.{refusal_in, IsRefusedFor};
@@ -221,7 +221,7 @@ impl KeyWatch {
         ensures rest { IfOk result (λ told. (lines : List Line) → (keys : List (Option ℕ))
             → HasSeenByKey self.old lines keys
             → (i : ℕ) → (d : KeyPart) → i < length self.old.parts.items
-            → GoesOn (max self.old.from at) lines keys told.items
+            → SettlesOrStays (max self.old.from at) lines keys told.items
             (slice_index_or self.old.parts.items i d) (slice_index_or self.new.parts.items i d)) }
         ensures once { IfOk result (λ entries. (lines : List Line) → (keys : List (Option ℕ))
             → (told : List Found) → HasSeenByKey self.old lines keys

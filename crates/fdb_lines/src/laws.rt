@@ -24,7 +24,7 @@ ghost use Rattle.fdb_lines.specs.Keys.{places_of};
 ghost use Rattle.fdb_lines.specs.Listing.{faults_of};
 ghost use Rattle.fdb_lines.specs.Lines.{Case, Lines, Read, Ask, Learn, kind_at, line_at};
 ghost use Rattle.fdb_lines.specs.Lines.{lines_in, shows, version_at, version_of};
-ghost use Rattle.fdb_lines.specs.Explained.{Explains, IsLegal, precedes};
+ghost use Rattle.fdb_lines.specs.Explained.{Explains, IsLegalHistory, precedes};
 ghost use Rattle.fdb_lines.specs.Steps.{runs, fresh};
 ghost use Rattle.fdb_lines.specs.Faults.{stands, IsFaultless};
 ghost use Rattle.fdb_lines.specs.Order.{IsRanked, history};
@@ -65,7 +65,8 @@ pub fn no_read_goes_back()
 
 /// A history is legal exactly where register and sequencer run through it, one effect after another.
 pub fn legal_exactly_where_it_runs()
-    ensures { (start : ℕ) (history : List Effect) → IsTrue (runs (fresh start) history) ↔ IsLegal start history }
+    ensures { (start : ℕ) (history : List Effect)
+        → IsTrue (runs (fresh start) history) ↔ IsLegalHistory start history }
 {}
 
 /// What comes before in the log precedes in a history too, with one exception: an ask precedes only

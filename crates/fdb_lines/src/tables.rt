@@ -30,7 +30,7 @@ pub(crate) struct DrawTables {
 
 /// What each line knows, and which lines report and draw which versions.
 #[derive(Drop)]
-pub(crate) struct Made {
+pub(crate) struct LogTables {
     pub(crate) shown: Vec<Option<Witness>>,
     /// None where no line is an ask: all that is drawn is shown then.
     pub(crate) drawn: Option<DrawTables>,
@@ -50,7 +50,7 @@ pub(crate) struct Made {
 pub(crate) struct Tables<'a> {
     log: &'a Log,
     opts: &'a AuditOpts,
-    made: &'a Made,
+    made: &'a LogTables,
 }
 
 impl<'a> Model for Tables<'a> {
@@ -70,7 +70,7 @@ impl<'a> Model for Tables<'a> {
 
 impl<'a> Tables<'a> {
     /// The tables that were made of a log. These borrow what was made, as threads share it.
-    pub(crate) fn new(log: &'a Log, opts: &'a AuditOpts, made: &'a Made) -> Self
+    pub(crate) fn new(log: &'a Log, opts: &'a AuditOpts, made: &'a LogTables) -> Self
         requires { AreTables (lines_of log.now) opts.now made.now }
         ensures { result ≡ asked_of log.now opts.now }
     {

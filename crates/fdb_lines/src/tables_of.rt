@@ -15,12 +15,12 @@ use crate::line::Line;
 use crate::locators::LineKind::{self, Asks, Draws, Nameless, Owned, Raises, Reports};
 use crate::locators::Locators;
 use crate::log::{AuditOpts, Log};
-use crate::tables::{DrawTables, Made};
+use crate::tables::{DrawTables, LogTables};
 use std::alloc::{AllocError, Global};
 use std::thread::{Threads, join};
 
 /// The tables of a log. `n log n` in how many lines there are.
-pub(crate) fn tables_of(alloc: Global, log: &Log, opts: &AuditOpts) -> Result<Made, AllocError>
+pub(crate) fn tables_of(alloc: Global, log: &Log, opts: &AuditOpts) -> Result<LogTables, AllocError>
     ensures { IfOk result (λ made. AreTables (lines_of log.now) opts.now made) }
 {
     let lines = log.lines();
@@ -36,7 +36,7 @@ pub(crate) fn tables_of(alloc: Global, log: &Log, opts: &AuditOpts) -> Result<Ma
     let asks = Locators::new(alloc, start, lines, &shown, Asks)?;
     let owned = Locators::new(alloc, start, lines, &shown, Owned)?;
     let nameless = Locators::new(alloc, start, lines, &shown, Nameless)?;
-    Ok(Made {
+    Ok(LogTables {
         shown,
         drawn,
         reports,
@@ -55,7 +55,7 @@ pub(crate) fn tables_in_threads<R: Threads + Sync>(
     alloc: Global,
     log: &Log,
     opts: &AuditOpts,
-) -> Result<Made, AllocError>
+) -> Result<LogTables, AllocError>
     ensures { IfOk result (λ made. AreTables (lines_of log.now) opts.now made) }
 {
     let lines = log.lines();
@@ -83,7 +83,7 @@ pub(crate) fn tables_in_threads<R: Threads + Sync>(
     let (reports, raises) = one?;
     let (draws, owned) = other?;
     let (asks, nameless) = two_locators(rt, alloc, start, lines, known, Asks, Nameless)?;
-    Ok(Made {
+    Ok(LogTables {
         shown,
         drawn,
         reports,

@@ -24,7 +24,7 @@ use Rattle.fdb_audit.specs.Warned.{AreEarly, warning_line}
 use Rattle.fdb_audit.specs.GoingOn.{GoesOn}
 use Rattle.fdb_audit.specs.Following.{AreWindows, FollowArguments, KeptNumbers, Start, Window, counted_on, faults_told, first_told, told_in_all}
 use Rattle.fdb_audit.specs.ToldFaults.{ToldFault}
-use Rattle.fdb_audit.specs.Watched.{HasFollowed, IsTold, lines_asked, names_asked}
+use Rattle.fdb_audit.specs.Watched.{HasFollowed, IsTellerOf, lines_asked, names_asked}
 
 -- what was carried, with what is counted behind it
 pub record CountsBehind (before : Carried) (taking : Taking) (all : Carried) : Type 0 where
@@ -151,4 +151,4 @@ pub record IsUnread (asked : AuditArguments) (start : Start) (follower : Followe
   pub warned : HasWarned start follower.taking [] []
   pub margin : follower.taking.watch.margin ≡ asked.opts.margin
   pub text : string_bytes follower.teller.text ≡ []
-  pub are : IsTold asked start follower.teller [] []
+  pub are : IsTellerOf asked start follower.teller [] []

@@ -100,7 +100,7 @@ abbrev pub HasNoMoreAt : ℕ → List KeyPart → List KeyPart → Type 0
 HasNoMoreAt place old new = (part : KeyPart) × HasNoMore (slice_index_or old place part) part × (new ≡ set old place part)
 
 -- the part of a key with its first line
-pub record IsFirst (name : Option ℕ) (margin horizon : ℕ) (line : Line) (number : ℕ) (part : KeyPart) : Type 0 where
+pub record BeginsWith (name : Option ℕ) (margin horizon : ℕ) (line : Line) (number : ℕ) (part : KeyPart) : Type 0 where
   pub empty : KeyPart
   pub key : empty.key ≡ name
   pub seen : HasSeen empty.watch []

@@ -14,7 +14,7 @@ use Rattle.fdb_lines.specs.declared.known.Exposure.TheVariants.{Shown, Drawn}
 use Rattle.fdb_lines.specs.declared.locators.LineKind.{LineKind}
 use Rattle.fdb_lines.specs.declared.locators.LineKind.TheVariants.{Reports, Raises, Draws, Asks, Owned, Nameless}
 use Rattle.fdb_lines.specs.declared.tables.DrawTables.{DrawTables}
-use Rattle.fdb_lines.specs.declared.tables.Made.{Made}
+use Rattle.fdb_lines.specs.declared.tables.LogTables.{LogTables}
 use Rattle.fdb_lines.specs.declared.fault.Found.{Found}
 use Rattle.fdb_lines.specs.declared.fault.Finding.{Finding}
 use Rattle.fdb_lines.specs.declared.line.Locator.{Locator}
@@ -68,7 +68,7 @@ asked_of log opts = record { log = log; opts = opts }
 abbrev pub case_in : Asked → Case
 case_in asked = case_of (lines_of asked.log) asked.opts
 
-pub record AreTables (log : Lines) (opts : AuditOpts) (made : Made) : Type 0 where
+pub record AreTables (log : Lines) (opts : AuditOpts) (made : LogTables) : Type 0 where
   pub shown : AreKnownIn log opts Shown made.shown.items
   pub drawn : AreDrawnIn log opts made.drawn
   pub reports : AreLocatorsIn log opts Reports made.shown.items made.reports.locators.items

@@ -8,7 +8,7 @@ use Rattle.fdb_lines.specs.declared.line.Line.{Line}
 use Rattle.fdb_lines.specs.KeyParts.{names_of}
 use Rattle.fdb_lines.specs.Watch.{HasSeen}
 use Rattle.fdb_lines.specs.private.Keys.{AreNumbered}
-use Rattle.fdb_lines.specs.private.KeyParts.{flags_of, AreOpen, HasOneMore, IsAlike, IsFirst}
+use Rattle.fdb_lines.specs.private.KeyParts.{flags_of, AreOpen, HasOneMore, IsAlike, BeginsWith}
 use Rattle.fdb_lines.proofs.Opened.{opened_first}
 use Rattle.fdb_lines.proofs.Parted.{numbered_more}
 use Rattle.fdb_lines.proofs.SeenByKey.{alike_first, numbered_same, seen_first, stay_first}
@@ -17,7 +17,7 @@ use Rattle.fdb_lines.proofs.key_watch.KeyWatch.push_first.Goals as goal
 -- the part of a key with its first line
 first_part : (empty part : KeyPart) (name : Option ℕ) (margin horizon number : ℕ) (line : Line) → empty.key ≡ name → HasSeen empty.watch [] → empty.numbers.items ≡ []
     → IsAlike margin horizon 0 empty → HasOneMore line number empty part → IsAlike empty.watch.margin empty.watch.horizon empty.watch.from part → part.is_open ≡ true
-    → IsFirst name margin horizon line number part
+    → BeginsWith name margin horizon line number part
 first_part empty part name margin horizon number line named seen numbers was more now opened =
     let low = was.its_from in
     let up = now.its_from in
@@ -66,8 +66,8 @@ returns-clause-ok c = λ lines keys seen.
     let line = c.args.line in
     let new = c.push_reserved-2.new.self.items in
     let pushed : new ≡ parts ++ part ∷ [] = c.push_reserved-2.ensures.items ∙ ap (λ (ps : List KeyPart). ps ++ part ∷ []) c.reserve-2.ensures.items in
-    let first : IsFirst c.args.key watch.margin watch.horizon line (length lines) part =
-    subst (λ n. IsFirst c.args.key watch.margin watch.horizon line n part) seen.count (let its = c.new-part.ensures in
+    let first : BeginsWith c.args.key watch.margin watch.horizon line (length lines) part =
+    subst (λ n. BeginsWith c.args.key watch.margin watch.horizon line n part) seen.count (let its = c.new-part.ensures in
     first_part c.new-part.result c.push.new.self c.args.key watch.margin watch.horizon watch.count c.args.line its.key its.seen its.numbers its.alike c.in_default.ensures.ok c.push.ensures.alike c.push.ensures.opened) in
     let it = seen_first lines keys seen.as_many line c.args.key parts seen.names seen.each watch.margin watch.horizon part new
     (λ i lt. watch.numbered.absent c.args.key c.requires.absent i lt) first pushed in

@@ -3,7 +3,7 @@ use Rattle.std.specs.BTreeMap.{get}
 use Rattle.std.specs.List.{All, filter}
 use Rattle.std.specs.Ordering.{nat_cmp}
 use Rattle.fdb_lines.specs.declared.key_part.KeyPart.{KeyPart}
-use Rattle.fdb_lines.specs.KeyWatch.{AreTold, GoesOn}
+use Rattle.fdb_lines.specs.KeyWatch.{AreTold, SettlesOrStays}
 use Rattle.fdb_lines.specs.private.Keys.{AreNumbered}
 use Rattle.fdb_lines.specs.private.KeyParts.{flag_at, flags_of, AreNext, AreOpen, ArePut}
 use Rattle.fdb_lines.proofs.EntriesTell.{settled_on, told_came}
@@ -69,7 +69,7 @@ returns c =
       told = λ lines keys seen.
           subst (λ m. AreTold (Some m) lines keys old given) most (told_by_key (Some at) old places given watch.opened are lines keys seen.names seen.each);
       rest = λ lines keys seen i d lt.
-          subst (λ m. GoesOn m lines keys given (get_or old i d) (get_or new i d)) most
+          subst (λ m. SettlesOrStays m lines keys given (get_or old i d) (get_or new i d)) most
           (goes_on at old places nexts entries new given watch.opened next put watch.margin watch.horizon watch.from late watch.alike lines keys
           (nothing (Some at) old places given watch.opened are lines keys seen.names seen.each) i d lt);
       once = λ lines keys told seen has.
