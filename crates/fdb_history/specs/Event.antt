@@ -1,6 +1,6 @@
 -- Events of the register, one after another. (where no source is named, this product's own)
-use Rattle.std.specs.Prelude.{◌≡◌, ℕ, ◌+◌, Bool, false, if◌then◌else◌, List, [], ◌∷◌, Option, None, Some, map, filter_map, count_by}
-use Rattle.fdb_history.specs.Register.{raises, changes, after_report, after_reports}
+use Rattle.std.specs.Prelude.{◌≡◌, ℕ, ◌+◌, Bool, false, if◌then◌else◌, List, [], ◌∷◌, Option, None, Some, map, filter_map, fold, count_by}
+use Rattle.fdb_history.specs.Register.{raises, changes, after_report}
 use Rattle.fdb_history.specs.declared.register.Record.{Record}
 use Rattle.fdb_history.specs.declared.register.Event.{Event}
 use Rattle.fdb_history.specs.declared.register.Placed.{Placed}
@@ -21,10 +21,10 @@ reported (Read client call rec) = None
 abbrev pub reports_of : List Event → List Record
 reports_of events = filter_map reported events
 
--- The register after some events: after what they report, from the start record.
+-- The register after some events: a fold over them, from the start record.
 -- (liveCommittedVersion of masterserver, FoundationDB 7.1, as one register)
 abbrev pub register_after : Record → List Event → Record
-register_after start events = after_reports start (reports_of events)
+register_after start events = fold after_event start events
 
 -- What an event says is so of the register before it. A read has the register's record, and a
 -- report says that it raised the register, and that it changed it, exactly where it did.
