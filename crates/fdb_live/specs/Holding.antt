@@ -10,8 +10,9 @@ use Rattle.fdb_history.specs.declared.chain.Ask.{Ask}
 use Rattle.fdb_history.specs.declared.chain.Issued.{Issued}
 use Rattle.fdb_history.specs.declared.register.Record.{Record}
 use Rattle.fdb_history.specs.declared.register.TheConstants.{MAX_VERSION}
-use Rattle.fdb_live.specs.Seen.{IsBounded, IsChangedBy, IsNotBehind, IsNotChangedBy, IsRecord}
+use Rattle.fdb_live.specs.Seen.{IsBounded, IsChangedBy, IsLog, IsNotBehind, IsNotChangedBy, IsRecord}
 use Rattle.fdb_live.specs.Seen.{Sight, last_record, longer}
+use Rattle.fdb_live.specs.declared.held.Fetched.{Fetched}
 use Rattle.fdb_live.specs.declared.live_record.Ack.{Ack}
 use Rattle.fdb_live.specs.declared.view.Change.{Change}
 
@@ -69,6 +70,15 @@ pub record HasSeenMore (start : Record) (old new : Sight) : Type 0 where
   pub own_answers : own_answers new ≡ own_answers old
   pub never_falls : IsNotBehind (last_record start old.changes) (last_record start new.changes)
   pub least : least_above old.answers ≤ least_above new.answers
+
+-- A read was answered with the record after the last change that its reader has then seen, which is not behind the one that it had
+-- seen before; and each change is a reporter's.
+pub record IsRead (start : Record) (reporters : ℕ) (old new : Sight) (fetched : Fetched) : Type 0 where
+  pub rec : fetched.rec ≡ last_record start new.changes
+  pub position : fetched.position ≡ length new.changes
+  pub never_falls : IsNotBehind (last_record start old.changes) fetched.rec
+  pub bounded : IsBounded fetched.position fetched.rec
+  pub log : IsLog start reporters new.changes
 
 -- The holder of a token has learnt what another's has seen: of each two lists it has the longer one
 -- then, and so has seen no less than the other.

@@ -4,8 +4,8 @@ ghost use Rattle.std.specs.Prelude.{◌≡◌, ◌≢◌, ◌<◌, ◌≤◌, �
 ghost use Rattle.std.specs.Prelude.{IfErr, IfOk, OnErr, Some, slice_get, true, false, ℕ};
 ghost use mathlib.Core.List.{IsPrefix};
 ghost use Rattle.fdb_history.specs.declared.chain.Issued.{Issued};
-ghost use Rattle.fdb_live.specs.Holding.{AreDrawn, HasLearnt, HasSeenMore, IsAcked, least_above};
-ghost use Rattle.fdb_live.specs.Holding.{own_answers, versions};
+ghost use Rattle.fdb_live.specs.Holding.{AreDrawn, HasLearnt, HasSeenMore, IsAcked, IsRead};
+ghost use Rattle.fdb_live.specs.Holding.{least_above, own_answers, versions};
 ghost use Rattle.fdb_live.specs.Seen.{IsBounded, IsLog, IsNotBehind, IsRefusedFor, Sight};
 ghost use Rattle.fdb_live.specs.Seen.{last_record, own_positions};
 ghost use Rattle.fdb_live.specs.Gathering.{AreNumbered, AreTogether, HasCaughtUp, IsOwnKept};
@@ -87,20 +87,11 @@ impl<S: Live> LiveRecord<S> {
     ///
     /// It waits for a replacement that is under way, and not for the lock of the reports. No clause
     /// says that a read sees a report of which its caller had seen nothing.
-    #[tactic(auto, using(crate::proofs::Rising::never_behind))]
     #[inline]
     pub fn read<R: Wait>(&self, rt: &R, seen: &mut Seen<S>) -> Fetched
-        ensures reporter { seen.new.reporter ≡ seen.old.reporter }
-        ensures extends { IsPrefix seen.old.changes seen.new.changes }
+        ensures read { IsRead S.start S.reporters seen.old seen.new result }
+        ensures seen { HasSeenMore S.start seen.old seen.new }
         ensures own { own_positions seen.new ≡ own_positions seen.old }
-        ensures rec { result.rec ≡ last_record S.start seen.new.changes }
-        ensures position { result.position ≡ length seen.new.changes }
-        ensures never_falls { IsNotBehind (last_record S.start seen.old.changes) result.rec }
-        ensures bounded { IsBounded result.position result.rec }
-        ensures log { IsLog S.start S.reporters seen.new.changes }
-        ensures answers { IsPrefix seen.old.answers seen.new.answers }
-        ensures own_answers { own_answers seen.new ≡ own_answers seen.old }
-        ensures least { least_above seen.old.answers ≤ least_above seen.new.answers }
         ensures drawn { S.chained ≡ true → AreDrawn seen.new.answers seen.new.changes }
         ensures no_chain { S.chained ≡ false → seen.new.answers ≡ [] }
     {

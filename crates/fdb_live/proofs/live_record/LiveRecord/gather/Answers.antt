@@ -26,11 +26,11 @@ returns-clause-first g c =
     let read = c.read-position.ensures in
     let heard = c.learn_from.ensures in
     let holder : IsSameHolder c.args.first.now c.read-position.new.seen = record {
-      reporter = read.reporter ∙ heard.reporter;
-      seen = record { changes = prefix_trans _ _ _ heard.extends read.extends; answers = prefix_trans _ _ _ heard.answers read.answers };
+      reporter = read.seen.reporter ∙ heard.reporter;
+      seen = record { changes = prefix_trans _ _ _ heard.extends read.seen.extends; answers = prefix_trans _ _ _ heard.answers read.seen.answers };
       own = record {
-        positions = ap (λ who. own_among who c.read-position.new.seen.changes) (sym (read.reporter ∙ heard.reporter)) ∙ (read.own ∙ heard.own);
-        answers = ap (λ who. answers_among who c.read-position.new.seen.answers) (sym (read.reporter ∙ heard.reporter)) ∙ (read.own_answers ∙ heard.own_answers);
+        positions = ap (λ who. own_among who c.read-position.new.seen.changes) (sym (read.seen.reporter ∙ heard.reporter)) ∙ (read.own ∙ heard.own);
+        answers = ap (λ who. answers_among who c.read-position.new.seen.answers) (sym (read.seen.reporter ∙ heard.reporter)) ∙ (read.seen.own_answers ∙ heard.own_answers);
       };
     } in
     subst (IsSameHolder c.args.first.now) (sym same) holder
@@ -42,15 +42,15 @@ returns-clause-each g c k token is =
     let read = c.read-position.ensures in
     record {
       at = c.teach.ensures.each k token was;
-      seen = subst (λ (s : Sight). IsSeenBy s token) (sym c.teach.ensures.first) (seen_trans c.read-position.new.seen c.learn_from.new.first token heard read.extends read.answers);
+      seen = subst (λ (s : Sight). IsSeenBy s token) (sym c.teach.ensures.first) (seen_trans c.read-position.new.seen c.learn_from.new.first token heard read.seen.extends read.seen.answers);
       own = c.teach.ensures.own k token was;
     }
 
 pub returns-clause-one_owner : goal.returns-clause-one_owner
 returns-clause-one_owner g c position some within =
-    let log = c.read-position.ensures.log in
+    let log = c.read-position.ensures.read.log in
     let same = c.teach.ensures.first in
-    let at_end = c.read-position.ensures.position in
+    let at_end = c.read-position.ensures.read.position in
     owned_once g.S.Service.reporters c.teach.new.first c.teach.new.others position
     (subst (λ (s : Sight). All (λ r. r.reporter < g.S.Service.reporters) s.changes) (sym same) log.numbered)
     (count g c) (one_list g c) some (omega (arith, at_end, ap (λ (s : Sight). length s.changes) same, within))
