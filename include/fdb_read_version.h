@@ -518,14 +518,14 @@ enum {
     FDB_MEANS_LEARNT = 4 /* the client had learnt of line `by`, by its own line `learnt` */
 };
 
-/* A fault, and why it stands. Here lines are counted from 0, as an array's elements; a text and
- * fdb_refused count them from 1. What the fault's reason does not name is 0. */
+/* A fault, and why it stands. Here lines are told by their places, counted from 0, as an array's
+ * elements; a text and fdb_refused count them from 1. What the fault's reason does not name is 0. */
 typedef struct fdb_fault {
     uint64_t known;  /* the greatest version that was known: of REASON_KNOWN and REASON_REPORTED */
     uint64_t late;   /* with `has_late`, by how much the call was late, in the times' unit: the time
                         from the end of `first` to where the call began, or 0 where `first` had not
                         ended when the call began; the fault stands under each lesser margin */
-    uint32_t line;   /* the line at which the fault stands */
+    uint32_t place;  /* of the line at which the fault stands */
     uint32_t other;  /* the line that reported or drew: of REASON_REPORTED and REASON_DRAWN */
     uint32_t by;     /* the line that let `known` be known; of several, any */
     uint32_t learnt; /* the line by which the client had learnt of `by` */
@@ -604,7 +604,7 @@ uint8_t fdb_audit_calls_text(const fdb_call *calls, size_t calls_length,
                              fdb_refused *refused);
 
 /* Audits a log whose lines are `calls`, writes all faults as fdb_audit_log_faults does (each stands
- * at `calls[faults[i].line]`), and refuses the log as fdb_audit_calls_text does. */
+ * at `calls[faults[i].place]`), and refuses the log as fdb_audit_calls_text does. */
 uint8_t fdb_audit_calls_faults(const fdb_call *calls, size_t calls_length,
                                const fdb_audit_options *options,
                                fdb_fault *faults, size_t faults_length, uint64_t *size,
@@ -783,9 +783,9 @@ uint8_t fdb_watch_end(fdb_watch *watch, fdb_refused *refused);
 uint8_t fdb_watch_text(fdb_watch *watch, uint8_t *text, size_t text_length, uint64_t *size);
 
 /* Writes the warnings that came with what was said last, as fdb_watch_text writes the text. There
- * is a line for each line that was refused, with its number and why. There is also a line for the
- * first, second, fourth, eighth and so on that came early, or that shows that a clock is ahead,
- * with its number, by how much, and how many did so far. */
+ * is a line for each line that was refused: which line, and why. There is also a line for the
+ * first, second, fourth, eighth and so on that came early, or that shows that a clock is ahead:
+ * which line, by how much, and how many did so far. */
 uint8_t fdb_watch_warnings(fdb_watch *watch, uint8_t *text, size_t text_length, uint64_t *size);
 
 /*

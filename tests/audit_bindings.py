@@ -81,7 +81,7 @@ def why_wrong_found(log, found):
     """The faults are those of the model, with true reasons, and so late."""
     library, faults = bindings.package(), log.faults()
     at = [(fault, case.at[k]) for case, fault, k in faults]
-    if [(named(it.kind), it.line) for it in found] != at:
+    if [(named(it.kind), it.place) for it in found] != at:
         return f"{found} in place of {at}"
     for it, (case, fault, k) in zip(found, faults):
         true = [placed(reason, case.at) for reason in case.reasons(fault, k)]
@@ -105,7 +105,7 @@ def as_program(status, text, found):
     """How the program would end that is told this of a log."""
     if status == bindings.package().Status.OK:
         return Ran(audit_logs.OK, text.encode(), b"")
-    first = f"fdb_audit: audit fault: {named(found[0].kind)} {found[0].line + 1}\n"
+    first = f"fdb_audit: audit fault: {named(found[0].kind)} {found[0].place + 1}\n"
     return Ran(audit_logs.FAULTY, text.encode(), first.encode())
 
 
@@ -147,7 +147,7 @@ def renamed(text, numbers):
 def placed(reason, at):
     """A reason whose lines are those of the log, and not of a key."""
     place = lambda k: None if k is None else at[k]
-    by = reason.by and Witness(place(reason.by.line), reason.by.means, place(reason.by.teller))
+    by = reason.by and Witness(place(reason.by.place), reason.by.means, place(reason.by.teller))
     return reason._replace(other=place(reason.other), by=by)
 
 
@@ -155,7 +155,7 @@ def reason_of(fault):
     """What a fault of the package says, in words of the model."""
     known, by = fault.known, None
     if known and named(known.means) != "Start":
-        by = Witness(known.line, named(known.means).lower(), known.learnt)
+        by = Witness(known.place, named(known.means).lower(), known.learnt)
     return Reason(named(fault.reason).lower(), fault.other, known and known.version, by)
 
 

@@ -54,7 +54,7 @@ class Reason(NamedTuple):
 class Witness(NamedTuple):
     """How a version was known: by a line, since that had ended, was its own, or was learnt of."""
 
-    line: int
+    place: int
     means: str
     teller: Optional[int] = None
 
@@ -250,12 +250,12 @@ class Case:
         other = "" if it.other is None else self.mention(it.other)
         if it.word == "known":
             j, by = self.late(fault, k) or (None, 0)
-            is_told = it.by and (it.by.line, it.by.means) == (j, "ended")
+            is_told = it.by and (it.by.place, it.by.means) == (j, "ended")
             late = f"{by} too late: {self.ended(j, k)}, and " if by and not is_told else "but "
             return f"{said}{late}{self.way(k, it)}"
         if it.word == "reported":
             way = self.way(it.other, it)
-            if it.by and it.by.line == k:
+            if it.by and it.by.place == k:
                 return f"{said}which was reported only after this: {way.split(': ', 1)[1]}"
             return f"{said}which {other} reported when {way}"
         if it.word == "drawn":
@@ -282,7 +282,7 @@ class Case:
         if reason.other is not None:
             said[reason.word] = self.line_object(reason.other)
         if reason.known is not None:
-            said |= {"known": reason.known, "by": by and self.line_object(by.line)}
+            said |= {"known": reason.known, "by": by and self.line_object(by.place)}
         said |= {"means": by.means} if by else {}
         is_learnt = by and by.means == "learnt"
         return said | ({"teller": self.line_object(by.teller)} if is_learnt else {})

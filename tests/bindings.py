@@ -37,8 +37,8 @@ refused: EARLY, expected 1
 [17]
 """
 AUDIT_OF_PYTHON = b"""\
-Fault(line=1, kind=<FaultKind.ORDER: 1>, reason=<Reason.KNOWN: 1>, other=None, \
-known=Known(version=200, means=<Means.ENDED: 2>, line=0, learnt=None), late=Late(line=0, by=1))
+Fault(place=1, kind=<FaultKind.ORDER: 1>, reason=<Reason.KNOWN: 1>, other=None, \
+known=Known(version=200, means=<Means.ENDED: 2>, place=0, learnt=None), late=Late(place=0, by=1))
 audit fault: Order 2: client 2 read 100, but 200 was known: line 1 (client 1, commit 200) \
 had ended 1 before line 2 began
 """
@@ -63,8 +63,8 @@ Joskleme maintainers <maintainers@users.noreply.joskleme.example>
 200 32
 """.encode()
 AUDIT_OF_RUST = b"""\
-Fault { line: 1, kind: Order, reason: Known { version: 200, means: Ended(0) }, \
-late: Some(Late { line: 0, by: 1 }) }
+Fault { place: 1, kind: Order, reason: Known { version: 200, means: Ended(0) }, \
+late: Some(Late { place: 0, by: 1 }) }
 """
 
 

@@ -16,6 +16,6 @@ int main(void) {
     uint8_t status = fdb_audit_calls_faults(calls, 2, &options, &fault, 1, &size, &refused);
     if (status == FDB_FAULT && fault.kind == FDB_FAULT_ORDER && fault.means == FDB_MEANS_ENDED)
         printf("call %" PRIu32 " is stale: %" PRIu64 " was known, as call %" PRIu32 " had ended\n",
-               fault.line, fault.known, fault.by);
+               fault.place, fault.known, fault.by);
     return 0;
 }

@@ -50,7 +50,7 @@ static uint8_t calls_faults(const fdb_call *calls, size_t count, const fdb_audit
 }
 
 static bool same_fault(const fdb_fault *a, const fdb_fault *b) {
-    return a->known == b->known && a->line == b->line && a->other == b->other && a->by == b->by
+    return a->known == b->known && a->place == b->place && a->other == b->other && a->by == b->by
         && a->learnt == b->learnt && a->kind == b->kind && a->reason == b->reason
         && a->means == b->means && a->late == b->late && a->first == b->first
         && a->has_late == b->has_late;
@@ -76,7 +76,7 @@ static void a_stale_read(void) {
         for (size_t at = room < size ? 0 : size; at < sizeof text; at++) assert(text[at] == '~');
     }
     assert(refused.line == 77 && refused.member == 7);
-    fdb_fault fault, wanted = {.known = 200, .line = 1, .by = 0, .kind = FDB_FAULT_ORDER,
+    fdb_fault fault, wanted = {.known = 200, .place = 1, .by = 0, .kind = FDB_FAULT_ORDER,
                                .reason = FDB_REASON_KNOWN, .means = FDB_MEANS_ENDED,
                                .late = 1, .first = 0, .has_late = true};
     uint64_t size = 0;
@@ -102,21 +102,21 @@ static void each_reason(void) {
         {.kind = FDB_READ, .version = 6, CLIENT(5)},   /* Order; Wrong: line 8 knew 9 by line 4 */
     };
     fdb_fault wanted[] = {
-        {.line = 2, .kind = FDB_FAULT_NOT_ABOVE, .reason = FDB_REASON_KNOWN, .known = 7,
+        {.place = 2, .kind = FDB_FAULT_NOT_ABOVE, .reason = FDB_REASON_KNOWN, .known = 7,
          .means = FDB_MEANS_LEARNT, .by = 0, .learnt = 1},
-        {.line = 3, .kind = FDB_FAULT_STRAY, .reason = FDB_REASON_UNDRAWN},
-        {.line = 4, .kind = FDB_FAULT_WRONG, .reason = FDB_REASON_UNREPORTED},
-        {.line = 5, .kind = FDB_FAULT_ORDER, .reason = FDB_REASON_KNOWN, .known = 9,
+        {.place = 3, .kind = FDB_FAULT_STRAY, .reason = FDB_REASON_UNDRAWN},
+        {.place = 4, .kind = FDB_FAULT_WRONG, .reason = FDB_REASON_UNREPORTED},
+        {.place = 5, .kind = FDB_FAULT_ORDER, .reason = FDB_REASON_KNOWN, .known = 9,
          .means = FDB_MEANS_OWN, .by = 4},
-        {.line = 6, .kind = FDB_FAULT_ORDER, .reason = FDB_REASON_KNOWN, .known = 2,
+        {.place = 6, .kind = FDB_FAULT_ORDER, .reason = FDB_REASON_KNOWN, .known = 2,
          .means = FDB_MEANS_START},
-        {.line = 7, .kind = FDB_FAULT_STRAY, .reason = FDB_REASON_DRAWN, .other = 0},
-        {.line = 8, .kind = FDB_FAULT_NOT_ABOVE, .reason = FDB_REASON_KNOWN, .known = 9,
+        {.place = 7, .kind = FDB_FAULT_STRAY, .reason = FDB_REASON_DRAWN, .other = 0},
+        {.place = 8, .kind = FDB_FAULT_NOT_ABOVE, .reason = FDB_REASON_KNOWN, .known = 9,
          .means = FDB_MEANS_OWN, .by = 4},
-        {.line = 9, .kind = FDB_FAULT_WRONG, .reason = FDB_REASON_REPORTED, .other = 8, .known = 9,
+        {.place = 9, .kind = FDB_FAULT_WRONG, .reason = FDB_REASON_REPORTED, .other = 8, .known = 9,
          .means = FDB_MEANS_OWN, .by = 4},
-        {.line = 2, .kind = FDB_FAULT_TWICE, .reason = FDB_REASON_DRAWN, .other = 0},
-        {.line = 0, .kind = FDB_FAULT_TWICE, .reason = FDB_REASON_DRAWN, .other = 2},
+        {.place = 2, .kind = FDB_FAULT_TWICE, .reason = FDB_REASON_DRAWN, .other = 0},
+        {.place = 0, .kind = FDB_FAULT_TWICE, .reason = FDB_REASON_DRAWN, .other = 2},
     };
     fdb_audit_options options = {.complete = true, .start = 2};
     fdb_fault faults[2 * MOST];
@@ -236,7 +236,7 @@ static void in_pieces(void) {
     fdb_refused refused = {77, 77};
     uint64_t length, size;
     assert(log_text(log, &PLAIN, whole, sizeof whole, &length, &refused) == FDB_FAULT);
-    fdb_fault fault, wanted = {.known = 200, .line = 1, .by = 0, .kind = FDB_FAULT_ORDER,
+    fdb_fault fault, wanted = {.known = 200, .place = 1, .by = 0, .kind = FDB_FAULT_ORDER,
                                .reason = FDB_REASON_KNOWN, .means = FDB_MEANS_ENDED,
                                .late = 1, .first = 0, .has_late = true};
     for (size_t cut = 1; cut <= strlen(log); cut++) {
@@ -319,7 +319,7 @@ static void by_key(void) {
         {{.json = true, .totals = true, .history = true}, TOTALS_IN_JSON},
         {{.json = true, .all = true, .totals = true}, IN_JSON TOTALS_IN_JSON},
     };
-    fdb_fault faults[3], wanted = {.known = 200, .late = 2, .line = 2, .by = 0, .first = 0,
+    fdb_fault faults[3], wanted = {.known = 200, .late = 2, .place = 2, .by = 0, .first = 0,
                                    .kind = FDB_FAULT_ORDER, .reason = FDB_REASON_KNOWN,
                                    .means = FDB_MEANS_ENDED, .has_late = true};
     fdb_refused refused = {77, 77};
@@ -340,7 +340,7 @@ static void by_key(void) {
     assert(pushed(&audit, log, 10, &refused) == FDB_OK);
     assert(fdb_audit_end(&audit, &refused) == FDB_FAULT);
     assert(fdb_audit_faults(&audit, faults, 3, &size) == FDB_OK && size == 2);
-    assert(faults[0].line == 1 && same_fault(&faults[1], &wanted));
+    assert(faults[0].place == 1 && same_fault(&faults[1], &wanted));
     fdb_audit_free(&audit);
     /* a key that is no name, a learn beside keys, and names that are no UTF-8 */
     audit = opened(&PLAIN, "k", "");
@@ -372,12 +372,12 @@ static void how_late(void) {
         {.kind = FDB_ASK, .version = 7, CLIENT(5), .began = 1, .ended = 3, TIMES},
     };
     fdb_fault faults[2 * MOST], wanted[] = {
-        {.line = 2, .kind = FDB_FAULT_ORDER, .reason = FDB_REASON_KNOWN, .known = 300,
+        {.place = 2, .kind = FDB_FAULT_ORDER, .reason = FDB_REASON_KNOWN, .known = 300,
          .means = FDB_MEANS_ENDED, .by = 0, .late = far, .first = 1, .has_late = true},
-        {.line = 3, .kind = FDB_FAULT_ORDER, .reason = FDB_REASON_KNOWN, .known = 300,
+        {.place = 3, .kind = FDB_FAULT_ORDER, .reason = FDB_REASON_KNOWN, .known = 300,
          .means = FDB_MEANS_OWN, .by = 0, .late = 0, .first = 0, .has_late = true},
-        {.line = 4, .kind = FDB_FAULT_TWICE, .reason = FDB_REASON_DRAWN, .other = 5},
-        {.line = 5, .kind = FDB_FAULT_TWICE, .reason = FDB_REASON_DRAWN, .other = 4},
+        {.place = 4, .kind = FDB_FAULT_TWICE, .reason = FDB_REASON_DRAWN, .other = 5},
+        {.place = 5, .kind = FDB_FAULT_TWICE, .reason = FDB_REASON_DRAWN, .other = 4},
     };
     assert(calls_faults(calls, 6, &PLAIN, faults, 2 * MOST, &size) == FDB_FAULT && size == 4);
     for (size_t i = 0; i < size; i++) assert(same_fault(&faults[i], &wanted[i]));

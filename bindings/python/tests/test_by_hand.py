@@ -319,7 +319,7 @@ class OfLogs(unittest.TestCase):
             Fault(9, FaultKind.WRONG, Reason.REPORTED, 8, nine),
         }
         found = audit(iter(calls), complete=2)
-        self.assertEqual([it.line for it in found], sorted(it.line for it in wanted))
+        self.assertEqual([it.place for it in found], sorted(it.place for it in wanted))
         self.assertEqual(set(found), wanted)
 
     def test_times(self):
@@ -347,7 +347,7 @@ class OfLogs(unittest.TestCase):
             timed(Member.ASK, 9, 5, 60, 61),  # the read of 200 was the first above 9
             timed(Member.ASK, 9, 5, 60, 62),  # so too; and both are drawn twice
         ])
-        self.assertEqual([(it.line, it.kind.name, it.late) for it in found], [
+        self.assertEqual([(it.place, it.kind.name, it.late) for it in found], [
             (2, "ORDER", Late(1, 37)), (3, "ORDER", Late(0, 0)), (4, "NOT_ABOVE", Late(0, 31)),
             (5, "NOT_ABOVE", Late(1, 47)), (5, "TWICE", None),
             (6, "NOT_ABOVE", Late(1, 47)), (6, "TWICE", None),
@@ -356,7 +356,7 @@ class OfLogs(unittest.TestCase):
     def test_keys(self):
         known = Known(200, Means.ENDED, 0)
         order = Fault(2, FaultKind.ORDER, Reason.KNOWN, None, known, Late(0, 2))
-        self.assertEqual([it.line for it in audit(KEYED)], [1, 2])
+        self.assertEqual([it.place for it in audit(KEYED)], [1, 2])
         self.assertEqual(audit(KEYED, key=""), audit(KEYED))
         self.assertEqual(audit_text(KEYED, key="é"), KEYED_SAID % ("", ""))
         for key in ("é", "é".encode()):
@@ -441,7 +441,7 @@ class OfLogs(unittest.TestCase):
         # More than the first guess of how long a text is.
         lines = "\n".join('{"client":"a","read":%d}' % it for it in range(1000, 0, -1))
         self.assertEqual(audit_text(lines, all=True).count("\n"), 999)
-        self.assertEqual([it.line for it in audit(lines)], list(range(1, 1000)))
+        self.assertEqual([it.place for it in audit(lines)], list(range(1, 1000)))
 
     def test_refusals(self):
         line = b'{"client":"a","read":1}\n'

@@ -16,7 +16,7 @@ use fdb_read_version_sys as sys;
 ///     audit.push(piece.as_bytes())?;
 /// }
 /// assert!(audit.end()?, "it has a fault");
-/// assert_eq!(audit.faults()?[0].line, 1);
+/// assert_eq!(audit.faults()?[0].place, 1);
 /// assert!(audit.text().starts_with("audit fault: Order 2: client \"a\" read 1, but 2 was known: "));
 /// assert_eq!(audit.push(b"\n"), Err(LogError::Over));
 /// # Ok::<(), LogError>(())

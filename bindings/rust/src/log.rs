@@ -62,7 +62,7 @@ pub struct Times {
 ///     times: Some(Times { began, ended: Some(ended) }),
 /// };
 /// let lines = [line(1, Call::Commit(200), 10, 14), line(2, Call::Read(100), 15, 16)];
-/// assert_eq!(audit_lines(&lines, &AuditOptions::default())?[0].line, 1);
+/// assert_eq!(audit_lines(&lines, &AuditOptions::default())?[0].place, 1);
 /// # Ok::<(), fdb_read_version::LogError>(())
 /// ```
 #[derive(Clone, Copy, Debug, PartialEq, Eq, Hash, PartialOrd, Ord)]
@@ -160,7 +160,7 @@ pub enum FaultKind {
     Stray,
 }
 
-/// How a version was known. Lines are counted from 0.
+/// How a version was known, by the places of lines, counted from 0.
 ///
 /// ```
 /// use fdb_read_version::{audit_log, AuditOptions, Means, Reason};
@@ -176,20 +176,20 @@ pub enum FaultKind {
 pub enum Means {
     /// All began with it.
     Start,
-    /// This line had ended by more than the margin before.
+    /// The line there had ended by more than the margin before.
     Ended(u32),
-    /// This line is an earlier one of the same client.
+    /// The line there is an earlier one of the same client.
     Own(u32),
     /// The client had learnt of a line, by one of its own.
     Learnt {
-        /// The line that let it be known.
+        /// Of the line that let it be known.
         of: u32,
-        /// Its own line, a [`Call::Learn`], by which it had learnt of that.
+        /// Of its own line, a [`Call::Learn`], by which it had learnt of that.
         by: u32,
     },
 }
 
-/// Why a fault stands. Lines are counted from 0.
+/// Why a fault stands, by the places of lines, counted from 0.
 ///
 /// ```
 /// use fdb_read_version::{audit_log, AuditOptions, Reason};
@@ -213,20 +213,20 @@ pub enum Reason {
     Unreported,
     /// `Wrong`: the first line that reports the version knew it before, or a newer one.
     Reported {
-        /// The line that reports it.
-        line: u32,
+        /// Of the line that reports it.
+        place: u32,
         /// The version that it knew.
         version: u64,
         /// How it was known.
         means: Means,
     },
-    /// `Twice` and `Stray`: this line drew the version.
+    /// `Twice` and `Stray`: the line there drew the version.
     Drawn(u32),
     /// `Stray`: no line drew the version.
     Undrawn,
 }
 
-/// By how much a call was late, and by which line. Lines are counted from 0.
+/// By how much a call was late, and the place of the line by which it was, counted from 0.
 ///
 /// ```
 /// use fdb_read_version::{audit_log, AuditOptions, Late};
@@ -234,7 +234,7 @@ pub enum Reason {
 /// let log = br#"{"client":"a","commit":200,"began":10,"ended":14}
 /// {"client":"b","read":100,"began":30,"ended":31}"#;
 /// let options = AuditOptions { margin: 15, ..AuditOptions::default() };
-/// assert_eq!(audit_log(log, &options)?[0].late, Some(Late { line: 0, by: 16 }));
+/// assert_eq!(audit_log(log, &options)?[0].late, Some(Late { place: 0, by: 16 }));
 /// assert_eq!(audit_log(log, &AuditOptions { margin: 16, ..options })?, []);
 /// # Ok::<(), fdb_read_version::LogError>(())
 /// ```
@@ -242,7 +242,7 @@ pub enum Reason {
 pub struct Late {
     /// Of the lines that outdate the call, with a newer version than a read's, or one as new as was
     /// drawn, the first to end; where that is the call itself, there is none.
-    pub line: u32,
+    pub place: u32,
     /// From its end to where the call began, in the unit of the times: the fault stands under each
     /// lesser margin. 0 where it had not ended by then.
     pub by: u64,
@@ -256,14 +256,14 @@ pub struct Late {
 /// let log = br#"{"client":"a","read":2}
 /// {"client":"a","read":1}"#;
 /// let reason = Reason::Known { version: 2, means: Means::Own(0) };
-/// let fault = Fault { line: 1, kind: FaultKind::Order, reason, late: None };
+/// let fault = Fault { place: 1, kind: FaultKind::Order, reason, late: None };
 /// assert_eq!(audit_log(log, &AuditOptions::default())?, [fault]);
 /// # Ok::<(), fdb_read_version::LogError>(())
 /// ```
 #[derive(Clone, Copy, Debug, PartialEq, Eq, Hash, PartialOrd, Ord)]
 pub struct Fault {
-    /// The line at which it stands, counted from 0.
-    pub line: u32,
+    /// The place of the line at which it stands, counted from 0.
+    pub place: u32,
     /// What is wrong with it.
     pub kind: FaultKind,
     /// Why.
@@ -500,12 +500,12 @@ fn means_of(fault: &sys::fdb_fault) -> Result<Means, LogError> {
 }
 
 fn reason_of(fault: &sys::fdb_fault) -> Result<Reason, LogError> {
-    let (line, version) = (fault.other, fault.known);
+    let (place, version) = (fault.other, fault.known);
     Ok(match fault.reason {
         sys::FDB_REASON_KNOWN => Reason::Known { version, means: means_of(fault)? },
         sys::FDB_REASON_UNREPORTED => Reason::Unreported,
-        sys::FDB_REASON_REPORTED => Reason::Reported { line, version, means: means_of(fault)? },
-        sys::FDB_REASON_DRAWN => Reason::Drawn(line),
+        sys::FDB_REASON_REPORTED => Reason::Reported { place, version, means: means_of(fault)? },
+        sys::FDB_REASON_DRAWN => Reason::Drawn(place),
         sys::FDB_REASON_UNDRAWN => Reason::Undrawn,
         other => return Err(LogError::Unknown(other)),
     })
@@ -520,8 +520,8 @@ pub(crate) fn fault_of(fault: &sys::fdb_fault) -> Result<Fault, LogError> {
         sys::FDB_FAULT_STRAY => FaultKind::Stray,
         other => return Err(LogError::Unknown(other)),
     };
-    let late = fault.has_late.then_some(Late { line: fault.first, by: fault.late });
-    Ok(Fault { line: fault.line, kind, reason: reason_of(fault)?, late })
+    let late = fault.has_late.then_some(Late { place: fault.first, by: fault.late });
+    Ok(Fault { place: fault.place, kind, reason: reason_of(fault)?, late })
 }
 
 /// What a call answers that only refuses.
@@ -724,12 +724,12 @@ mod tests {
     #[test]
     fn numbers_of_faults() {
         let fault = |kind, reason, means| {
-            let (known, late, line, other, by, learnt, first) = (1 << 40, 1 << 41, 2, 3, 4, 5, 6);
+            let (known, late, place, other, by, learnt, first) = (1 << 40, 1 << 41, 2, 3, 4, 5, 6);
             let has_late = kind != 2;
             fault_of(&sys::fdb_fault {
                 known,
                 late,
-                line,
+                place,
                 other,
                 by,
                 learnt,
@@ -749,14 +749,14 @@ mod tests {
             FaultKind::Stray,
         ];
         for (number, kind) in (1..).zip(kinds) {
-            let late = (kind != FaultKind::Wrong).then_some(Late { line: 6, by: 1 << 41 });
-            let wanted = Fault { line: 2, kind, reason: Reason::Unreported, late };
+            let late = (kind != FaultKind::Wrong).then_some(Late { place: 6, by: 1 << 41 });
+            let wanted = Fault { place: 2, kind, reason: Reason::Unreported, late };
             assert_eq!(fault(number, 2, 0), Ok(wanted));
         }
         let all = [Means::Start, Means::Ended(4), Means::Own(4), Means::Learnt { of: 4, by: 5 }];
         for (number, means) in (1..).zip(all) {
             let known = Reason::Known { version, means };
-            let reported = Reason::Reported { line: 3, version, means };
+            let reported = Reason::Reported { place: 3, version, means };
             assert_eq!(fault(1, 1, number).map(|it| it.reason), Ok(known));
             assert_eq!(fault(1, 3, number).map(|it| it.reason), Ok(reported));
         }

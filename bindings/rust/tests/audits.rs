@@ -103,8 +103,8 @@ fn by_hand() {
     ];
     let known = |version, means| Reason::Known { version, means };
     let learnt = Means::Learnt { of: 0, by: 1 };
-    let reported = Reason::Reported { line: 5, version: 5, means: learnt };
-    let fault = |line, kind, reason| Fault { line, kind, reason, late: None };
+    let reported = Reason::Reported { place: 5, version: 5, means: learnt };
+    let fault = |place, kind, reason| Fault { place, kind, reason, late: None };
     let options = AuditOptions { complete: Some(2), ..AuditOptions::default() };
     let wanted = vec![
         fault(0, FaultKind::Twice, Reason::Drawn(3)),
@@ -149,8 +149,8 @@ fn times_by_hand() {
         audit_lines(lines, &AuditOptions { margin, ..AuditOptions::default() }).unwrap()
     };
     let reason = Reason::Known { version, means: Means::Ended(0) };
-    let late = Some(Late { line: 0, by: far });
-    let fault = Fault { line: 1, kind: FaultKind::Order, reason, late };
+    let late = Some(Late { place: 0, by: far });
+    let fault = Fault { place: 1, kind: FaultKind::Order, reason, late };
     assert_eq!((found(&lines, 0), found(&lines, far - 1)), (vec![fault], vec![fault]));
     assert_eq!(found(&lines, far), []);
     assert_eq!(found(&[line(Call::Commit(version), 0, None), read], 0), []);
@@ -175,7 +175,7 @@ fn how_late() {
     let found: Vec<_> = audit_lines(&lines, &AuditOptions::default())
         .unwrap()
         .into_iter()
-        .map(|it| (it.line, it.kind, it.late.map(|late| (late.line, late.by))))
+        .map(|it| (it.place, it.kind, it.late.map(|late| (late.place, late.by))))
         .collect();
     let wanted = [
         (2, FaultKind::Order, Some((1, 37))),
@@ -218,11 +218,11 @@ fn by_key() {
     let plain = AuditOptions::default();
     let options = AuditOptions { key: "key", ..plain };
     let found = |options| audit_log(KEYED.as_bytes(), &options).unwrap();
-    let lines: Vec<u32> = found(plain).iter().map(|it| it.line).collect();
+    let lines: Vec<u32> = found(plain).iter().map(|it| it.place).collect();
     assert_eq!(lines, [1, 2]);
     let reason = Reason::Known { version: 200, means: Means::Ended(0) };
-    let late = Some(Late { line: 0, by: 2 });
-    assert_eq!(found(options), [Fault { line: 2, kind: FaultKind::Order, reason, late }]);
+    let late = Some(Late { place: 0, by: 2 });
+    assert_eq!(found(options), [Fault { place: 2, kind: FaultKind::Order, reason, late }]);
     let said =
         "audit fault: Order 3: client \"c\" read 100 \"key\":\"x\", but 200 was known: line 1 \
                 (client \"a\", commit 200 \"key\":\"x\") had ended 2 before line 3 began\n";

@@ -1,4 +1,4 @@
--- The lines that are taken, of those that were read, and the numbers under which they are printed.
+-- The lines that are taken, of those that were read, and as which of all they are printed.
 use Rattle.std.proofs.Common.{◌≡◌, ◌∙◌, ℕ, zero, suc, ◌+◌, ◌-◌, ◌^◌, ◌<◌, ◌≤◌, Bool, true, false, cond, List, [], ◌∷◌, ◌++◌, Option, None, Some, Result, Ok, Err, ap, arith, count_by, drop, get_or, length, length-drop, map, min, nat_le, nat_lt, refl, slice_get, subst, sym, take}
 use Rattle.std.specs.Option.{option_or}
 use Rattle.std.specs.Prelude.{unwrap_or}
@@ -22,14 +22,14 @@ use Rattle.fdb_log_reader.specs.ReadLine.{SaidLine}
 use Rattle.fdb_audit.specs.declared.progress.Counts.{Counts}
 use Rattle.fdb_audit.specs.declared.members.Numbering.{Numbering}
 use Rattle.fdb_audit.specs.declared.taken_lines.Taking.{Taking}
-use Rattle.fdb_audit.specs.Following.{KeptNumbers, Start, early_at, keys_taken, last_refused, left_out, lines_since, lines_taken, no_line, number_in, taken, taken_above}
+use Rattle.fdb_audit.specs.Following.{KeptBefore, Start, early_at, keys_taken, last_refused, left_out, lines_since, lines_taken, no_line, taken_line, taken, taken_above}
 use Rattle.fdb_audit.specs.Clocks.{believed_end, believed_with, out_of_reach}
 use Rattle.fdb_audit.specs.declared.clocks.Clocks.{Clocks}
 use Rattle.fdb_audit.specs.Taken.{AreCounted, AreTaken, HasHeard, HasSettled, IsInReach, kept_by}
 use Rattle.fdb_audit.specs.Warned.{AreEarly}
 use Rattle.fdb_audit.specs.private.Clocks.{ahead_of}
 use Rattle.fdb_audit.specs.private.Followed.{NotesLine, one_more}
-use Rattle.fdb_audit.specs.private.Numbering.{AreNumbersOf}
+use Rattle.fdb_audit.specs.private.Numbering.{AreTakenLines}
 use Rattle.fdb_audit.proofs.Believed.{ahead_more, count_more, heard_more, hears_ahead, hears_believed}
 use Rattle.fdb_audit.proofs.Settled.{drop_on, early_push, far_in_all, far_more, far_still, late_more, settled_more, settled_still}
 
@@ -137,11 +137,11 @@ some_line [] (suc before) some = refl
 some_line (said ∷ list) before some = refl
 
 -- why a part is refused
-pub left_is : (start : Start) (read : List (Result SaidLine Why)) (refused before none : Option ReadError) → refused ≡ last_refused (start.numbers.more + 1) None read
+pub left_is : (start : Start) (read : List (Result SaidLine Why)) (refused before none : Option ReadError) → refused ≡ last_refused (start.kept.more + 1) None read
     → before ≡ start.before.refused → none ≡ no_line (taken read) start.before.counts.lines
     → option_or (option_or refused before) none ≡ left_out start read
 left_is start read refused before none last same is =
-    let number = start.numbers.more + 1 in
+    let number = start.kept.more + 1 in
     let all : option_or refused before ≡ last_refused number start.before.refused read =
     ap (λ (last : Option ReadError). option_or last before) last
     ∙ (ap (option_or (last_refused number None read)) same ∙ sym (last_on number start.before.refused read)) in
@@ -221,18 +221,18 @@ in_reach_more behind old new lines line is come few notes from =
       ahead = ahead_more behind old.counts.ahead new.counts.ahead old.clocks lines line is.heard is.behind_is is.ahead_to few is.ahead notes.ahead;
     }
 
--- the number of a line more that is taken
+-- which of all a line more is that is taken
 pub line_number : (start : Start) (old new : Taking) (read : List (Result SaidLine Why)) (said : SaidLine) (told : List Found) → AreTaken start old read told
     → old.taken + old.numbering.more + length old.numbering.above.items < 18446744073709551614 → (notes : NotesLine old.watch.from old new said.line)
-    → notes.number ≡ start.numbers.more + length read + 1
+    → notes.its_line ≡ start.kept.more + length read + 1
 line_number start old new read said told are room notes =
     let all = counted 0 read in
     let above = ap length are.numbered.above in
-    let is = notes.its_number in
+    let is = notes.is_its in
     let count = notes.count in
     let was = are.count in
     let same = ap (λ (numbering : Numbering). numbering.more + length numbering.above.items) notes.numbering in
-    let more = ap (λ (kept : KeptNumbers). kept.more) are.numbered.front in
+    let more = ap (λ (kept : KeptBefore). kept.more) are.numbered.front in
     omega (arith, all, above, is, count, was, same, more, room)
 
 -- and so there are not too many
@@ -265,7 +265,7 @@ pub takes : (start : Start) (old new : Taking) (read : List (Result SaidLine Why
     → (notes : NotesLine old.watch.from old new said.line) → new.watch.from ≡ old.watch.from
     → (HasTold old.watch (lines_taken read) (keys_taken read) told → old.watch.from ≤ began said.line
     → HasTold new.watch (lines_taken read ++ said.line ∷ []) (keys_taken read ++ said.key ∷ []) told)
-    → AreEarly start.numbers.more (read ++ Ok said ∷ []) new.counts.early new.counts.judged new.counts.last_early
+    → AreEarly start.kept.more (read ++ Ok said ∷ []) new.counts.early new.counts.judged new.counts.last_early
     → AreTaken start new (read ++ Ok said ∷ []) told
 takes start old new read said told are room seen notes from tells came =
     let more = read ++ Ok said ∷ [] in
@@ -281,10 +281,10 @@ takes start old new read said told are room seen notes from tells came =
       numbered = record {
         above = ap (λ (numbering : Numbering). numbering.above.items) notes.numbering ∙ (are.numbered.above ∙ sym (above_same 0 read said));
         front = ap kept_by notes.numbering ∙ are.numbered.front;
-        few = (let was = are.count in let more = ap (λ (kept : KeptNumbers). kept.more) are.numbered.front in omega arith);
+        few = (let was = are.count in let more = ap (λ (kept : KeptBefore). kept.more) are.numbered.front in omega arith);
       };
       count = notes.count ∙ (ap (λ n. n + 1) are.count ∙ (sym (length_push (taken read) said) ∙ ap length (sym (taken_more read said))));
-      refused = notes.refused ∙ (are.refused ∙ sym (last_same (start.numbers.more + 1) None read said));
+      refused = notes.refused ∙ (are.refused ∙ sym (last_same (start.kept.more + 1) None read said));
       counted = subst (AreCounted new.counts) (sym (since_more start read said are.few))
           (notes.counted (lines_since start read) (let least = since_few start read in omega (arith, least, few)) are.counted);
       few = (let was = are.few in omega (arith, was, size));
@@ -304,17 +304,17 @@ takes start old new read said told are room seen notes from tells came =
           (tells (are.once none_before is.1) (in_time (began said.line) old.watch.from is.0)));
     }
 
--- the number of a line more that is left out
+-- which of all a line more is that is left out
 pub left_number : (start : Start) (old : Taking) (numbering : Numbering) (read : List (Result SaidLine Why)) (told : List Found) (number : ℕ) → AreTaken start old read told
     → old.taken + old.numbering.more + length old.numbering.above.items < 18446744073709551614
     → numbering.above.items ≡ old.numbering.above.items ++ old.taken ∷ [] → kept_by numbering ≡ kept_by old.numbering
-    → number ≡ min (old.taken + numbering.more + length numbering.above.items) (2 ^ 64 - 1) → number ≡ start.numbers.more + 1 + length read
+    → number ≡ min (old.taken + numbering.more + length numbering.above.items) (2 ^ 64 - 1) → number ≡ start.kept.more + 1 + length read
 left_number start old numbering read told number are room above same is =
     let all = counted 0 read in
     let was_above = ap length are.numbered.above in
     let longer = ap length above ∙ length_push old.numbering.above.items old.taken in
-    let more_is = ap (λ (kept : KeptNumbers). kept.more) are.numbered.front in
-    let more_same = ap (λ (kept : KeptNumbers). kept.more) same in
+    let more_is = ap (λ (kept : KeptBefore). kept.more) are.numbered.front in
+    let more_same = ap (λ (kept : KeptBefore). kept.more) same in
     let was = are.count in
     omega (arith, is, was, more_is, more_same, all, was_above, longer, room)
 
@@ -323,7 +323,7 @@ pub leaves_out : (start : Start) (old new : Taking) (read : List (Result SaidLin
     → new.watch ≡ old.watch → new.numbering.above.items ≡ old.numbering.above.items ++ old.taken ∷ [] → kept_by new.numbering ≡ kept_by old.numbering
     → new.taken ≡ old.taken → new.counts ≡ old.counts → new.settled ≡ old.settled → new.refused ≡ Some (record { line = number; why = why })
     → number ≡ min (new.taken + new.numbering.more + length new.numbering.above.items) (2 ^ 64 - 1) → new.clocks ≡ old.clocks
-    → AreEarly start.numbers.more (read ++ Err why ∷ []) new.counts.early new.counts.judged new.counts.last_early
+    → AreEarly start.kept.more (read ++ Err why ∷ []) new.counts.early new.counts.judged new.counts.last_early
     → AreTaken start new (read ++ Err why ∷ []) told
 leaves_out start old new read why told number are room watch above same count counts settled refused is clocks came =
     let more = read ++ Err why ∷ [] in
@@ -331,7 +331,7 @@ leaves_out start old new read why told number are room watch above same count co
     let was_above = ap length are.numbered.above in
     let size = length_push read (Err why) in
     let from_none : length (taken read) ≡ 0 + length (taken read) = omega arith in
-    let more_is = ap (λ (kept : KeptNumbers). kept.more) are.numbered.front in
+    let more_is = ap (λ (kept : KeptBefore). kept.more) are.numbered.front in
     record {
       seen = subst (λ lines. HasSeenByKey new.watch lines (keys_taken more)) (sym (lines_same read why))
           (subst (HasSeenByKey new.watch (lines_taken read)) (sym (keys_same read why))
@@ -344,7 +344,7 @@ leaves_out start old new read why told number are room watch above same count co
       };
       count = count ∙ (are.count ∙ ap length (sym (taken_same read why)));
       refused = refused ∙ (ap (λ n. Some (error_at n why)) (left_number start old new.numbering read told number are room above same
-          (is ∙ ap (λ n. min (n + new.numbering.more + length new.numbering.above.items) (2 ^ 64 - 1)) count)) ∙ sym (last_more (start.numbers.more + 1) None read why));
+          (is ∙ ap (λ n. min (n + new.numbering.more + length new.numbering.above.items) (2 ^ 64 - 1)) count)) ∙ sym (last_more (start.kept.more + 1) None read why));
       counted = subst (AreCounted new.counts) (sym (since_same start read why are.few)) (subst (λ counts. AreCounted counts (lines_since start read)) (sym counts) are.counted);
       few = (let was = are.few in omega (arith, was, size));
       before = are.before;
@@ -372,7 +372,7 @@ leaves_out start old new read why told number are room watch above same count co
           (are.once none_before (sym (ap (λ (counts : Counts). counts.early) counts) ∙ none))));
     }
 
--- ---- the numbers of lines
+-- ---- which of all lines some are
 
 -- those that pass come first, so many
 front_counted : {X : Type 0} (test : X → Bool) (xs : List X) (front : ℕ) → front ≤ length xs
@@ -391,11 +391,11 @@ pub counted_by_search : (above : List ℕ) (taken front : ℕ) → front ≤ len
     → IsPartitionPoint (λ one. nat_le one taken ≡ true) (λ one. nat_le one taken ≡ false) above front → front ≡ count_by (λ one. nat_le one taken) above
 counted_by_search above taken front le point = front_counted (λ one. nat_le one taken) above front le point
 
-pub numbers_more : (kept : KeptNumbers) (above places numbers more : List ℕ) (i place number : ℕ) → i < length places → place ≡ get_or places i place
+pub taken_lines_more : (kept : KeptBefore) (above places lines more : List ℕ) (i place line : ℕ) → i < length places → place ≡ get_or places i place
     → (place + kept.more + length above < 18446744073709551615
-    → number ≡ unwrap_or (slice_get kept.numbers place) (place + 1 + kept.more + count_by (λ one. nat_le one place) above))
-    → more ≡ numbers ++ number ∷ [] → AreNumbersOf kept above (take i places) numbers → AreNumbersOf kept above (take (i + 1) places) more
-numbers_more kept above places numbers more i place number lt at is pushed so_far read same few low =
+    → line ≡ unwrap_or (slice_get kept.lines place) (place + 1 + kept.more + count_by (λ one. nat_le one place) above))
+    → more ≡ lines ++ line ∷ [] → AreTakenLines kept above (take i places) lines → AreTakenLines kept above (take (i + 1) places) more
+taken_lines_more kept above places lines more i place line lt at is pushed so_far read same few low =
     let split : take (i + 1) places ≡ take i places ++ place ∷ [] = take_more places i place lt ∙ ap (λ one. take i places ++ one ∷ []) (sym at) in
     let lows : All (λ one. one ≤ length (taken read)) (take i places ++ place ∷ []) = subst (All (λ one. one ≤ length (taken read))) split low in
     let size = length_push (take i places) place in
@@ -405,7 +405,7 @@ numbers_more kept above places numbers more i place number lt at is pushed so_fa
     subst (λ one. one ≤ length (taken read)) (get_or_append_left (take i places) (place ∷ []) d k less) (lows k d (omega arith)) in
     let all = counted 0 read in
     let refused = ap length same in
-    let one : number ≡ number_in kept read place = is (omega arith) ∙ ap (λ list. unwrap_or (slice_get kept.numbers place) (place + 1 + kept.more + count_by (λ one. nat_le one place) list)) same in
-    pushed ∙ (ap (λ part. part ++ number ∷ []) (so_far read same few front)
-    ∙ (ap (λ n. map (number_in kept read) (take i places) ++ n ∷ []) one
-    ∙ (sym (map_push (number_in kept read) (take i places) place) ∙ ap (map (number_in kept read)) (sym split))))
+    let one : line ≡ taken_line kept read place = is (omega arith) ∙ ap (λ list. unwrap_or (slice_get kept.lines place) (place + 1 + kept.more + count_by (λ one. nat_le one place) list)) same in
+    pushed ∙ (ap (λ part. part ++ line ∷ []) (so_far read same few front)
+    ∙ (ap (λ n. map (taken_line kept read) (take i places) ++ n ∷ []) one
+    ∙ (sym (map_push (taken_line kept read) (take i places) place) ∙ ap (map (taken_line kept read)) (sym split))))

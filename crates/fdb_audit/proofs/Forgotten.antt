@@ -10,7 +10,7 @@ use Rattle.fdb_log_reader.specs.declared.error.Why.{Why}
 use Rattle.fdb_log_reader.specs.ReadLine.{LineNames, SaidLine}
 use Rattle.fdb_audit.specs.declared.clocks.KeyTimes.{KeyTimes}
 use Rattle.fdb_audit.specs.declared.taken_lines.Taking.{Taking}
-use Rattle.fdb_audit.specs.Following.{KeptNumbers}
+use Rattle.fdb_audit.specs.Following.{KeptBefore}
 use Rattle.fdb_audit.specs.GoingOn.{MayForget}
 use Rattle.fdb_audit.specs.Kept.{KeepsLines}
 use Rattle.fdb_audit.specs.private.KeptTexts.{number_of}
@@ -25,7 +25,7 @@ may_forget times (Some after) believed = record { unkeyed = refl; all = λ none.
     some_is is = cc
 
 -- what keeps some lines keeps those that are the same in another order
-pub keeps_all : {key : Option (List ℕ)} {names : LineNames} {before : KeptNumbers} {taking : Taking} {read : List (Result SaidLine Why)} {text wanted : List ℕ} (are : List ℕ)
+pub keeps_all : {key : Option (List ℕ)} {names : LineNames} {before : KeptBefore} {taking : Taking} {read : List (Result SaidLine Why)} {text wanted : List ℕ} (are : List ℕ)
     → IsPermutation wanted are → KeepsLines are key names before taking read text → KeepsLines wanted key names before taking read text
 keeps_all {wanted = wanted} are same keeps = record {
   places = keeps.places;

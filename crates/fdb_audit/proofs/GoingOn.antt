@@ -11,7 +11,7 @@ use Rattle.fdb_log_reader.specs.Printed.{printed}
 use Rattle.fdb_log_reader.specs.ReadLine.{LineNames, SaidLine, lines_read, member_in, names_behind, no_names}
 use Rattle.fdb_log_reader.specs.Reading.{EndsALine, lines_in}
 use Rattle.fdb_audit.specs.Following.{AreWindows, Before, Counted, Start, Window, counted_on, faults_told, told_in_all}
-use Rattle.fdb_audit.specs.GoingOn.{GoesOn, MayForget, counted_before, places_staying}
+use Rattle.fdb_audit.specs.GoingOn.{GoesOnBy, MayForget, counted_before, places_staying}
 use Rattle.fdb_audit.specs.Kept.{KeepsLines, kept_said, lines_kept, start_from, start_of}
 use Rattle.fdb_audit.specs.Taken.{AreTaken, HasTotals, HasTotalsIn, IsCarried, counted_of}
 use Rattle.fdb_audit.specs.Watched.{AskForTheSame, HasFollowed, lines_asked, members_asked, names_asked}
@@ -90,8 +90,8 @@ module _ (asked other : AuditArguments) (same : AskForTheSame asked other) where
             windows = is.windows;
             taken = is.taken;
             margin = is.margin ∙ margin_same;
-            tells = subst (λ (wanted : Wanted). AreWindows start.numbers asked.opts.margin wanted has.read names is.windows text) same.wanted
-                (subst (λ (margin : ℕ). AreWindows start.numbers margin other.wanted has.read names is.windows text) margin_same is.tells);
+            tells = subst (λ (wanted : Wanted). AreWindows start.kept asked.opts.margin wanted has.read names is.windows text) same.wanted
+                (subst (λ (margin : ℕ). AreWindows start.kept margin other.wanted has.read names is.windows text) margin_same is.tells);
             are = record {
               wanted = is.are.wanted ∙ same.wanted;
               margin = is.are.margin ∙ margin_same;
@@ -133,7 +133,7 @@ carried_on start old read windows told all are carried counts = record {
   counts = counts.counts ∙ ap (λ (before : Counted). counted_on before (counted_of old.taking)) carried.counts;
   refused = counts.refused
       ∙ (ap (λ (refused : Option ReadError). option_or refused old.before.last_refused) are.refused
-      ∙ (ap (option_or _) carried.refused ∙ sym (last_on (start.numbers.more + 1) start.before.refused read)));
+      ∙ (ap (option_or _) carried.refused ∙ sym (last_on (start.kept.more + 1) start.before.refused read)));
   last_early = counts.last_early ∙ ap (option_or old.taking.counts.last_early) carried.last_early;
 }
 
@@ -149,19 +149,19 @@ module _ (asked : AuditArguments) (start : Start) (old next new : Follower) (byt
   on = record (start_of asked start.behind kept) { before = counted_before start has.read has.telling.windows old.taking }
 
   goes_on : (stays : Option ℕ → Bool) → MayForget asked.forget stays
-      → KeepsLines (places_staying stays has.read old.taking) (option_map string_bytes asked.key) (line_names old.reader) start.numbers old.taking has.read kept → EndsALine bytes
-      → (start_of asked start.behind kept).from ≡ old.taking.watch.from → GoesOn asked start bytes told kept on
+      → KeepsLines (places_staying stays has.read old.taking) (option_map string_bytes asked.key) (line_names old.reader) start.kept old.taking has.read kept → EndsALine bytes
+      → (start_of asked start.behind kept).from ≡ old.taking.watch.from → GoesOnBy asked start bytes told kept on
   goes_on stays forgets keeps ends from =
       let is = has.telling in
       let Its = λ (read : List (Result SaidLine Why)) (names : LineNames). AreTaken start old.taking read (start.told ++ told_in_all read is.windows)
-      × (AreWindows start.numbers asked.opts.margin asked.wanted read names.clients is.windows told
-      × (KeepsLines (places_staying stays read old.taking) (option_map string_bytes asked.key) names start.numbers old.taking read kept
+      × (AreWindows start.kept asked.opts.margin asked.wanted read names.clients is.windows told
+      × (KeepsLines (places_staying stays read old.taking) (option_map string_bytes asked.key) names start.kept old.taking read kept
       × (on ≡ record (start_of asked start.behind kept) { before = counted_before start read is.windows old.taking }))) in
       let silent : told ++ string_bytes old.teller.text ≡ told = ap (λ text. told ++ text) quiet.text ∙ append-nil told in
       let all : Its (lines_asked asked bytes) (names_asked asked bytes) =
       subst (λ names. Its (lines_asked asked bytes) names) (sym named)
       (subst (λ read. Its read (line_names old.reader)) (sym whole)
-      (is.taken, (subst (AreWindows start.numbers asked.opts.margin asked.wanted has.read (line_names old.reader).clients is.windows) silent is.tells, (keeps, refl)))) in
+      (is.taken, (subst (AreWindows start.kept asked.opts.margin asked.wanted has.read (line_names old.reader).clients is.windows) silent is.tells, (keeps, refl)))) in
       record {
         taking = old.taking;
         windows = is.windows;
@@ -184,8 +184,8 @@ module _ (asked : AuditArguments) (start : Start) (old next new : Follower) (byt
       let read = restored.read in
       let taken : AreTaken begun next.taking read begun.told =
       subst (AreTaken begun next.taking read) (ap (λ (windows : List Window). begun.told ++ told_in_all read windows) none ∙ append-nil begun.told) is.taken in
-      let tells : AreWindows begun.numbers asked.opts.margin asked.wanted read (line_names next.reader).clients [] (string_bytes next.teller.text) =
-      subst (λ windows. AreWindows begun.numbers asked.opts.margin asked.wanted read (line_names next.reader).clients windows (string_bytes next.teller.text)) none is.tells in
+      let tells : AreWindows begun.kept asked.opts.margin asked.wanted read (line_names next.reader).clients [] (string_bytes next.teller.text) =
+      subst (λ windows. AreWindows begun.kept asked.opts.margin asked.wanted read (line_names next.reader).clients windows (string_bytes next.teller.text)) none is.tells in
       record {
         read = read;
         goes = λ text. restored.goes text ∙ ap (λ reader. read ++ lines_on reader text) (sym place.reader);
@@ -224,7 +224,7 @@ module _ (asked : AuditArguments) (start : Start) (old next new : Follower) (byt
           (subst (λ (wanted : Wanted). HasTotalsIn wanted.totals (members_asked asked) old.teller.told told_all) (sym wanted) has.telling.are.totals)
 
   pub gone_on : (stays : Option ℕ → Bool) → MayForget asked.forget stays
-      → KeepsLines (places_staying stays has.read old.taking) (option_map string_bytes asked.key) (line_names old.reader) start.numbers old.taking has.read kept → EndsALine bytes
+      → KeepsLines (places_staying stays has.read old.taking) (option_map string_bytes asked.key) (line_names old.reader) start.kept old.taking has.read kept → EndsALine bytes
       → (start_of asked start.behind kept).from ≡ old.taking.watch.from
       → (restored : HasFollowed asked (start_of asked start.behind kept) next kept []) → restored.telling.windows ≡ [] → TakesPlace old next new → HasGoneOn asked start new bytes told
   gone_on stays forgets keeps ends from restored none place = (kept, on, goes_on stays forgets keeps ends from, followed_on restored none place)
@@ -232,7 +232,7 @@ module _ (asked : AuditArguments) (start : Start) (old next new : Follower) (byt
 -- by one that was restored as this one is asked for
 pub gone_on_by : (asked given : AuditArguments) → AskForTheSame asked given → (start : Start) (old next new : Follower) (bytes told kept : List ℕ) (has : HasFollowed asked start old bytes told) → IsQuiet old
     → (stays : Option ℕ → Bool) → MayForget given.forget stays
-    → KeepsLines (places_staying stays has.read old.taking) (option_map string_bytes asked.key) (line_names old.reader) start.numbers old.taking has.read kept → EndsALine bytes
+    → KeepsLines (places_staying stays has.read old.taking) (option_map string_bytes asked.key) (line_names old.reader) start.kept old.taking has.read kept → EndsALine bytes
     → (restored : HasFollowed given (start_of given old.behind kept) next kept []) × (restored.telling.windows ≡ []) → next.taking.watch.from ≡ (start_of given old.behind kept).from
     → next.taking.watch.from ≡ old.taking.watch.from → TakesPlace old next new → HasGoneOn asked start new bytes told
 gone_on_by asked given same start old next new bytes told kept has quiet stays forgets keeps ends restored moment still place =
@@ -246,10 +246,10 @@ gone_on_by asked given same start old next new bytes told kept has quiet stays f
 -- the text that keeps lines keeps those that were read, by the member that has the keys, in whatever order they are named
 pub kept_so : (asked : AuditArguments) (start : Start) (old : Follower) (bytes told kept : List ℕ) (has : HasFollowed asked start old bytes told) → StaysInOne
     → (wanted are : List ℕ) → IsPermutation wanted are
-    → KeepsLines are (member_in (line_names old.reader)) (line_names old.reader) start.numbers old.taking has.read kept
-    → KeepsLines wanted (option_map string_bytes asked.key) (line_names old.reader) start.numbers old.taking has.read kept
+    → KeepsLines are (member_in (line_names old.reader)) (line_names old.reader) start.kept old.taking has.read kept
+    → KeepsLines wanted (option_map string_bytes asked.key) (line_names old.reader) start.kept old.taking has.read kept
 kept_so asked start old bytes told kept has stays wanted are same keeps =
-    subst (λ key. KeepsLines wanted key (line_names old.reader) start.numbers old.taking has.read kept) (member_followed asked start old bytes told has stays) (keeps_all are same keeps)
+    subst (λ key. KeepsLines wanted key (line_names old.reader) start.kept old.taking has.read kept) (member_followed asked start old bytes told has stays) (keeps_all are same keeps)
 
 -- and a text of which nothing is pending ends where a line does
 pub ends_there : (asked : AuditArguments) (start : Start) (old : Follower) (bytes told : List ℕ) → HasFollowed asked start old bytes told → length (lines_on old.reader (32 ∷ [])) ≡ 1

@@ -1,4 +1,4 @@
--- The faults of the parts of a log, by the numbers of their lines.
+-- The faults of the parts of a log, by their lines.
 use Rattle.std.proofs.Common.{◌≡◌, ◌∙◌, ℕ, zero, suc, ◌<◌, ◌==◌, Bool, true, false, cond, nat_lt, List, [], ◌∷◌, ◌++◌, All, IsPermutation, Option, None, Some, IfSome, IsSomeAnd, append-nil, append_assoc, ap, arith, inl, inr, length, length-append, ltb-true, map, refl, subst, sym, take, Ok}
 use Rattle.std.specs.List.{flat_map}
 use Rattle.std.specs.Prelude.{option_and_then, slice_get, slice_index, slice_index_or}
@@ -25,7 +25,7 @@ use Rattle.fdb_log_reader.specs.Reading.{Reading, reading_with}
 use Rattle.fdb_audit.specs.declared.printer.LogFault.{LogFault}
 use Rattle.fdb_audit.specs.Joined.{ArePartsOf, IsPartOf, WasReadByKey, faults_by_number, key_names, named_line, names_read, places_of_part}
 use Rattle.fdb_audit.specs.Judged.{keys_of_lines, own_numbers}
-use Rattle.fdb_audit.specs.Text.{fault_of, number_at}
+use Rattle.fdb_audit.specs.Text.{fault_of, printed_line}
 use Rattle.fdb_audit.proofs.SameBut.{DifferInNumbers, apart, client_as, key_as, keys_apart, naming_of}
 
 -- ---- what lines say by names
@@ -99,25 +99,25 @@ key_name reading keys is key =
 
 -- ---- the faults of a log stand at its lines
 
-all_at : (k n : ℕ) (found : List Found) → k < n → All (λ (it : Found). it.line < n) (map (told_at k) found)
+all_at : (k n : ℕ) (found : List Found) → k < n → All (λ (it : Found). it.place < n) (map (told_at k) found)
 all_at k n [] lt i d within = absurd (omega (arith, within))
 all_at k n (one ∷ found) lt zero d within = lt
 all_at k n (one ∷ found) lt (suc i) d within = all_at k n found lt i d (omega (arith, within))
 
-below : (log : Lines) (keys : List (Option ℕ)) (opts : AuditOpts) (n m : ℕ) → (n < suc m) → All (λ (it : Found). it.line < m) (faults_below_by_key log keys opts n)
+below : (log : Lines) (keys : List (Option ℕ)) (opts : AuditOpts) (n m : ℕ) → (n < suc m) → All (λ (it : Found). it.place < m) (faults_below_by_key log keys opts n)
 below log keys opts zero m le = λ i d within. absurd (omega (arith, within))
 below log keys opts (suc n) m le =
-    All-append (λ (it : Found). it.line < m) (faults_below_by_key log keys opts n) (faults_at_by_key log keys opts n)
+    All-append (λ (it : Found). it.place < m) (faults_below_by_key log keys opts n) (faults_at_by_key log keys opts n)
     (below log keys opts n m (omega (arith, le))) (all_at n m _ (omega (arith, le)))
 
-told_as : (numbers others : List ℕ) (places : List ℕ) (found : List Found) → All (λ (it : Found). it.line < length places) found
-    → ((j : ℕ) → j < length places → number_at numbers j ≡ number_at others (slice_index places j))
+told_as : (numbers others : List ℕ) (places : List ℕ) (found : List Found) → All (λ (it : Found). it.place < length places) found
+    → ((j : ℕ) → j < length places → printed_line numbers j ≡ printed_line others (slice_index places j))
     → map (fault_of numbers) found ≡ map (fault_of others) (map (placed_found places) found)
 told_as numbers others places [] within same = refl
 told_as numbers others places (one ∷ found) within same =
-    let here = same one.line (within 0 one (omega arith)) in
+    let here = same one.place (within 0 one (omega arith)) in
     let rest = told_as numbers others places found (λ k d lt. within (suc k) d (omega (arith, lt))) same in
-    (λ i. (let it : LogFault = record { fault = one.fault; number = here i } in it) ∷ rest i)
+    (λ i. (let it : LogFault = record { fault = one.fault; line = here i } in it) ∷ rest i)
 
 -- ---- a part
 
@@ -192,10 +192,10 @@ one_part differ renumbers opts whole part keys part_keys test of_whole of_part s
     ap (λ (line : Line). is_learn (kind_of line.call)) (at_place whole.log.lines places j at) ∙ of_whole.learns (slice_index places j) nobody (in_order test (length whole.log.lines) j at) in
     let found : faults_by_key (part_of whole.log places) their_keys opts ≡ faults_by_key part.log part_keys.numbers opts =
     renumbers (part_of whole.log places) part.log their_keys part_keys.numbers opts learns timed same in
-    let stand : All (λ (it : Found). it.line < length places) (faults_by_key part.log part_keys.numbers opts) =
+    let stand : All (λ (it : Found). it.place < length places) (faults_by_key part.log part_keys.numbers opts) =
     below part.log part_keys.numbers opts (length part.log.lines) (length places) (omega (arith, many)) in
     ap (map (fault_of (own_numbers part.numbers))) (faults_read opts part part_keys of_part)
-    ∙ (told_as (own_numbers part.numbers) (own_numbers whole.numbers) places (faults_by_key part.log part_keys.numbers opts) stand is.numbers
+    ∙ (told_as (own_numbers part.numbers) (own_numbers whole.numbers) places (faults_by_key part.log part_keys.numbers opts) stand is.own
     ∙ ap (λ (found : List Found). map (fault_of (own_numbers whole.numbers)) (map (placed_found places) found)) (sym found))
   where
     has_known : Named → Bool

@@ -138,7 +138,7 @@ abbrev pub number_of : SaidLine → ℕ
 number_of said = unwrap_or (number_kept 0 said) 0
 
 abbrev pub said_so : List ℕ → ℕ → ℕ → ℕ → KeptSaid
-said_so numbers more told settled = record { numbers = record { numbers = numbers; more = more }; told = told; settled = settled }
+said_so numbers more told settled = record { front = record { lines = numbers; more = more }; told = told; settled = settled }
 
 pub kept_more : (before : List SaidLine) (said : SaidLine) (number read : ℕ) (settled : Option ℕ)
     → number_kept 0 said ≡ Some number → number_kept 1 said ≡ Some read → number_kept 2 said ≡ settled
@@ -161,10 +161,10 @@ said_same ns ms more more_so told told_so at at_so one two three four =
 -- what has been read, with a line more
 pub added : (was : KeptSaid) (ns : List ℕ) (more told at : ℕ) (before : List SaidLine) (said : SaidLine) (number read : ℕ) (settled : Option ℕ) → was ≡ kept_said before
     → number_kept 0 said ≡ Some number → number_kept 1 said ≡ Some read → number_kept 2 said ≡ settled
-    → ns ≡ was.numbers.numbers ++ number ∷ [] → more ≡ read - (length was.numbers.numbers + 1) → told ≡ told_more settled was.told → at ≡ unwrap_or settled was.settled
+    → ns ≡ was.front.lines ++ number ∷ [] → more ≡ read - (length was.front.lines + 1) → told ≡ told_more settled was.told → at ≡ unwrap_or settled was.settled
     → said_so ns more told at ≡ kept_said (before ++ said ∷ [])
 added was ns more told at before said number read settled same number_is read_is settled_is numbers_are more_is told_is at_is =
-    let numbers = ap (λ (kept : KeptSaid). kept.numbers.numbers) same in
+    let numbers = ap (λ (kept : KeptSaid). kept.front.lines) same in
     let size = ap length numbers ∙ length-map before number_of in
     said_same ns (map number_of before ++ number ∷ []) more (read - (length before + 1)) told (told_more settled (count_by is_told before)) at (unwrap_or settled (settled_by 0 before))
     (numbers_are ∙ ap (λ (l : List ℕ). l ++ number ∷ []) numbers)

@@ -116,7 +116,7 @@ still_same {lines} {lines_so} {others} {others_so} {keys} {keys_so} {other_keys}
 
 module _ (known : Known) (asked : AuditArguments) (start : Start) (behind : ℕ) (piece kept next : List ℕ) (taking : Taking) (told now : List Found)
     (are : AreTaken start taking (lines_asked asked piece) told)
-    (wanted : List ℕ) (keeps : KeepsLines wanted (option_map string_bytes asked.key) (names_asked asked piece) start.numbers taking (lines_asked asked piece) kept) (goes : MayGoOn asked piece kept next) where
+    (wanted : List ℕ) (keeps : KeepsLines wanted (option_map string_bytes asked.key) (names_asked asked piece) start.kept taking (lines_asked asked piece) kept) (goes : MayGoOn asked piece kept next) where
   abbrev read : List (Result SaidLine Why)
   read = lines_asked asked piece
 

@@ -121,7 +121,7 @@ StandsForAll = (watch : KeyWatch) (lines : List Line) (keys : List (Option ℕ))
 
 module _ (stands : StandsForAll) (asked : AuditArguments) (start : Start) (behind : ℕ) (piece kept : List ℕ) (taking : Taking) {told : List Found}
     (are : AreTaken start taking (lines_asked asked piece) told)
-    (keeps : Keeps (option_map string_bytes asked.key) (names_asked asked piece) start.numbers taking (lines_asked asked piece) kept)
+    (keeps : Keeps (option_map string_bytes asked.key) (names_asked asked piece) start.kept taking (lines_asked asked piece) kept)
     (start_early : start.early ≡ 0) (early : taking.counts.early ≡ 0) where
   abbrev lines : List Line
   lines = lines_taken (lines_asked asked piece)

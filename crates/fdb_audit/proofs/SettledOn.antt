@@ -39,7 +39,7 @@ settled_taken start old new read told more at are at_is seen moved tells numberi
       counted = subst (λ (counts : Counts). AreCounted counts (lines_since start read)) (sym counts) are.counted;
       few = are.few;
       before = are.before;
-      came = subst (λ (counts : Counts). AreEarly start.numbers.more read counts.early counts.judged counts.last_early) (sym counts) are.came;
+      came = subst (λ (counts : Counts). AreEarly start.kept.more read counts.early counts.judged counts.last_early) (sym counts) are.came;
       few_ahead = (let was = are.few_ahead in let same = ap (λ (counts : Counts). counts.ahead) counts in omega (arith, was, same));
       from = (let was = are.from in omega (arith, was, moved));
       late = (let was = are.late in let same = ap (λ (counts : Counts). counts.early) counts in omega (arith, was, same));
@@ -79,7 +79,7 @@ held_else start old new read told are reach watch numbering count refused counts
   counted = subst (λ (counts : Counts). AreCounted counts (lines_since start read)) (sym counts) are.counted;
   few = are.few;
   before = are.before;
-  came = subst (λ (counts : Counts). AreEarly start.numbers.more read counts.early counts.judged counts.last_early) (sym counts) are.came;
+  came = subst (λ (counts : Counts). AreEarly start.kept.more read counts.early counts.judged counts.last_early) (sym counts) are.came;
   few_ahead = (let was = are.few_ahead in let same = ap (λ (counts : Counts). counts.ahead) counts in omega (arith, was, same));
   from = (let was = are.from in let same = ap (λ (watch : KeyWatch). watch.from) watch in omega (arith, was, same));
   late = (let was = are.late in let same = ap (λ (counts : Counts). counts.early) counts in omega (arith, was, same));

@@ -49,20 +49,20 @@ takes_on start asked old new read further told has more takes margin teller behi
     let names = (line_names old.reader).clients in
     let text = told ++ string_bytes old.teller.text in
     let windows = has.windows in
-    let within = windows_within start.numbers margin_asked asked.wanted read names windows text has.tells in
+    let within = windows_within start.kept margin_asked asked.wanted read names windows text has.tells in
     record {
       behind = behind ∙ has.behind;
       carried = subst (IsCarried start.before) (sym before) has.carried;
       windows = windows;
       taken = subst (λ list. AreTaken start new.taking (read ++ further) (start.told ++ list)) (sym (told_stays read further windows within)) (takes (start.told ++ told_in_all read windows) has.taken);
       margin = margin ∙ has.margin;
-      tells = subst (λ teller. AreWindows start.numbers margin_asked asked.wanted (read ++ further) (line_names new.reader).clients windows (told ++ string_bytes teller.text)) (sym teller)
-          (windows_stay start.numbers margin_asked asked.wanted read further names (line_names new.reader).clients windows text has.tells more.0);
+      tells = subst (λ teller. AreWindows start.kept margin_asked asked.wanted (read ++ further) (line_names new.reader).clients windows (told ++ string_bytes teller.text)) (sym teller)
+          (windows_stay start.kept margin_asked asked.wanted read further names (line_names new.reader).clients windows text has.tells more.0);
       are = subst (λ teller. IsTellerOf asked start teller (read ++ further) windows) (sym teller) (record {
         wanted = has.are.wanted;
         margin = has.are.margin;
         by_key = has.are.by_key;
-        first = has.are.first ∙ ap (option_or start.before.first) (sym (first_stays start.numbers read further windows within));
+        first = has.are.first ∙ ap (option_or start.before.first) (sym (first_stays start.kept read further windows within));
         totals = subst (λ faults. HasTotals (members_asked asked) old.teller (start.before.told ++ faults)) (sym (faults_stay read further windows within)) has.are.totals;
       });
     }
@@ -87,7 +87,7 @@ fed start asked old new before bytes told further has goes behind more takes mar
 
 -- with lines that were kept, the first of all
 pub fed_first : (before start : Start) (asked : AuditArguments) (old new : Follower) (bytes : List ℕ) (lines : List (Result SaidLine Why)) → IsUnread asked before old
-    → start.behind ≡ before.behind → start.numbers ≡ before.numbers → start.before ≡ before.before
+    → start.behind ≡ before.behind → start.kept ≡ before.kept → start.before ≡ before.before
     → ((text : List ℕ) → lines_on old.reader (bytes ++ text) ≡ lines ++ lines_on new.reader text)
     → ((text : List ℕ) → names_on old.reader (bytes ++ text) ≡ names_on new.reader text)
     → AreTaken start new.taking lines start.told → new.taking.watch.margin ≡ old.taking.watch.margin → new.teller ≡ old.teller → new.behind ≡ old.behind → new.before ≡ old.before
@@ -130,16 +130,16 @@ ended start asked old new bytes told further has last more takes margin teller f
 
 -- with what is told more
 tells_on : (start : Start) (asked : AuditArguments) (old : Follower) (new : Teller) (read : List (Result SaidLine Why)) (told : List ℕ) (windows : List Window) (faults : List Found)
-    → AreWindows start.numbers asked.opts.margin asked.wanted read (line_names old.reader).clients windows (told ++ string_bytes old.teller.text)
-    → (more : TellsOn start.numbers old.teller new asked.opts.margin read (line_names old.reader).clients faults) → old.teller.wanted ≡ asked.wanted
-    → AreWindows start.numbers asked.opts.margin asked.wanted read (line_names old.reader).clients (windows ++ more.windows) (told ++ string_bytes new.text)
+    → AreWindows start.kept asked.opts.margin asked.wanted read (line_names old.reader).clients windows (told ++ string_bytes old.teller.text)
+    → (more : TellsOn start.kept old.teller new asked.opts.margin read (line_names old.reader).clients faults) → old.teller.wanted ≡ asked.wanted
+    → AreWindows start.kept asked.opts.margin asked.wanted read (line_names old.reader).clients (windows ++ more.windows) (told ++ string_bytes new.text)
 tells_on start asked old new read told windows faults tells more is =
     let names = (line_names old.reader).clients in
     let margin = asked.opts.margin in
-    subst (λ text. AreWindows start.numbers margin asked.wanted read names (windows ++ more.windows) text)
+    subst (λ text. AreWindows start.kept margin asked.wanted read names (windows ++ more.windows) text)
     (append_assoc told (string_bytes old.teller.text) more.text ∙ ap (λ text. told ++ text) (sym more.appended))
-    (windows_on start.numbers margin asked.wanted read names windows more.windows (told ++ string_bytes old.teller.text) more.text tells
-    (subst (λ wanted. AreWindows start.numbers margin wanted read names more.windows more.text) (more.same.wanted ∙ is) more.told))
+    (windows_on start.kept margin asked.wanted read names windows more.windows (told ++ string_bytes old.teller.text) more.text tells
+    (subst (λ wanted. AreWindows start.kept margin wanted read names more.windows more.text) (more.same.wanted ∙ is) more.told))
 
 -- the first of all, where one was told before
 first_of_three : {X : Type 0} (one two three : Option X) → option_or (option_or one two) three ≡ option_or one (option_or two three)
@@ -147,22 +147,22 @@ first_of_three None two three = refl
 first_of_three (Some one) two three = refl
 
 are_on : (start : Start) (asked : AuditArguments) (old new : Teller) (margin : ℕ) (read : List (Result SaidLine Why)) (names : List (List ℕ)) (windows : List Window) (faults : List Found)
-    → IsTellerOf asked start old read windows → (more : TellsOn start.numbers old new margin read names faults) → IsTellerOf asked start new read (windows ++ more.windows)
+    → IsTellerOf asked start old read windows → (more : TellsOn start.kept old new margin read names faults) → IsTellerOf asked start new read (windows ++ more.windows)
 are_on start asked old new margin read names windows faults are more = record {
   wanted = more.same.wanted ∙ are.wanted;
   margin = more.same.margin ∙ are.margin;
   by_key = ap is_some more.same.key ∙ are.by_key;
   first =
-      let its = first_told start.numbers read in
+      let its = first_told start.kept read in
       more.first ∙ (ap (λ first. option_or first (its more.windows)) are.first
-      ∙ (first_of_three start.before.first (its windows) (its more.windows) ∙ ap (option_or start.before.first) (sym (first_on start.numbers read windows more.windows))));
+      ∙ (first_of_three start.before.first (its windows) (its more.windows) ∙ ap (option_or start.before.first) (sym (first_on start.kept read windows more.windows))));
   totals = subst (HasTotals (members_asked asked) new)
       (append_assoc start.before.told (faults_told read windows) (faults_told read more.windows) ∙ ap (λ faults. start.before.told ++ faults) (sym (all_faults_on read windows more.windows)))
       (more.counts (members_asked asked) (start.before.told ++ faults_told read windows) are.totals);
 }
 
 faults_on : (start : Start) (old new : Teller) (margin : ℕ) (read : List (Result SaidLine Why)) (names : List (List ℕ)) (windows : List Window) (faults : List Found)
-    → (more : TellsOn start.numbers old new margin read names faults)
+    → (more : TellsOn start.kept old new margin read names faults)
     → (start.told ++ told_in_all read windows) ++ faults ≡ start.told ++ told_in_all read (windows ++ more.windows)
 faults_on start old new margin read names windows faults more =
     append_assoc start.told (told_in_all read windows) faults
@@ -171,7 +171,7 @@ faults_on start old new margin read names windows faults more =
 -- with what is told when a watch settles
 pub settled : (start : Start) (asked : AuditArguments) (old new : Follower) (read : List (Result SaidLine Why)) (told : List ℕ) (faults : List Found) → (is : IsTelling asked start old read told)
     → new.reader ≡ old.reader → AreTaken start new.taking read ((start.told ++ told_in_all read is.windows) ++ faults) → new.taking.watch.margin ≡ old.taking.watch.margin
-    → TellsOn start.numbers old.teller new.teller asked.opts.margin read (line_names old.reader).clients faults → new.behind ≡ old.behind → new.before ≡ old.before
+    → TellsOn start.kept old.teller new.teller asked.opts.margin read (line_names old.reader).clients faults → new.behind ≡ old.behind → new.before ≡ old.before
     → IsTelling asked start new read told
 settled start asked old new read told faults is reader takes margin more behind before =
     let names = (line_names old.reader).clients in
@@ -181,7 +181,7 @@ settled start asked old new read told faults is reader takes margin more behind 
       windows = is.windows ++ more.windows;
       taken = subst (AreTaken start new.taking read) (faults_on start old.teller new.teller asked.opts.margin read names is.windows faults more) takes;
       margin = margin ∙ is.margin;
-      tells = subst (λ reader. AreWindows start.numbers asked.opts.margin asked.wanted read (line_names reader).clients (is.windows ++ more.windows) (told ++ string_bytes new.teller.text)) (sym reader)
+      tells = subst (λ reader. AreWindows start.kept asked.opts.margin asked.wanted read (line_names reader).clients (is.windows ++ more.windows) (told ++ string_bytes new.teller.text)) (sym reader)
           (tells_on start asked old new.teller read told is.windows faults is.tells more is.are.wanted);
       are = are_on start asked old.teller new.teller asked.opts.margin read names is.windows faults is.are more;
     }
@@ -217,7 +217,7 @@ late_for start old read are new counts =
 
 -- and when it settles for good
 pub settled_all : (start : Start) (asked : AuditArguments) (ends : Bool) (old new : Follower) (read : List (Result SaidLine Why)) (told : List ℕ) (faults : List Found) → (is : IsTelling asked start old read told)
-    → new.reader ≡ old.reader → TellsOn start.numbers old.teller new.teller asked.opts.margin read (line_names old.reader).clients faults → new.behind ≡ old.behind → new.before ≡ old.before
+    → new.reader ≡ old.reader → TellsOn start.kept old.teller new.teller asked.opts.margin read (line_names old.reader).clients faults → new.behind ≡ old.behind → new.before ≡ old.before
     → new.taking.counts ≡ old.taking.counts → new.taking.numbering ≡ old.taking.numbering
     → (start.early ≡ 0 → old.taking.counts.early ≡ 0 → IsComplete ends asked.opts.margin read ((start.told ++ told_in_all read is.windows) ++ faults))
     → HasToldAll asked start ends new read told
@@ -227,14 +227,14 @@ settled_all start asked ends old new read told faults is reader more behind befo
       behind = behind ∙ is.behind;
       carried = subst (IsCarried start.before) (sym before) is.carried;
       windows = is.windows ++ more.windows;
-      tells = subst (λ reader. AreWindows start.numbers asked.opts.margin asked.wanted read (line_names reader).clients (is.windows ++ more.windows) (told ++ string_bytes new.teller.text)) (sym reader)
+      tells = subst (λ reader. AreWindows start.kept asked.opts.margin asked.wanted read (line_names reader).clients (is.windows ++ more.windows) (told ++ string_bytes new.teller.text)) (sym reader)
           (tells_on start asked old new.teller read told is.windows faults is.tells more is.are.wanted);
       are = are_on start asked old.teller new.teller asked.opts.margin read names is.windows faults is.are more;
       counted = counted_for start old read is.taken new counts numbering;
       before = is.taken.before;
       early = λ anew. early_for start old read is.taken new counts anew;
       ahead = λ anew. ahead_for start old read is.taken new counts anew;
-      came = subst (λ (counts : Counts). AreEarly start.numbers.more read counts.early counts.judged counts.last_early) (sym counts) is.taken.came;
+      came = subst (λ (counts : Counts). AreEarly start.kept.more read counts.early counts.judged counts.last_early) (sym counts) is.taken.came;
       late = late_for start old read is.taken new counts;
       whole = λ none_before none. subst (IsComplete ends asked.opts.margin read) (faults_on start old.teller new.teller asked.opts.margin read names is.windows faults more)
           (whole none_before (sym (ap (λ (counts : Counts). counts.early) counts) ∙ none));
@@ -295,7 +295,7 @@ all_told asked start ends last bytes told text end all found last_early is names
         counts = counted_of last.taking;
         end = end;
         text_is = ap (λ text. told ++ text) texts ∙ sym (append_assoc told (string_bytes last.teller.text) end);
-        tells = subst (λ names. AreWindows start.numbers asked.opts.margin asked.wanted read names.clients is.windows (told ++ string_bytes last.teller.text)) (sym names) is.tells;
+        tells = subst (λ names. AreWindows start.kept asked.opts.margin asked.wanted read names.clients is.windows (told ++ string_bytes last.teller.text)) (sym names) is.tells;
         first = first ∙ is.are.first;
         counted = is.counted;
         end_is =

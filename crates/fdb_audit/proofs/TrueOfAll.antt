@@ -18,7 +18,7 @@ use Rattle.fdb_log_reader.specs.declared.error.ReadError.{ReadError}
 use Rattle.fdb_log_reader.specs.declared.error.Why.{Why}
 use Rattle.fdb_log_reader.specs.ReadLine.{SaidLine}
 use Rattle.fdb_audit.specs.AllPieces.{HaveRoom, Pieces, told_of_pieces}
-use Rattle.fdb_audit.specs.Following.{AreWindows, KeptNumbers, TellsIn, Start, Window, keys_taken, lines_taken, places_in, taken, told_in, told_in_all}
+use Rattle.fdb_audit.specs.Following.{AreWindows, KeptBefore, TellsIn, Start, Window, keys_taken, lines_taken, places_in, taken, told_in, told_in_all}
 use Rattle.fdb_audit.specs.GoingOn.{places_staying}
 use Rattle.fdb_audit.specs.Pieces.{audited_in, places_beyond}
 use Rattle.fdb_audit.specs.Watched.{lines_asked, names_asked}
@@ -72,10 +72,10 @@ module _ (true : IsTrueOfAll) where
       (true.of_key margin (is_due window.from window.early window.since window.to) (lines_taken read) keys window.key (keyed read))) in
       All-map (Contains all) (λ (finding : Finding). placed_found (places_in read window) (found_of finding)) window.found (λ k d lt.
       let finding = slice_index_or window.found k d in
-      subst (λ line. Contains all (record { line = line; fault = finding.found.fault })) (sym (get_or-map (slice_index mine) window.kept finding.found.line 0 0 (is.within k d lt)))
+      subst (λ place. Contains all (record { place = place; fault = finding.found.fault })) (sym (get_or-map (slice_index mine) window.kept finding.found.place 0 0 (is.within k d lt)))
       (each k d lt))
 
-  windows_true : (kept : KeptNumbers) (margin : ℕ) (wanted : Wanted) (read : List (Result SaidLine Why)) (names : List (List ℕ)) (windows : List Window) (text : List ℕ)
+  windows_true : (kept : KeptBefore) (margin : ℕ) (wanted : Wanted) (read : List (Result SaidLine Why)) (names : List (List ℕ)) (windows : List Window) (text : List ℕ)
       → AreWindows kept margin wanted read names windows text → All (Contains (found_in_all margin read)) (told_in_all read windows)
   windows_true kept margin wanted read names [] text are = All-nil (Contains (found_in_all margin read))
   windows_true kept margin wanted read names (window ∷ windows) text are =
@@ -94,7 +94,7 @@ pub all_pieces_true : (known : Known) → IsTrueOfAll → (asked : AuditArgument
     → (pieces : Pieces asked found refused last_early times start bytes text) → HaveRoom asked found refused last_early times start bytes text pieces
     → All (Contains (audited_in asked bytes)) (told_of_pieces asked found refused last_early times start bytes text pieces)
 all_pieces_true known true asked found refused last_early zero start bytes text last room =
-    windows_true true start.numbers asked.opts.margin asked.wanted (lines_asked asked bytes) (names_asked asked bytes).clients last.followed.windows last.followed.told last.followed.tells
+    windows_true true start.kept asked.opts.margin asked.wanted (lines_asked asked bytes) (names_asked asked bytes).clients last.followed.windows last.followed.told last.followed.tells
 all_pieces_true known true asked found refused last_early (suc times) start bytes text (piece, rest, first, more, told, kept, bytes_are, text_is, next, goes, told_with, left) (room, rooms) =
     let margin = asked.opts.margin in
     let read = lines_asked asked piece in
@@ -112,7 +112,7 @@ all_pieces_true known true asked found refused last_early (suc times) start byte
     (true.first margin (lines_taken read) (lines_taken behind) (keys_taken read) (keys_taken behind) (keyed read) (keyed behind)) in
     let here_true : All (Contains all) here =
     All-weaker (Contains (found_in_all margin read)) (Contains all) (λ found there. holds (Contains all) (found_in_all margin read) found front there) here
-    (windows_true true start.numbers margin asked.wanted read (names_asked asked piece).clients goes.windows told goes.tells) in
+    (windows_true true start.kept margin asked.wanted read (names_asked asked piece).clients goes.windows told goes.tells) in
     let size = length-map (taken read) (λ (said : SaidLine). said.line) in
     let on : All (λ (found : Found). Contains all (placed_found beyond found)) again =
     subst (λ count. All (λ (found : Found). Contains all (placed_found (places ++ range_with_len (length (lines_taken read)) count) found)) again)

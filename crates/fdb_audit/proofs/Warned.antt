@@ -21,14 +21,14 @@ use Rattle.fdb_audit.specs.declared.refusal.Warning.{Warning}
 use Rattle.fdb_audit.specs.declared.refusal.Warning.TheVariants.{Ahead, Early, Refused}
 use Rattle.fdb_audit.specs.Following.{Start}
 use Rattle.fdb_audit.specs.Taken.{AreTaken, HasWarned}
-use Rattle.fdb_audit.specs.Warned.{AreDoubled, IsNumberOfTaken, IsSaid, IsWarned, all_refused, as_ahead, as_early, as_refused, warning_line}
+use Rattle.fdb_audit.specs.Warned.{AreDoubled, IsTakenLine, IsSaid, IsWarned, all_refused, as_ahead, as_early, as_refused, warning_line}
 use Rattle.fdb_audit.specs.private.Clocks.{ahead_of}
 use Rattle.fdb_audit.specs.private.Followed.{AreEarlyIn, CameMore, NotesLine, counted_line, doubled_text, one_more}
 use Rattle.fdb_audit.proofs.Following.{few_read, line_number, one_at_most}
 use Rattle.fdb_audit.proofs.Settled.{drop_on}
 use Rattle.fdb_audit.proofs.Totalled.{range_more}
 
--- ---- the numbers of lines that were taken
+-- ---- which of all lines those are that were taken
 
 get_stays : {X : Type 0} (xs ys : List X) (i : ℕ) (x : X) → slice_get xs i ≡ Some x → slice_get (xs ++ ys) i ≡ Some x
 get_stays [] ys i x is = absurd (false≢true (ap is_some is))
@@ -39,10 +39,10 @@ get_last : {X : Type 0} (xs : List X) (x : X) → slice_get (xs ++ x ∷ []) (le
 get_last [] x = refl
 get_last (y ∷ xs) x = get_last xs x
 
-number_stays : (more : ℕ) (read further : List (Result SaidLine Why)) (number : ℕ) → IsNumberOfTaken more read number → IsNumberOfTaken more (read ++ further) number
+number_stays : (more : ℕ) (read further : List (Result SaidLine Why)) (number : ℕ) → IsTakenLine more read number → IsTakenLine more (read ++ further) number
 number_stays more read further number (place, said, is, same) = (place, said, get_stays read further place (Ok said) is, same)
 
-last_stays : (more : ℕ) (read further : List (Result SaidLine Why)) (last : Option ℕ) → IfSome last (IsNumberOfTaken more read) → IfSome last (IsNumberOfTaken more (read ++ further))
+last_stays : (more : ℕ) (read further : List (Result SaidLine Why)) (last : Option ℕ) → IfSome last (IsTakenLine more read) → IfSome last (IsTakenLine more (read ++ further))
 last_stays more read further None is = tt
 last_stays more read further (Some number) is = number_stays more read further number is
 
@@ -58,21 +58,21 @@ some_more : (is_early : Bool) (early : ℕ) (number : ℕ) (last : Option ℕ) �
 some_more true early number last is = let some : 0 < min (early + 1) (2 ^ 64 - 1) = omega arith in grind (arith, nat_tests)
 some_more false early number last is = is
 
-taken_more : (more : ℕ) (read further : List (Result SaidLine Why)) (is_early : Bool) (number : ℕ) (last : Option ℕ) → IfSome last (IsNumberOfTaken more read)
-    → IsNumberOfTaken more (read ++ further) number → IfSome (if is_early then Some number else last) (IsNumberOfTaken more (read ++ further))
+taken_more : (more : ℕ) (read further : List (Result SaidLine Why)) (is_early : Bool) (number : ℕ) (last : Option ℕ) → IfSome last (IsTakenLine more read)
+    → IsTakenLine more (read ++ further) number → IfSome (if is_early then Some number else last) (IsTakenLine more (read ++ further))
 taken_more more read further true number last is new = new
 taken_more more read further false number last is new = last_stays more read further last is
 
 early_on : (start : Start) (read : List (Result SaidLine Why)) (said : SaidLine) (is_early : Bool) (came : Came) (old new : Counts) → CameMore is_early came old new
-    → came.number ≡ start.numbers.more + length read + 1 → length read + 1 < 2 ^ 64 - 1 → AreEarlyIn start read old → AreEarlyIn start (read ++ Ok said ∷ []) new
+    → came.line ≡ start.kept.more + length read + 1 → length read + 1 < 2 ^ 64 - 1 → AreEarlyIn start read old → AreEarlyIn start (read ++ Ok said ∷ []) new
 early_on start read said is_early came old new more number few_lines are =
-    let its : IsNumberOfTaken start.numbers.more (read ++ Ok said ∷ []) came.number = (length read, said, get_last read (Ok said), number) in
+    let its : IsTakenLine start.kept.more (read ++ Ok said ∷ []) came.line = (length read, said, get_last read (Ok said), number) in
     record {
       most = (let was = are.most in let early = more.early in let size = length_push read (Ok said) in let one = one_at_most is_early old.early in omega (arith, was, early, size, one));
       few = (let most = are.most in let le = fewer is_early came.is_judged old.early old.judged are.few (omega (arith, most, few_lines)) in let early = more.early in let judged = more.judged in omega (arith, le, early, judged));
-      some = ap is_some more.last ∙ (some_more is_early old.early came.number old.last_early are.some ∙ ap (nat_lt 0) (sym more.early));
-      taken = subst (λ last. IfSome last (IsNumberOfTaken start.numbers.more (read ++ Ok said ∷ []))) (sym more.last)
-          (taken_more start.numbers.more read (Ok said ∷ []) is_early came.number old.last_early are.taken its);
+      some = ap is_some more.last ∙ (some_more is_early old.early came.line old.last_early are.some ∙ ap (nat_lt 0) (sym more.early));
+      taken = subst (λ last. IfSome last (IsTakenLine start.kept.more (read ++ Ok said ∷ []))) (sym more.last)
+          (taken_more start.kept.more read (Ok said ∷ []) is_early came.line old.last_early are.taken its);
     }
 
 pub none_early : (start : Start) (read : List (Result SaidLine Why)) (counts : Counts) → counts.early ≡ 0 → counts.judged ≡ 0 → counts.last_early ≡ None → AreEarlyIn start read counts
@@ -80,7 +80,7 @@ none_early start read counts early judged last = record {
   few = omega (arith, early, judged);
   most = omega (arith, early);
   some = ap is_some last ∙ ap (nat_lt 0) (sym early);
-  taken = subst (λ last. IfSome last (IsNumberOfTaken start.numbers.more read)) (sym last) tt;
+  taken = subst (λ last. IfSome last (IsTakenLine start.kept.more read)) (sym last) tt;
 }
 
 pub early_same : (start : Start) (read : List (Result SaidLine Why)) (why : Why) (old new : Counts) → new ≡ old → AreEarlyIn start read old → AreEarlyIn start (read ++ Err why ∷ []) new
@@ -88,7 +88,7 @@ early_same start read why old new same are = subst (AreEarlyIn start (read ++ Er
   few = are.few;
   most = (let was = are.most in let size = length_push read (Err why) in omega (arith, was, size));
   some = are.some;
-  taken = last_stays start.numbers.more read (Err why ∷ []) old.last_early are.taken;
+  taken = last_stays start.kept.more read (Err why ∷ []) old.last_early are.taken;
 })
 
 pub early_more : (start : Start) (old new : Taking) (read : List (Result SaidLine Why)) (said : SaidLine) (told : List Found) → AreTaken start old read told
@@ -116,7 +116,7 @@ all_same number (Ok other ∷ read) said = all_same (number + 1) read said
 all_same number (Err why ∷ read) said = ap (λ rest. let it : ReadError = record { line = number; why = why } in it ∷ rest) (all_same (number + 1) read said)
 
 abbrev IsTold : ℕ → List (Result SaidLine Why) → CountedLine → Type 0
-IsTold more read it = IsNumberOfTaken more read it.line × (0 < it.by)
+IsTold more read it = IsTakenLine more read it.line × (0 < it.by)
 
 -- ---- lines that are counted
 
@@ -243,7 +243,7 @@ module _ (it : CountedLine) (warning : Warning) where
 
 -- one that may have come early
 early_said : (more : ℕ) (read : List (Result SaidLine Why)) (early ahead : ℕ) (text : List ℕ) (it : CountedLine) → early + 1 < 2 ^ 64 → it.count ≡ one_more (nat_lt 0 it.by) early
-    → IsNumberOfTaken more read it.line → IsWarned more read early ahead text → IsWarned more read it.count ahead (text ++ doubled_text it (Early it))
+    → IsTakenLine more read it.line → IsWarned more read early ahead text → IsWarned more read it.count ahead (text ++ doubled_text it (Early it))
 early_said more read early ahead text it few is number was = count_by_then it (Early it) (λ n text. IsWarned more read n ahead text) early text few is was (quiet was) (loud was)
   where
     quiet : IsWarned more read early ahead text → is_power_of_two (early + 1) ≡ false → IsWarned more read (early + 1) ahead text
@@ -264,7 +264,7 @@ early_said more read early ahead text it few is number was = count_by_then it (E
 
 -- and may be ahead
 ahead_said : (more : ℕ) (read : List (Result SaidLine Why)) (early ahead : ℕ) (text : List ℕ) (it : CountedLine) → ahead + 1 < 2 ^ 64 → it.count ≡ one_more (nat_lt 0 it.by) ahead
-    → IsNumberOfTaken more read it.line → IsWarned more read early ahead text → IsWarned more read early it.count (text ++ doubled_text it (Ahead it))
+    → IsTakenLine more read it.line → IsWarned more read early ahead text → IsWarned more read early it.count (text ++ doubled_text it (Ahead it))
 ahead_said more read early ahead text it few is number was = count_by_then it (Ahead it) (λ n text. IsWarned more read early n text) ahead text few is was (quiet was) (loud was)
   where
     quiet : IsWarned more read early ahead text → is_power_of_two (ahead + 1) ≡ false → IsWarned more read early (ahead + 1) text
@@ -296,15 +296,15 @@ pub noted_more : (start : Start) (old new : Taking) (read : List (Result SaidLin
     → old.taken + old.numbering.more + length old.numbering.above.items < 18446744073709551614 → NotesLine old.watch.from old new said.line
     → HasWarned start old read warned → HasWarned start new (read ++ Ok said ∷ []) warned
 noted_more start old new read said told warned are room notes was =
-    let more = start.numbers.more + start.lines in
+    let more = start.kept.more + start.lines in
     let since = drop start.lines read in
     let all = since ++ Ok said ∷ [] in
-    let early = counted_line notes.number (old.watch.from - began said.line) new.counts.early in
-    let ahead = counted_line notes.number (ahead_of old.clocks said.line) new.counts.ahead in
+    let early = counted_line notes.its_line (old.watch.from - began said.line) new.counts.early in
+    let ahead = counted_line notes.its_line (ahead_of old.clocks said.line) new.counts.ahead in
     let number = line_number start old new read said told are room notes in
     let few : length read + 1 < 2 ^ 64 - 1 = few_read start old read told are room in
     let few_ahead : old.counts.ahead + 1 < 2 ^ 64 = (let most = are.few_ahead in omega (arith, most, few)) in
-    let its : IsNumberOfTaken more all notes.number =
+    let its : IsTakenLine more all notes.its_line =
     (length since, said, get_last since (Ok said), (let size = length-drop start.lines read in let less = are.few in omega (arith, number, size, less))) in
     let one = quiet_more more since said old.counts.early old.counts.ahead (warned ++ string_bytes old.warnings) was in
     let two = early_said more all old.counts.early old.counts.ahead (warned ++ string_bytes old.warnings) early (let most = are.came.most in omega (arith, most, few))
@@ -318,13 +318,13 @@ noted_more start old new read said told warned are room notes was =
     three)
 
 pub left_more : (start : Start) (old : Taking) (read : List (Result SaidLine Why)) (why : Why) (warned warnings : List ℕ) (error : ReadError) → start.lines ≤ length read
-    → error ≡ record { line = start.numbers.more + 1 + length read; why = why }
+    → error ≡ record { line = start.kept.more + 1 + length read; why = why }
     → warnings ≡ string_bytes old.warnings ++ warning_line (Refused error)
     → HasWarned start old read warned → IsSaid start (read ++ Err why ∷ []) old.counts.early old.counts.ahead (warned ++ warnings)
 left_more start old read why warned warnings error less is text was =
-    let more = start.numbers.more + start.lines in
+    let more = start.kept.more + start.lines in
     let since = drop start.lines read in
-    let here : start.numbers.more + 1 + length read ≡ more + 1 + length since = (let size = length-drop start.lines read in omega (arith, size, less)) in
+    let here : start.kept.more + 1 + length read ≡ more + 1 + length since = (let size = length-drop start.lines read in omega (arith, size, less)) in
     subst (λ read. IsWarned more read old.counts.early old.counts.ahead (warned ++ warnings)) (sym (drop_on start.lines read (Err why ∷ []) less))
     (subst (IsWarned more (since ++ Err why ∷ []) old.counts.early old.counts.ahead)
     (append_assoc warned (string_bytes old.warnings) (warning_line (Refused error)) ∙ ap (λ part. warned ++ part) (sym text))
@@ -334,7 +334,7 @@ left_more start old read why warned warnings error less is text was =
 pub none_said : (start : Start) (read : List (Result SaidLine Why)) (counts : Counts) (text : List ℕ) → drop start.lines read ≡ [] → counts.early ≡ 0 → counts.ahead ≡ 0 → text ≡ []
     → IsSaid start read counts.early counts.ahead text
 none_said start read counts text none early ahead empty =
-    let more = start.numbers.more + start.lines in
+    let more = start.kept.more + start.lines in
     let none_told : AreDoubled more [] 0 [] = record { counts = refl; taken = λ k d lt. absurd (omega (arith, lt)) } in
     subst (λ read. IsWarned more read counts.early counts.ahead text) (sym none)
     (subst (λ count. IsWarned more [] count counts.ahead text) (sym early)

@@ -27,14 +27,14 @@ use Rattle.fdb_log_reader.specs.ReadLine.{SaidLine}
 use Rattle.fdb_audit.specs.declared.printer.LogFault.{LogFault}
 use Rattle.fdb_audit.specs.declared.judgement.Wanted.{Wanted}
 use Rattle.fdb_audit.specs.declared.teller.Teller.{Teller}
-use Rattle.fdb_audit.specs.Following.{AreWindows, IsWindow, TellsIn, KeptNumbers, Window, faults_at, faults_told, first_in, first_told, keys_taken, lines_taken, number_in, printed_in, taken, told_in, told_in_all, told_text}
+use Rattle.fdb_audit.specs.Following.{AreWindows, IsWindow, TellsIn, KeptBefore, Window, faults_at, faults_told, first_in, first_told, keys_taken, lines_taken, taken_line, printed_in, taken, told_in, told_in_all, told_text}
 use Rattle.fdb_audit.specs.Text.{Beside, PrintedLog, fault_of}
 use Rattle.fdb_audit.specs.ToldFaults.{ToldFault, told_at}
 use Rattle.fdb_audit.specs.private.Followed.{CountsOn, HasTotals, IsSameTeller, TellsOn}
 
 -- ---- windows that follow others
 
-pub windows_on : (kept : KeptNumbers) (margin : ℕ) (wanted : Wanted) (read : List (Result SaidLine Why)) (names : List (List ℕ)) (ws vs : List Window) (text more : List ℕ)
+pub windows_on : (kept : KeptBefore) (margin : ℕ) (wanted : Wanted) (read : List (Result SaidLine Why)) (names : List (List ℕ)) (ws vs : List Window) (text more : List ℕ)
     → AreWindows kept margin wanted read names ws text → AreWindows kept margin wanted read names vs more
     → AreWindows kept margin wanted read names (ws ++ vs) (text ++ more)
 windows_on kept margin wanted read names [] vs text more are other =
@@ -57,7 +57,7 @@ names_yet a b c one two = (one.0 ++ two.0, two.1 ∙ (ap (λ (names : List (List
 same_taken : (read further : List (Result SaidLine Why)) (n : ℕ) → n ≤ length read → take n (read ++ further) ≡ take n read
 same_taken read further n within = take-append-le n read further within
 
-pub windows_stay : (kept : KeptNumbers) (margin : ℕ) (wanted : Wanted) (read further : List (Result SaidLine Why)) (names more : List (List ℕ)) (ws : List Window) (text : List ℕ)
+pub windows_stay : (kept : KeptBefore) (margin : ℕ) (wanted : Wanted) (read further : List (Result SaidLine Why)) (names more : List (List ℕ)) (ws : List Window) (text : List ℕ)
     → AreWindows kept margin wanted read names ws text → IsMore names more → AreWindows kept margin wanted (read ++ further) more ws text
 windows_stay kept margin wanted read further names more [] text are is = are
 windows_stay kept margin wanted read further names more (w ∷ ws) text are is =
@@ -83,13 +83,13 @@ or_none : {X : Type 0} (a : Option X) → option_or a None ≡ a
 or_none None = refl
 or_none (Some a) = refl
 
-pub first_on : (kept : KeptNumbers) (read : List (Result SaidLine Why)) (ws vs : List Window) → first_told kept read (ws ++ vs) ≡ option_or (first_told kept read ws) (first_told kept read vs)
+pub first_on : (kept : KeptBefore) (read : List (Result SaidLine Why)) (ws vs : List Window) → first_told kept read (ws ++ vs) ≡ option_or (first_told kept read ws) (first_told kept read vs)
 first_on kept read [] vs = refl
 first_on kept read (w ∷ ws) vs =
     let first = first_in kept (take w.read read) w in
     ap (option_or first) (first_on kept read ws vs) ∙ sym (or_else first (first_told kept read ws) (first_told kept read vs))
 
-pub first_stays : (kept : KeptNumbers) (read further : List (Result SaidLine Why)) (ws : List Window) → All (λ (w : Window). w.read ≤ length read) ws
+pub first_stays : (kept : KeptBefore) (read further : List (Result SaidLine Why)) (ws : List Window) → All (λ (w : Window). w.read ≤ length read) ws
     → first_told kept (read ++ further) ws ≡ first_told kept read ws
 first_stays kept read further [] within = refl
 first_stays kept read further (w ∷ ws) within =
@@ -121,7 +121,7 @@ pub faults_stay : (read further : List (Result SaidLine Why)) (ws : List Window)
 faults_stay read further ws within = each_stays faults_at read further ws within
 
 -- windows are of lines that were read
-pub windows_within : (kept : KeptNumbers) (margin : ℕ) (wanted : Wanted) (read : List (Result SaidLine Why)) (names : List (List ℕ)) (ws : List Window) (text : List ℕ)
+pub windows_within : (kept : KeptBefore) (margin : ℕ) (wanted : Wanted) (read : List (Result SaidLine Why)) (names : List (List ℕ)) (ws : List Window) (text : List ℕ)
     → AreWindows kept margin wanted read names ws text → All (λ (w : Window). w.read ≤ length read) ws
 windows_within kept margin wanted read names [] text are = All-nil (λ (w : Window). w.read ≤ length read)
 windows_within kept margin wanted read names (w ∷ ws) text are =
@@ -129,7 +129,7 @@ windows_within kept margin wanted read names (w ∷ ws) text are =
 
 -- ---- what is told more
 
-pub tells_nothing : (kept : KeptNumbers) (teller : Teller) (margin : ℕ) (read : List (Result SaidLine Why)) (names : List (List ℕ)) → TellsOn kept teller teller margin read names []
+pub tells_nothing : (kept : KeptBefore) (teller : Teller) (margin : ℕ) (read : List (Result SaidLine Why)) (names : List (List ℕ)) → TellsOn kept teller teller margin read names []
 tells_nothing kept teller margin read names = record {
   windows = [];
   at = All-nil (λ (window : Window). window.read ≡ length read);
@@ -142,7 +142,7 @@ tells_nothing kept teller margin read names = record {
   same = record { wanted = refl; margin = refl; key = refl };
 }
 
-pub tells_yet : (kept : KeptNumbers) (old mid new : Teller) (margin : ℕ) (read : List (Result SaidLine Why)) (names : List (List ℕ)) (faults more : List Found)
+pub tells_yet : (kept : KeptBefore) (old mid new : Teller) (margin : ℕ) (read : List (Result SaidLine Why)) (names : List (List ℕ)) (faults more : List Found)
     → TellsOn kept old mid margin read names faults → TellsOn kept mid new margin read names more → TellsOn kept old new margin read names (faults ++ more)
 tells_yet kept old mid new margin read names faults more one two = record {
   windows = one.windows ++ two.windows;
@@ -219,7 +219,7 @@ found_in margin to read names entry part beside same told =
 
 -- what is shown of lines
 abbrev pub log_with : List Line → List (List ℕ) → List ℕ → List Beside → PrintedLog
-log_with lines names numbers beside = record { lines = lines; names = names; numbers = numbers; beside = beside }
+log_with lines names numbers beside = record { lines = lines; names = names; own = numbers; beside = beside }
 
 pub same_log : (lines : List Line) (names other : List (List ℕ)) (numbers those : List ℕ) (beside : List Beside)
     → names ≡ other → numbers ≡ those → log_with lines names numbers beside ≡ log_with lines other those beside
@@ -227,29 +227,29 @@ same_log lines names other numbers those beside one two =
     ap (λ (names : List (List ℕ)). log_with lines names numbers beside) one ∙ ap (λ (numbers : List ℕ). log_with lines other numbers beside) two
 
 -- and of the lines of a key that had been kept
-abbrev pub shown_of : KeptNumbers → List (Result SaidLine Why) → List (List ℕ) → SettledKey → List Beside → PrintedLog
+abbrev pub shown_of : KeptBefore → List (Result SaidLine Why) → List (List ℕ) → SettledKey → List Beside → PrintedLog
 shown_of kept read names entry beside = record {
   lines = (lines_of entry.settled.log).lines;
   names = map printed names;
-  numbers = map (number_in kept read) entry.settled.numbers.items;
+  own = map (taken_line kept read) entry.settled.numbers.items;
   beside = beside;
 }
 
-shown_is : (kept : KeptNumbers) (to : Option ℕ) (read : List (Result SaidLine Why)) (names : List (List ℕ)) (entry : SettledKey) (part : KeyPart) (beside : List Beside)
+shown_is : (kept : KeptBefore) (to : Option ℕ) (read : List (Result SaidLine Why)) (names : List (List ℕ)) (entry : SettledKey) (part : KeyPart) (beside : List Beside)
     → IsToldOf to (lines_taken read) (keys_taken read) entry part → shown_of kept read names entry beside ≡ printed_in kept read (window_of to read names entry part beside)
 shown_is kept to read names entry part beside told =
-    ap (λ (lines : List Line). log_with lines (map printed names) (map (number_in kept read) entry.settled.numbers.items) beside) told.log
-    ∙ ap (λ (places : List ℕ). log_with (lines_in (lines_taken read) places) (map printed names) (map (number_in kept read) places) beside) told.numbers
+    ap (λ (lines : List Line). log_with lines (map printed names) (map (taken_line kept read) entry.settled.numbers.items) beside) told.log
+    ∙ ap (λ (places : List ℕ). log_with (lines_in (lines_taken read) places) (map printed names) (map (taken_line kept read) places) beside) told.numbers
 
--- the first of some faults, by the number of its line
+-- the first of some faults, by its line
 abbrev pub first_of : PrintedLog → List Finding → Option LogFault
-first_of it found = option_map (λ (finding : Finding). fault_of it.numbers (found_of finding)) (slice_get found 0)
+first_of it found = option_map (λ (finding : Finding). fault_of it.own (found_of finding)) (slice_get found 0)
 
 -- faults as they are counted
 abbrev pub faults_of : PrintedLog → List Finding → List ToldFault
 faults_of it found = map (λ (finding : Finding). told_at it.lines it.names it.beside finding.found) found
 
-pub tells_of : (kept : KeptNumbers) (old new : Teller) (margin : ℕ) (to : Option ℕ) (read : List (Result SaidLine Why)) (names : List (List ℕ)) (entry : SettledKey) (part : KeyPart) (beside : List Beside) (it : PrintedLog)
+pub tells_of : (kept : KeptBefore) (old new : Teller) (margin : ℕ) (to : Option ℕ) (read : List (Result SaidLine Why)) (names : List (List ℕ)) (entry : SettledKey) (part : KeyPart) (beside : List Beside) (it : PrintedLog)
     → part.watch.margin ≡ margin → IsToldOf to (lines_taken read) (keys_taken read) entry part → it ≡ shown_of kept read names entry beside
     → string_bytes new.text ≡ string_bytes old.text ++ told_text old.wanted it entry.settled.found.items
     → new.first ≡ option_or old.first (first_of it entry.settled.found.items)
@@ -293,9 +293,9 @@ tells_of kept old new margin to read names entry part beside it same told is add
       same = still;
     }
 
-pub tells_for : (kept : KeptNumbers) (old new : Teller) (margin : ℕ) (to : Option ℕ) (read : List (Result SaidLine Why)) (names : List (List ℕ)) (entry : SettledKey) (part : KeyPart)
+pub tells_for : (kept : KeptBefore) (old new : Teller) (margin : ℕ) (to : Option ℕ) (read : List (Result SaidLine Why)) (names : List (List ℕ)) (entry : SettledKey) (part : KeyPart)
     (texts : List (List ℕ)) (numbers : List ℕ) (beside : List Beside) (found : List Finding)
-    → texts ≡ map printed names → numbers ≡ map (number_in kept read) entry.settled.numbers.items → found ≡ entry.settled.found.items
+    → texts ≡ map printed names → numbers ≡ map (taken_line kept read) entry.settled.numbers.items → found ≡ entry.settled.found.items
     → part.watch.margin ≡ margin → IsToldOf to (lines_taken read) (keys_taken read) entry part
     → string_bytes new.text ≡ string_bytes old.text ++ told_text old.wanted (log_with (lines_of entry.settled.log).lines texts numbers beside) found
     → new.first ≡ option_or old.first (first_of (log_with (lines_of entry.settled.log).lines texts numbers beside) found)
@@ -305,7 +305,7 @@ tells_for kept old new margin to read names entry part texts numbers beside foun
     let lines = (lines_of entry.settled.log).lines in
     let it = log_with lines texts numbers beside in
     tells_of kept old new margin to read names entry part beside it same told
-    (same_log lines texts (map printed names) numbers (map (number_in kept read) entry.settled.numbers.items) beside named numbered)
+    (same_log lines texts (map printed names) numbers (map (taken_line kept read) entry.settled.numbers.items) beside named numbered)
     (added ∙ ap (λ (found : List Finding). string_bytes old.text ++ told_text old.wanted it found) is)
     (first ∙ ap (λ (found : List Finding). option_or old.first (first_of it found)) is)
     (subst (λ (found : List Finding). CountsOn old new (faults_of it found)) is counts)

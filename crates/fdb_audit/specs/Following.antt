@@ -1,5 +1,5 @@
 -- What is told of a log that is followed as it grows. (this product's own)
-use Rattle.std.specs.Prelude.{◌≡◌, ℕ, zero, suc, ◌+◌, ◌-◌, ◌^◌, ◌<◌, ◌≤◌, ◌||◌, nat_le, not, Bool, true, false, List, [], ◌∷◌, ◌++◌, Option, None, Some, codes, count_by, drop, length, map, min, nat_lt, option_map, slice_get, slice_index, take, unwrap_or, Result, Ok, Err, if◌then◌else◌}
+use Rattle.std.specs.Prelude.{◌≡◌, ℕ, zero, suc, ◌+◌, ◌-◌, ◌^◌, ◌≤◌, ◌||◌, nat_le, not, Bool, true, false, List, [], ◌∷◌, ◌++◌, Option, None, Some, codes, count_by, drop, length, map, min, nat_lt, option_map, slice_get, slice_index, take, unwrap_or, Result, Ok, Err, if◌then◌else◌}
 use Rattle.std.specs.List.{flat_map}
 use Rattle.std.specs.Option.{option_or}
 use Rattle.fdb_lines.specs.declared.fault.Found.{Found}
@@ -11,7 +11,7 @@ use Rattle.fdb_lines.specs.Keys.{placed_found, places_of}
 use Rattle.fdb_lines.specs.Lines.{is_ask, is_commit, is_read, is_report, lines_in}
 use Rattle.fdb_lines.specs.Reasons.{found_of}
 use Rattle.fdb_lines.specs.Summary.{how_many}
-use Rattle.fdb_lines.specs.Watch.{AreToldOf}
+use Rattle.fdb_lines.specs.Watch.{AreFindingsDue}
 use Rattle.fdb_lines.specs.Watching.{is_due}
 use Rattle.fdb_log_reader.specs.declared.error.ReadError.{ReadError}
 use Rattle.fdb_log_reader.specs.declared.error.Why.{Why}
@@ -23,7 +23,7 @@ use Rattle.fdb_audit.specs.Figures.{Figure, figure, figures_words}
 use Rattle.fdb_audit.specs.Judged.{list_text}
 use Rattle.fdb_audit.specs.Objects.{total_object}
 use Rattle.fdb_audit.specs.Text.{Beside, PrintedLog, fault_of, line}
-use Rattle.fdb_audit.specs.ToldFaults.{AreTotals, ToldFault, told_at}
+use Rattle.fdb_audit.specs.ToldFaults.{AreTotalsTold, ToldFault, told_at}
 use Rattle.fdb_audit.specs.declared.printer.LogFault.{LogFault}
 use Rattle.fdb_audit.specs.declared.judgement.Wanted.{Wanted}
 
@@ -47,11 +47,11 @@ taken_above above [] = []
 taken_above above (Ok said ∷ read) = taken_above (above + 1) read
 taken_above above (Err why ∷ read) = above ∷ taken_above above read
 
--- the last of the lines that are refused, by its number and why, where the first has a number
+-- the last of the lines that are refused, and why, where the first of all is this one
 abbrev pub last_refused : ℕ → Option ReadError → List (Result SaidLine Why) → Option ReadError
-last_refused number last [] = last
-last_refused number last (Ok said ∷ read) = last_refused (number + 1) last read
-last_refused number last (Err why ∷ read) = last_refused (number + 1) (Some (record { line = number; why = why })) read
+last_refused line last [] = last
+last_refused line last (Ok said ∷ read) = last_refused (line + 1) last read
+last_refused line last (Err why ∷ read) = last_refused (line + 1) (Some (record { line = line; why = why })) read
 
 -- that there is no line, where none is taken, and none was before
 abbrev pub no_line : List SaidLine → ℕ → Option ReadError
@@ -59,14 +59,14 @@ no_line [] zero = Some (record { line = 0; why = Empty })
 no_line [] (suc before) = None
 no_line (said ∷ taken) before = None
 
--- Of what was read before, lines that were kept of it come first: each with its number, counted from 1; and there were so many more.
-pub record KeptNumbers : Type 0 where
-  pub numbers : List ℕ
+-- Of what was read before, the lines that were kept of it come first: where each stood among all, counted from 1; and how many more there were.
+pub record KeptBefore : Type 0 where
+  pub lines : List ℕ
   pub more : ℕ
 
 -- nothing was read before
-abbrev pub none_kept : KeptNumbers
-none_kept = record { numbers = []; more = 0 }
+abbrev pub none_kept : KeptBefore
+none_kept = record { lines = []; more = 0 }
 
 -- how many lines were taken, in all and of each kind; how many were refused; how many began before what had been settled, and
 -- how many of these were judged; and how many ends were found to be ahead
@@ -81,7 +81,7 @@ pub record Counted : Type 0 where
   pub judged : ℕ
   pub ahead : ℕ
 
--- What an earlier piece of the same watch has counted: how much was read; the last line that was refused, and the number of the
+-- What an earlier piece of the same watch has counted: how much was read; the last line that was refused, and the
 -- last that came early, if there is one; the first fault that was told, and all of them, as they are counted.
 pub record Before : Type 0 where
   pub counts : Counted
@@ -97,25 +97,25 @@ abbrev pub none_before : Before
 none_before = record { counts = none_counted; refused = None; last_early = None; first = None; told = [] }
 
 -- From where a log is followed: how far behind the newest end a line that comes may begin; whether that is from its beginning; up
--- to when all had been told; the numbers of the lines that were kept of what was read before, and of these how many lines they are,
+-- to when all had been told; which lines were kept of what was read before, and of these how many lines they are,
 -- how many had come early, and which faults had been told; and what an earlier piece of the same watch has counted.
 pub record Start : Type 0 where
   pub behind : ℕ
   pub anew : Bool
   pub from : ℕ
-  pub numbers : KeptNumbers
+  pub kept : KeptBefore
   pub lines : ℕ
   pub early : ℕ
   pub told : List Found
   pub before : Before
 
--- none of the lines that have these numbers has been read yet
-abbrev pub start_with : ℕ → KeptNumbers → Start
-start_with behind numbers = record {
+-- none of the lines that were kept has been read yet
+abbrev pub start_with : ℕ → KeptBefore → Start
+start_with behind kept = record {
   behind = behind;
   anew = true;
   from = 0;
-  numbers = numbers;
+  kept = kept;
   lines = 0;
   early = 0;
   told = [];
@@ -137,13 +137,13 @@ early_at at lines = count_by (λ line. nat_lt (began line) at) lines
 -- why a part of a log is refused, if it is: the last line that is, or that none is taken
 abbrev pub left_out : Start → List (Result SaidLine Why) → Option ReadError
 left_out start read =
-    option_or (last_refused (start.numbers.more + 1) start.before.refused read) (no_line (taken read) start.before.counts.lines)
+    option_or (last_refused (start.kept.more + 1) start.before.refused read) (no_line (taken read) start.before.counts.lines)
 
--- The number of a line among all, counted from 1, by how many were taken above it: these, those that were not kept, and those
+-- Where a line stands among all, counted from 1, by how many were taken above it: these, those that were not kept, and those
 -- that were refused above.
-abbrev pub number_in : KeptNumbers → List (Result SaidLine Why) → ℕ → ℕ
-number_in kept read above =
-    unwrap_or (slice_get kept.numbers above) (above + 1 + kept.more + count_by (λ refused. nat_le refused above) (taken_above 0 read))
+abbrev pub taken_line : KeptBefore → List (Result SaidLine Why) → ℕ → ℕ
+taken_line kept read above =
+    unwrap_or (slice_get kept.lines above) (above + 1 + kept.more + count_by (λ refused. nat_le refused above) (taken_above 0 read))
 
 -- ---- what is told of a key at a moment
 
@@ -166,18 +166,18 @@ pub record Window : Type 0 where
 -- What is found are the stale reads and the versions that are not above others, of all lines of the key that had been read.
 abbrev pub TellsIn : ℕ → List Line → Window → Type 0
 TellsIn margin lines window =
-    AreToldOf margin (is_due window.from window.early window.since window.to) window.early lines window.kept window.found
+    AreFindingsDue margin (is_due window.from window.early window.since window.to) window.early lines window.kept window.found
 
 -- the places of those lines among all that were taken
 abbrev pub places_in : List (Result SaidLine Why) → Window → List ℕ
 places_in read window = map (slice_index (places_of (keys_taken read) window.key)) window.kept
 
 -- what is printed of them
-abbrev pub printed_in : KeptNumbers → List (Result SaidLine Why) → Window → PrintedLog
+abbrev pub printed_in : KeptBefore → List (Result SaidLine Why) → Window → PrintedLog
 printed_in kept read window = record {
   lines = lines_in (lines_taken read) (places_in read window);
   names = map printed window.names;
-  numbers = map (number_in kept read) (places_in read window);
+  own = map (taken_line kept read) (places_in read window);
   beside = window.beside;
 }
 
@@ -189,20 +189,20 @@ abbrev pub told_text : Wanted → PrintedLog → List Finding → List ℕ
 told_text wanted it found = if lists wanted then list_text wanted.json it found else []
 
 -- what is told of a key at a moment, of the lines that had been read by then
-pub record IsWindow (kept : KeptNumbers) (margin : ℕ) (wanted : Wanted) (read : List (Result SaidLine Why)) (window : Window) (text : List ℕ) : Type 0 where
+pub record IsWindow (kept : KeptBefore) (margin : ℕ) (wanted : Wanted) (read : List (Result SaidLine Why)) (window : Window) (text : List ℕ) : Type 0 where
   pub found : TellsIn margin (lines_of_one (lines_taken read) (keys_taken read) window.key) window
   pub printed : text ≡ told_text wanted (printed_in kept read window) window.found
 
--- the first fault that is told, by the number of its line
-abbrev pub first_in : KeptNumbers → List (Result SaidLine Why) → Window → Option LogFault
-first_in kept read window = option_map (λ finding. fault_of (map (number_in kept read) (places_in read window)) (found_of finding)) (slice_get window.found 0)
+-- the first fault that is told, by its line
+abbrev pub first_in : KeptBefore → List (Result SaidLine Why) → Window → Option LogFault
+first_in kept read window = option_map (λ finding. fault_of (map (taken_line kept read) (places_in read window)) (found_of finding)) (slice_get window.found 0)
 
-abbrev pub first_told : KeptNumbers → List (Result SaidLine Why) → List Window → Option LogFault
+abbrev pub first_told : KeptBefore → List (Result SaidLine Why) → List Window → Option LogFault
 first_told kept read [] = None
 first_told kept read (window ∷ windows) = option_or (first_in kept (take window.read read) window) (first_told kept read windows)
 
 -- What is told of all lines that were read, one moment after another: names of clients keep their numbers.
-abbrev pub AreWindows : KeptNumbers → ℕ → Wanted → List (Result SaidLine Why) → List (List ℕ) → List Window → List ℕ → Type 0
+abbrev pub AreWindows : KeptBefore → ℕ → Wanted → List (Result SaidLine Why) → List (List ℕ) → List Window → List ℕ → Type 0
 AreWindows kept margin wanted read names [] text = text ≡ []
 AreWindows kept margin wanted read names (window ∷ windows) text =
     (first rest : List ℕ) × (text ≡ first ++ rest) × (window.read ≤ length read) × IsMore window.names names
@@ -301,4 +301,4 @@ abbrev pub IsEnd : (quiet totals json : Bool) → Counted → FollowArguments �
 IsEnd true totals json counts asked told text = text ≡ line (figures_words (verdict_of counts.early) (counted_figures counts))
 IsEnd false false json counts asked told text = text ≡ []
 IsEnd false true json counts asked told text =
-    (totals : List ℕ) × AreTotals json asked.members told totals × (text ≡ total_head json counts asked ++ totals)
+    (totals : List ℕ) × AreTotalsTold json asked.members told totals × (text ≡ total_head json counts asked ++ totals)

@@ -17,9 +17,9 @@ use Rattle.fdb_audit.specs.declared.taken_lines.Taking.{Taking}
 abbrev pub counted_before : Start → List (Result SaidLine Why) → List Window → Taking → Before
 counted_before start read windows taking = record {
   counts = counted_on start.before.counts (counted_of taking);
-  refused = last_refused (start.numbers.more + 1) start.before.refused read;
+  refused = last_refused (start.kept.more + 1) start.before.refused read;
   last_early = option_or taking.counts.last_early start.before.last_early;
-  first = option_or start.before.first (first_told start.numbers read windows);
+  first = option_or start.before.first (first_told start.kept read windows);
   told = start.before.told ++ faults_told read windows;
 }
 
@@ -34,15 +34,15 @@ pub record MayForget (forget : Option ℕ) (stays : Option ℕ → Bool) : Type 
 
 -- A watch goes on where a line of these bytes ends: it has told this text of them, and from now on it is as one that was restored from
 -- the text that keeps its lines, but for those of keys that it forgets, with what it has counted. This text says up to when all was told.
-pub record GoesOn (asked : AuditArguments) (start : Start) (bytes told kept : List ℕ) (next : Start) : Type 0 where
+pub record GoesOnBy (asked : AuditArguments) (start : Start) (bytes told kept : List ℕ) (next : Start) : Type 0 where
   pub taking : Taking
   pub windows : List Window
   pub margin : taking.watch.margin ≡ asked.opts.margin
   pub taken : AreTaken start taking (lines_asked asked bytes) (start.told ++ told_in_all (lines_asked asked bytes) windows)
-  pub tells : AreWindows start.numbers asked.opts.margin asked.wanted (lines_asked asked bytes) (names_asked asked bytes).clients windows told
+  pub tells : AreWindows start.kept asked.opts.margin asked.wanted (lines_asked asked bytes) (names_asked asked bytes).clients windows told
   pub stays : Option ℕ → Bool
   pub forgets : MayForget asked.forget stays
-  pub keeps : KeepsLines (places_staying stays (lines_asked asked bytes) taking) (option_map string_bytes asked.key) (names_asked asked bytes) start.numbers taking (lines_asked asked bytes) kept
+  pub keeps : KeepsLines (places_staying stays (lines_asked asked bytes) taking) (option_map string_bytes asked.key) (names_asked asked bytes) start.kept taking (lines_asked asked bytes) kept
   pub ends : EndsALine bytes
   pub from : next.from ≡ taking.watch.from
   pub next_is : next ≡ record (start_of asked start.behind kept) { before = counted_before start (lines_asked asked bytes) windows taking }

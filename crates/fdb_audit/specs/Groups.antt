@@ -22,7 +22,7 @@ abbrev pub kinds_of : List Owned → List Fault
 kinds_of owned = map (λ (it : Owned). it.kind) owned
 
 abbrev pub owned_by : Grouping → List Found → List Owned
-owned_by by found = map (λ (it : Found). record { kind = it.fault; owner = by.owner it.line }) found
+owned_by by found = map (λ (it : Found). record { kind = it.fault; owner = by.owner it.place }) found
 
 -- ---- which groups have most faults
 

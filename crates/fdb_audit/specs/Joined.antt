@@ -10,7 +10,7 @@ use Rattle.fdb_log_reader.specs.Named.{Named, named}
 use Rattle.fdb_log_reader.specs.ReadLine.{LineNames, MemberNames}
 use Rattle.fdb_log_reader.specs.Reading.{Reading, reading_with}
 use Rattle.fdb_audit.specs.Judged.{keys_of_lines, own_numbers}
-use Rattle.fdb_audit.specs.Text.{fault_of, number_at}
+use Rattle.fdb_audit.specs.Text.{fault_of, printed_line}
 use Rattle.fdb_audit.specs.declared.printer.LogFault.{LogFault}
 
 -- some text was read so, with the keys of its lines
@@ -18,7 +18,7 @@ abbrev pub WasReadByKey : Reading → Type 0
 WasReadByKey reading =
     (member : List ℕ) × (shown : List (List ℕ)) × (number : Option (List ℕ)) × (bytes : List ℕ) × (reading_with (Some member) shown number bytes ≡ Ok reading)
 
--- what an audit by key finds, each fault by the number of its line
+-- what an audit by key finds, each fault by its line
 abbrev pub faults_by_number : AuditOpts → Reading → List LogFault
 faults_by_number opts reading = map (fault_of (own_numbers reading.numbers)) (faults_in reading.log (keys_of_lines reading.keys) opts)
 
@@ -34,11 +34,11 @@ names_read reading = record { clients = reading.names; keys = key_names reading.
 abbrev pub named_line : Reading → ℕ → Named
 named_line reading k = named (names_read reading) (line_at reading.log.lines k) (option_and_then (λ (column : KeyColumn). key_at column.numbers k) reading.keys)
 
--- Lines are those of a log at some places: they say the same, line by line, and are told by the same numbers.
+-- Lines are those of a log at some places: they say the same, line by line, and are told as the same.
 pub record IsPartOf (whole part : Reading) (places : List ℕ) : Type 0 where
   pub as_many : length part.log.lines ≡ length places
   pub says : (j : ℕ) → j < length places → named_line part j ≡ named_line whole (slice_index places j)
-  pub numbers : (j : ℕ) → j < length places → number_at (own_numbers part.numbers) j ≡ number_at (own_numbers whole.numbers) (slice_index places j)
+  pub own : (j : ℕ) → j < length places → printed_line (own_numbers part.numbers) j ≡ printed_line (own_numbers whole.numbers) (slice_index places j)
 
 -- the places of the lines of a part, in order, where a rule says by its key of which part a line is
 abbrev pub places_of_part : (Option (List ℕ) → ℕ) → Reading → ℕ → List ℕ

@@ -109,7 +109,7 @@ IsTextOf log it keys opts wanted (Some first) text =
 -- the same of lines without keys, beside which no member is printed
 abbrev pub IsText : Lines → List (List ℕ) → AuditOpts → Wanted → Option Found → List ℕ → Type 0
 IsText log names opts wanted first text =
-    IsTextOf log (record { lines = log.lines; names = names; numbers = []; beside = [] }) None opts wanted first text
+    IsTextOf log (record { lines = log.lines; names = names; own = []; beside = [] }) None opts wanted first text
 
 -- ---- of what was read
 
@@ -139,14 +139,14 @@ AreBeside [] (it ∷ more) = ⊥
 AreBeside (column ∷ columns) [] = ⊥
 AreBeside (column ∷ columns) (it ∷ more) = IsBeside column it × AreBeside columns more
 
--- by which numbers lines are printed: by their own, where they have such
+-- what lines are told as: their own numbers, where they have such
 abbrev pub own_numbers : Option NumberColumn → List ℕ
 own_numbers None = []
 own_numbers (Some column) = column.numbers
 
 -- what is printed of a log that was read: its clients are JSON strings, safe on a terminal and within a line
 abbrev pub print_of : Reading → List Beside → PrintedLog
-print_of reading shown = record { lines = reading.log.lines; names = map printed reading.names; numbers = own_numbers reading.numbers; beside = keys_beside reading.keys ++ shown }
+print_of reading shown = record { lines = reading.log.lines; names = map printed reading.names; own = own_numbers reading.numbers; beside = keys_beside reading.keys ++ shown }
 
 abbrev pub IsTextOfReading : Reading → AuditOpts → Wanted → Option Found → List ℕ → Type 0
 IsTextOfReading reading opts wanted first text =

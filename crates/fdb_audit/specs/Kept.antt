@@ -15,11 +15,11 @@ use Rattle.fdb_log_reader.specs.Reading.{EndsALine, lines_in}
 use Rattle.fdb_audit.specs.declared.arguments.AuditArguments.{AuditArguments}
 use Rattle.fdb_audit.specs.declared.printer.LogFault.{LogFault}
 use Rattle.fdb_audit.specs.declared.taken_lines.Taking.{Taking}
-use Rattle.fdb_audit.specs.Following.{KeptNumbers, Start, early_at, keys_taken, lines_taken, none_before, number_in, taken, told_in_all}
+use Rattle.fdb_audit.specs.Following.{KeptBefore, Start, early_at, keys_taken, lines_taken, none_before, taken_line, taken, told_in_all}
 use Rattle.fdb_audit.specs.Taken.{AreTaken}
 use Rattle.fdb_audit.specs.Watched.{IsFollowed, lines_asked, names_asked}
 
--- the members that say as what a line is kept: its number among all lines that were read, counted from 1; how many had been
+-- the members that say as what a line is kept: where it stood among all that were read, counted from 1; how many had been
 -- read; up to when all was told, which is left out in lines that came since; and in the first of how many clients lines had come, up
 -- to two
 abbrev pub kept_members : List (List ℕ)
@@ -43,16 +43,16 @@ abbrev pub settled_by : ℕ → List SaidLine → ℕ
 settled_by at [] = at
 settled_by at (said ∷ lines) = settled_by (unwrap_or (number_kept 2 said) at) lines
 
--- What is said of lines that are kept: their numbers, and how many more had been read; how many had come when it settled last,
+-- What is said of lines that are kept: where they stood, and how many more had been read; how many had come when it settled last,
 -- and up to when it had.
 pub record KeptSaid : Type 0 where
-  pub numbers : KeptNumbers
+  pub front : KeptBefore
   pub told : ℕ
   pub settled : ℕ
 
 abbrev pub kept_said : List SaidLine → KeptSaid
 kept_said lines = record {
-  numbers = record { numbers = map (λ said. unwrap_or (number_kept 0 said) 0) lines; more = read_by 0 lines - length lines };
+  front = record { lines = map (λ said. unwrap_or (number_kept 0 said) 0) lines; more = read_by 0 lines - length lines };
   told = count_by (λ said. is_some (number_kept 2 said)) lines;
   settled = settled_by 0 lines;
 }
@@ -64,7 +64,7 @@ start_from behind margin kept read = record {
   behind = behind;
   anew = false;
   from = kept.settled;
-  numbers = kept.numbers;
+  kept = kept.front;
   lines = length read;
   early = early_at kept.settled (lines_taken (drop kept.told read));
   told = audited_to margin kept.settled (lines_taken (take kept.told read)) (keys_taken (take kept.told read));
@@ -77,11 +77,11 @@ start_of asked behind text =
     start_from behind asked.opts.margin (kept_said (lines_kept (option_map string_bytes asked.key) text)) (lines_asked asked text)
 
 -- What is to be said of the lines that are kept of those that were taken, by their places: so many had come when it settled last.
-abbrev pub kept_at : KeptNumbers → List (Result SaidLine Why) → List ℕ → ℕ → ℕ → KeptSaid
+abbrev pub kept_at : KeptBefore → List (Result SaidLine Why) → List ℕ → ℕ → ℕ → KeptSaid
 kept_at before read places come settled =
     let told = count_by (λ place. nat_lt place come) places in
     record {
-      numbers = record { numbers = map (number_in before read) places; more = length read + before.more - length places };
+      front = record { lines = map (taken_line before read) places; more = length read + before.more - length places };
       told = told;
       settled = if nat_lt 0 told then settled else 0;
     }
@@ -103,10 +103,10 @@ places_kept watch = flat_map (λ (part : KeyPart). part.numbers.items) watch.par
 abbrev pub Rise : List ℕ → Type 0
 Rise places = (i j : ℕ) → i < j → j < length places → slice_index places i < slice_index places j
 
--- A text says which lines are kept, those at some places, in the order in which they came, each once and under its number, how
+-- A text says which lines are kept, those at some places, in the order in which they came, each once and with where it stood, how
 -- many lines were read, and up to when all was told; and of each line, whatever is shown of it, what it said when it was taken, by
 -- these names. Each of its lines is one of them, and it ends where a line does.
-pub record KeepsLines (kept : List ℕ) (key : Option (List ℕ)) (names : LineNames) (before : KeptNumbers) (taking : Taking) (read : List (Result SaidLine Why)) (text : List ℕ)
+pub record KeepsLines (kept : List ℕ) (key : Option (List ℕ)) (names : LineNames) (before : KeptBefore) (taking : Taking) (read : List (Result SaidLine Why)) (text : List ℕ)
     : Type 0 where
   pub places : List ℕ
   pub all : IsPermutation kept places
@@ -118,7 +118,7 @@ pub record KeepsLines (kept : List ℕ) (key : Option (List ℕ)) (names : LineN
   pub ends : EndsALine text
 
 -- the lines that a watch keeps, all of them
-abbrev pub Keeps : Option (List ℕ) → LineNames → KeptNumbers → Taking → List (Result SaidLine Why) → List ℕ → Type 0
+abbrev pub Keeps : Option (List ℕ) → LineNames → KeptBefore → Taking → List (Result SaidLine Why) → List ℕ → Type 0
 Keeps key names before taking read text = KeepsLines (places_kept taking.watch) key names before taking read text
 
 -- A watch has stopped: what it has told of these bytes, and by what it goes on from them, which a text keeps.
@@ -128,4 +128,4 @@ pub record IsStopped (asked : AuditArguments) (start : Start) (bytes text : List
   pub margin : taking.watch.margin ≡ asked.opts.margin
   pub early : followed.counts.early ≡ taking.counts.early
   pub taken : AreTaken start taking (lines_asked asked bytes) (start.told ++ told_in_all (lines_asked asked bytes) followed.windows)
-  pub keeps : Keeps (option_map string_bytes asked.key) (names_asked asked bytes) start.numbers taking (lines_asked asked bytes) kept
+  pub keeps : Keeps (option_map string_bytes asked.key) (names_asked asked bytes) start.kept taking (lines_asked asked bytes) kept

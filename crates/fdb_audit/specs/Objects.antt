@@ -16,7 +16,7 @@ use Rattle.fdb_lines.specs.Lines.{line_at}
 use Rattle.fdb_lines.specs.Text.{fault_name}
 use Rattle.fdb_log_reader.specs.Columns.{text_at}
 use Rattle.fdb_audit.specs.Figures.{Figure, figure, figures_text, step_figures}
-use Rattle.fdb_audit.specs.Text.{Beside, PrintedLog, client_or, name_or_number, number_at}
+use Rattle.fdb_audit.specs.Text.{Beside, PrintedLog, client_or, name_or_number, printed_line}
 
 -- a text that is JSON by itself, or null
 abbrev pub text_or_null : Option (List ℕ) → List ℕ
@@ -53,7 +53,7 @@ members_field (it ∷ more) place =
 abbrev pub line_object : PrintedLog → ℕ → List ℕ
 line_object it place =
     let this = line_at it.lines place in
-    codes "{\"line\":" ++ decimal (number_at it.numbers place) ++ client_or it.names (codes ",\"client\":") [] this.client ++ call_field it.names this.call
+    codes "{\"line\":" ++ decimal (printed_line it.own place) ++ client_or it.names (codes ",\"client\":") [] this.client ++ call_field it.names this.call
     ++ times_field this.times ++ members_field it.beside place ++ codes "}"
 
 -- ---- a fault
@@ -65,7 +65,7 @@ means_field it (Learnt teller) = codes ",\"means\":\"learnt\",\"teller\":" ++ li
 
 abbrev pub by_field : PrintedLog → Option Witness → List ℕ
 by_field it None = codes ",\"by\":null"
-by_field it (Some by) = codes ",\"by\":" ++ line_object it by.line ++ means_field it by.means
+by_field it (Some by) = codes ",\"by\":" ++ line_object it by.place ++ means_field it by.means
 
 abbrev pub reason_field : PrintedLog → Reason → List ℕ
 reason_field it (Known version by) = codes ",\"reason\":\"known\",\"known\":" ++ decimal version ++ by_field it by
@@ -78,11 +78,11 @@ reason_field it Undrawn = codes ",\"reason\":\"undrawn\""
 -- how late a call was, and the line that first let be known what made it late
 abbrev pub late_field : PrintedLog → Option Late → List ℕ
 late_field it None = []
-late_field it (Some late) = codes ",\"late\":" ++ decimal late.by ++ codes ",\"first\":" ++ line_object it late.line
+late_field it (Some late) = codes ",\"late\":" ++ decimal late.by ++ codes ",\"first\":" ++ line_object it late.place
 
 abbrev pub fault_object : PrintedLog → Finding → List ℕ
 fault_object it finding =
-    codes "{\"fault\":\"" ++ fault_name finding.found.fault ++ codes "\",\"at\":" ++ line_object it finding.found.line
+    codes "{\"fault\":\"" ++ fault_name finding.found.fault ++ codes "\",\"at\":" ++ line_object it finding.found.place
     ++ late_field it finding.late ++ reason_field it finding.reason ++ codes "}"
 
 -- ---- an order
@@ -94,7 +94,7 @@ step_field it (Some place) = codes ",\"at\":" ++ line_object it place
 
 abbrev pub step_object : PrintedLog → List ℕ → ℕ → OrderStep → List ℕ
 step_object it key number step =
-    codes "{" ++ figures_text true (step_figures number step.effect) ++ step_field it step.line ++ key ++ codes ",\"shared\":"
+    codes "{" ++ figures_text true (step_figures number step.effect) ++ step_field it step.place ++ key ++ codes ",\"shared\":"
     ++ truth step.shared ++ codes "}"
 
 -- ---- how much was judged, and by which arguments

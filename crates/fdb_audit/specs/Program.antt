@@ -99,8 +99,8 @@ reading_asked asked bytes = reading_with (key_asked asked) (shown_asked asked) (
 abbrev pub HasRead : AuditArguments → LogReader → List ℕ → Type 0
 HasRead asked reader bytes = (text : List ℕ) → reads_on reader text ≡ reading_asked asked (bytes ++ text)
 
--- what an audit prints of these bytes, and what it tells of: the first fault, by the number of its line, its own where lines
--- have such
+-- what an audit prints of these bytes, and what it tells of: the first fault, by its line: its own number, where lines have
+-- such
 abbrev pub Prints : AuditArguments → List ℕ → List ℕ → Option LogFault → Type 0
 Prints asked bytes text found =
     (reading : Reading) × (reading_asked asked bytes ≡ Ok reading)

@@ -6,7 +6,7 @@ use Rattle.fdb_log_reader.specs.declared.error.Why.{Why}
 use Rattle.fdb_log_reader.specs.ReadLine.{SaidLine}
 use Rattle.fdb_audit.specs.Figures.{Figure, figure, figures_text}
 use Rattle.fdb_audit.specs.Following.{AreCountedOn, Counted, Start, counted_figures, left_out}
-use Rattle.fdb_audit.specs.GoingOn.{GoesOn}
+use Rattle.fdb_audit.specs.GoingOn.{GoesOnBy}
 use Rattle.fdb_audit.specs.Text.{line}
 use Rattle.fdb_audit.specs.Watched.{AskForTheSame, HasFollowed, IsFollowed, lines_asked}
 use Rattle.fdb_audit.specs.declared.arguments.AuditArguments.{AuditArguments}
@@ -66,7 +66,7 @@ abbrev pub ArePieces : AuditArguments → (Start → (bytes text : List ℕ) →
 ArePieces asked Last zero start bytes text = Last start bytes text
 ArePieces asked Last (suc times) start bytes text =
     (piece rest first more told kept : List ℕ) × (bytes ≡ piece ++ rest) × (text ≡ first ++ more)
-    × (next : Start) × GoesOn asked start piece told kept next × IsToldWith asked start piece told first
+    × (next : Start) × GoesOnBy asked start piece told kept next × IsToldWith asked start piece told first
     × ArePieces asked Last times next (kept ++ rest) more
 
 -- This is printed of bytes that have been read, of which a watch has not gone on.
@@ -81,7 +81,7 @@ HasPrinted asked start log bytes text =
     (log.reporter.objects ≡ asked.wanted.json) × AskForTheSame asked log.asked
     × (times : ℕ) × ArePieces asked (PrintedSoFar asked log.follower) times start bytes text
 
--- And this at their end, where the last line that is refused is this one, and the last that came early has this number.
+-- And this at their end, where the last line that is refused is this one, and the last that came early is that.
 pub record PrintedAll (asked : AuditArguments) (ends : Bool) (found : Option LogFault) (refused : Option ReadError) (last_early : Option ℕ) (start : Start) (bytes text : List ℕ) : Type 0 where
   pub told : List ℕ
   pub followed : IsFollowed asked start ends bytes told found last_early

@@ -18,17 +18,17 @@ use Rattle.fdb_audit.specs.declared.told_faults.ToldFaults.{ToldFaults}
 use Rattle.fdb_audit.specs.Tallied.{HasKinds, HasTexts, HasTextsIn}
 use Rattle.fdb_audit.specs.ToldFaults.{ToldFault, client_of}
 use Rattle.fdb_audit.specs.Warned.{AreEarly, IsSaid}
-use Rattle.fdb_audit.specs.Following.{Before, Counted, KeptNumbers, Start, early_at, keys_taken, last_refused, lines_since, lines_taken, taken, taken_above}
+use Rattle.fdb_audit.specs.Following.{Before, Counted, KeptBefore, Start, early_at, keys_taken, last_refused, lines_since, lines_taken, taken, taken_above}
 use Rattle.fdb_audit.specs.Clocks.{ahead_end, ahead_in, believed_end, newest_end, others_end, out_of_reach}
 use Rattle.fdb_audit.specs.declared.clocks.Clocks.{Clocks}
 use Rattle.fdb_audit.specs.declared.clocks.Leader.{Leader}
 
--- the numbers of the lines that were kept of others and come first, and how many more there were
-abbrev pub kept_by : Numbering → KeptNumbers
-kept_by numbering = record { numbers = numbering.kept.items; more = numbering.more }
+-- which lines were kept of others and come first, and how many more there were
+abbrev pub kept_by : Numbering → KeptBefore
+kept_by numbering = record { lines = numbering.kept.items; more = numbering.more }
 
--- how many lines were taken above each that was refused; and each line has a number, and the next one too
-pub record AreNumbered (kept : KeptNumbers) (taking : Taking) (read : List (Result SaidLine Why)) : Type 0 where
+-- how many lines were taken above each that was refused; and each line can be counted, and the next one too
+pub record AreNumbered (kept : KeptBefore) (taking : Taking) (read : List (Result SaidLine Why)) : Type 0 where
   pub above : taking.numbering.above.items ≡ taken_above 0 read
   pub front : kept_by taking.numbering ≡ kept
   pub few : length read + kept.more + 1 < 2 ^ 64
@@ -82,17 +82,17 @@ pub record HasSettled (start : Start) (taking : Taking) (lines : List Line) : Ty
 -- been told is counted as early.
 pub record AreTaken (start : Start) (taking : Taking) (read : List (Result SaidLine Why)) (told : List Found) : Type 0 where
   pub seen : HasSeenByKey taking.watch (lines_taken read) (keys_taken read)
-  pub numbered : AreNumbered start.numbers taking read
+  pub numbered : AreNumbered start.kept taking read
   pub count : taking.taken ≡ length (taken read)
-  pub refused : taking.refused ≡ last_refused (start.numbers.more + 1) None read
+  pub refused : taking.refused ≡ last_refused (start.kept.more + 1) None read
   pub counted : AreCounted taking.counts (lines_since start read)
   pub few : start.lines ≤ length read
-  pub before : start.early ≡ 0 → All (λ (found : Found). found.line < start.lines) start.told
+  pub before : start.early ≡ 0 → All (λ (found : Found). found.place < start.lines) start.told
   pub from : start.from ≤ taking.watch.from
   pub late : early_at start.from (lines_since start read) ≤ taking.counts.early
   pub settled : HasSettled start taking (lines_taken read)
   pub reach : start.anew ≡ true → IsInReach start.behind taking (lines_taken read)
-  pub came : AreEarly start.numbers.more read taking.counts.early taking.counts.judged taking.counts.last_early
+  pub came : AreEarly start.kept.more read taking.counts.early taking.counts.judged taking.counts.last_early
   pub few_ahead : taking.counts.ahead ≤ length read
   pub once : start.early ≡ 0 → taking.counts.early ≡ 0 → HasTold taking.watch (lines_taken read) (keys_taken read) told
 

@@ -32,12 +32,12 @@ pub record Beside : Type 0 where
   pub texts : List (List ℕ)
   pub numbers : List (Option ℕ)
 
--- the lines, the names of their clients by number, the numbers of the lines by place, and the members that are printed
+-- the lines; the names of their clients, by number; what each line is told as, by place; and the members that are printed
 -- beside the calls
 pub record PrintedLog : Type 0 where
   pub lines : List Line
   pub names : List (List ℕ)
-  pub numbers : List ℕ
+  pub own : List ℕ
   pub beside : List Beside
 
 -- ---- a line, as a sentence names it
@@ -77,17 +77,17 @@ abbrev pub whose_text : List (List ℕ) → Option ℕ → List ℕ
 whose_text names None = []
 whose_text names (Some client) = codes "client " ++ name_or_number client (slice_get names client) ++ codes ", "
 
--- lines are printed by their numbers, counted from 1: that of a place, or where it has none the place, counted from 1
-abbrev pub number_at : List ℕ → ℕ → ℕ
-number_at numbers place = unwrap_or (slice_get numbers place) (place + 1)
+-- what the line at a place is told as: its own number, or else its place counted from 1
+abbrev pub printed_line : List ℕ → ℕ → ℕ
+printed_line own place = unwrap_or (slice_get own place) (place + 1)
 
-abbrev pub number_text : List ℕ → ℕ → List ℕ
-number_text numbers place = codes "line " ++ decimal (number_at numbers place)
+abbrev pub line_text : List ℕ → ℕ → List ℕ
+line_text own place = codes "line " ++ decimal (printed_line own place)
 
 abbrev pub mention : PrintedLog → ℕ → List ℕ
 mention it place =
     let this = line_at it.lines place in
-    number_text it.numbers place ++ codes " (" ++ whose_text it.names this.client ++ call_text this.call
+    line_text it.own place ++ codes " (" ++ whose_text it.names this.client ++ call_text this.call
     ++ members_text it.beside place ++ codes ")"
 
 -- ---- why a fault stands, in one sentence
@@ -98,25 +98,25 @@ since None moment = 0
 since (Some end) moment = moment - end
 
 abbrev pub wait_text : List ℕ → ℕ → ℕ → List ℕ
-wait_text numbers place wait =
-    codes " had ended " ++ decimal wait ++ codes " before " ++ number_text numbers place ++ codes " began"
+wait_text own place wait =
+    codes " had ended " ++ decimal wait ++ codes " before " ++ line_text own place ++ codes " began"
 
 -- that a line had ended before the call at a place began, and how long
 abbrev pub ended_text : PrintedLog → ℕ → ℕ → List ℕ
 ended_text it place other =
     mention it other
-    ++ wait_text it.numbers place (since (ended (line_at it.lines other)) (began (line_at it.lines place)))
+    ++ wait_text it.own place (since (ended (line_at it.lines other)) (began (line_at it.lines place)))
 
 -- how the call at a place knew of a line
 abbrev pub means_text : PrintedLog → ℕ → ℕ → Means → List ℕ
 means_text it place other Ended = ended_text it place other
 means_text it place other Own = mention it other ++ codes " is an earlier call of its client"
-means_text it place other (Learnt teller) = number_text it.numbers teller ++ codes " had learnt of " ++ mention it other
+means_text it place other (Learnt teller) = line_text it.own teller ++ codes " had learnt of " ++ mention it other
 
 -- how the call at a place knew of a version
 abbrev pub known_text : PrintedLog → ℕ → ℕ → Option Witness → List ℕ
 known_text it place version None = codes "all began with " ++ decimal version
-known_text it place version (Some by) = means_text it place by.line by.means
+known_text it place version (Some by) = means_text it place by.place by.means
 
 -- what the caller of a line did: it read, drew or reported its version
 abbrev pub deed_text : Operation → List ℕ
@@ -129,7 +129,7 @@ deed_text (Learn client) = codes " learnt of " ++ decimal client
 -- whether a version was known by the line at a place
 abbrev pub is_by : ℕ → Option Witness → Bool
 is_by place None = false
-is_by place (Some by) = by.line == place
+is_by place (Some by) = by.place == place
 
 abbrev pub had_ended : Means → Bool
 had_ended Ended = true
@@ -139,15 +139,15 @@ had_ended (Learnt teller) = false
 -- whether a line is told by its end as how a version was known
 abbrev pub is_told : ℕ → Option Witness → Bool
 is_told place None = false
-is_told place (Some by) = had_ended by.means && by.line == place
+is_told place (Some by) = had_ended by.means && by.place == place
 
 -- How late a call was, and after which line: the first that let be known what made it late. Nothing where no such line
 -- had ended before, or where that line is told anyhow.
 abbrev pub late_text : PrintedLog → ℕ → Option Late → Option Witness → List ℕ
 late_text it place None by = codes ", but "
 late_text it place (Some late) by =
-    cond (nat_lt 0 late.by && not (is_told late.line by))
-    (codes ", " ++ decimal late.by ++ codes " too late: " ++ ended_text it place late.line ++ codes ", and ")
+    cond (nat_lt 0 late.by && not (is_told late.place by))
+    (codes ", " ++ decimal late.by ++ codes " too late: " ++ ended_text it place late.place ++ codes ", and ")
     (codes ", but ")
 
 -- a clause of plain English, behind what the caller of the line at a place did
@@ -172,18 +172,18 @@ sentence_text it place late reason =
 
 -- ---- a fault, on a line of its own
 
--- a fault, by the number of its line
+-- a fault, by its line
 abbrev pub fault_of : List ℕ → Found → LogFault
-fault_of numbers found = record { fault = found.fault; number = number_at numbers found.line }
+fault_of own found = record { fault = found.fault; line = printed_line own found.place }
 
 abbrev pub fault_text : LogFault → List ℕ
-fault_text it = fault_name it.fault ++ codes " " ++ decimal it.number
+fault_text it = fault_name it.fault ++ codes " " ++ decimal it.line
 
 -- a fault by its name and line, and why it stands
 abbrev pub finding_text : PrintedLog → Finding → List ℕ
 finding_text it finding =
-    codes "audit fault: " ++ fault_text (fault_of it.numbers finding.found) ++ codes ": "
-    ++ sentence_text it finding.found.line finding.late finding.reason
+    codes "audit fault: " ++ fault_text (fault_of it.own finding.found) ++ codes ": "
+    ++ sentence_text it finding.found.place finding.late finding.reason
 
 -- ---- an order
 
@@ -191,7 +191,7 @@ finding_text it finding =
 abbrev pub step_owner : PrintedLog → List ℕ → Option ℕ → List ℕ
 step_owner it key None = codes " others" ++ key
 step_owner it key (Some place) =
-    codes " " ++ number_text it.numbers place ++ client_or it.names (codes " client ") [] (line_at it.lines place).client
+    codes " " ++ line_text it.own place ++ client_or it.names (codes " client ") [] (line_at it.lines place).client
     ++ members_text it.beside place
 
 abbrev pub shared_text : Bool → List ℕ
@@ -200,4 +200,4 @@ shared_text false = []
 
 abbrev pub step_line : PrintedLog → List ℕ → ℕ → OrderStep → List ℕ
 step_line it key number step =
-    figures_text false (step_figures number step.effect) ++ step_owner it key step.line ++ shared_text step.shared
+    figures_text false (step_figures number step.effect) ++ step_owner it key step.place ++ shared_text step.shared

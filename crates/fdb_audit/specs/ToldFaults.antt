@@ -25,8 +25,8 @@ client_text names client = option_map (λ client. name_or_number client (slice_g
 abbrev pub told_at : List Line → List (List ℕ) → List Beside → Found → ToldFault
 told_at lines names beside found = record {
   kind = found.fault;
-  client = client_text names (line_at lines found.line).client;
-  texts = map (λ (it : Beside). text_at it.texts it.numbers found.line) beside;
+  client = client_text names (line_at lines found.place).client;
+  texts = map (λ (it : Beside). text_at it.texts it.numbers found.place) beside;
 }
 
 -- by which texts faults are counted: by their clients
@@ -94,7 +94,7 @@ AreMostByText json told place (member ∷ members) text =
 
 -- The totals of the faults that were told: how many there are, in all and of each kind; and the groups with most, by their clients,
 -- and by what was printed of these members.
-pub record AreTotals (json : Bool) (members : List (List ℕ)) (told : List ToldFault) (text : List ℕ) : Type 0 where
+pub record AreTotalsTold (json : Bool) (members : List (List ℕ)) (told : List ToldFault) (text : List ℕ) : Type 0 where
   pub clients : List ℕ
   pub texts : List ℕ
   pub by_client : AreMost json (by_text client_of told).more (λ json. client_name json (by_text client_of told).texts) (by_text client_of told).owned clients

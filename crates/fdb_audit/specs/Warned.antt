@@ -46,8 +46,8 @@ abbrev pub caused_text : ReadError → List ℕ
 caused_text error = error_text error ++ codes ": " ++ cause_text error.why
 
 abbrev pub kept_refusal : ℕ → Option Why → List ℕ
-kept_refusal number (Some why) = caused_text (record { line = number; why = why })
-kept_refusal number None = codes "NotKept " ++ decimal number ++ codes ": no line as it is kept"
+kept_refusal line (Some why) = caused_text (record { line = line; why = why })
+kept_refusal line None = codes "NotKept " ++ decimal line ++ codes ": no line as it is kept"
 
 abbrev pub kept_refused_text : KeptRefused → List ℕ
 kept_refused_text refused = codes "kept lines refused: " ++ kept_refusal refused.line refused.why
@@ -62,7 +62,7 @@ kept_fault_text fault = kept_refused_text fault.refused ++ kept_in (string_bytes
 
 abbrev pub refused_text : LogsRefused → List ℕ
 refused_text (Log error) = codes "logs refused: " ++ caused_text error
-refused_text (Early number) = codes "logs refused: Early " ++ decimal number ++ codes ": it began before what had been settled"
+refused_text (Early line) = codes "logs refused: Early " ++ decimal line ++ codes ": it began before what had been settled"
 refused_text (Kept fault) = kept_fault_text fault
 
 -- ---- what is said of lines
@@ -81,11 +81,11 @@ warning_line (Ahead it) =
     counted (codes "fdb_audit: a clock is ahead: above line ") it.line (codes " a line of another client ended ") ++ counted [] it.by (codes " after it; ")
     ++ counted [] it.count (line (codes " so far: it is not believed"))
 
--- the lines that are refused, each by its number and why, where the first has a number
+-- the lines that are refused, and why, where the first of all is this one
 abbrev pub all_refused : ℕ → List (Result SaidLine Why) → List ReadError
-all_refused number [] = []
-all_refused number (Ok said ∷ read) = all_refused (number + 1) read
-all_refused number (Err why ∷ read) = record { line = number; why = why } ∷ all_refused (number + 1) read
+all_refused line [] = []
+all_refused line (Ok said ∷ read) = all_refused (line + 1) read
+all_refused line (Err why ∷ read) = record { line = line; why = why } ∷ all_refused (line + 1) read
 
 -- of what is said of a line: why it is refused; or that it came early, or is ahead
 abbrev pub as_refused : Warning → Option ReadError
@@ -103,21 +103,21 @@ as_ahead (Refused error) = None
 as_ahead (Of_early it) = None
 as_ahead (Ahead it) = Some it
 
--- a line that was taken has this number, counted from 1, where so many more were read
-abbrev pub IsNumberOfTaken : ℕ → List (Result SaidLine Why) → ℕ → Type 0
-IsNumberOfTaken more read number = (place : ℕ) × (said : SaidLine) × (slice_get read place ≡ Some (Ok said)) × (number ≡ more + place + 1)
+-- this line, counted from 1, was taken, where so many more were read
+abbrev pub IsTakenLine : ℕ → List (Result SaidLine Why) → ℕ → Type 0
+IsTakenLine more read line = (place : ℕ) × (said : SaidLine) × (slice_get read place ≡ Some (Ok said)) × (line ≡ more + place + 1)
 
--- How many lines came early, how many of these were judged, and the number of the last.
+-- How many lines came early, how many of these were judged, and the last.
 pub record AreEarly (more : ℕ) (read : List (Result SaidLine Why)) (early judged : ℕ) (last : Option ℕ) : Type 0 where
   pub few : judged ≤ early
   pub most : early ≤ length read
   pub some : is_some last ≡ nat_lt 0 early
-  pub taken : IfSome last (IsNumberOfTaken more read)
+  pub taken : IfSome last (IsTakenLine more read)
 
--- Of so many lines that were counted the first, second, fourth and so on are told, each by its number, and by more than 0.
+-- Of so many lines that were counted the first, second, fourth and so on are told, each by more than 0.
 pub record AreDoubled (more : ℕ) (read : List (Result SaidLine Why)) (count : ℕ) (told : List CountedLine) : Type 0 where
   pub counts : map (λ (it : CountedLine). it.count) told ≡ filter is_power_of_two (range_with_len 1 count)
-  pub taken : All (λ (it : CountedLine). IsNumberOfTaken more read it.line × (0 < it.by)) told
+  pub taken : All (λ (it : CountedLine). IsTakenLine more read it.line × (0 < it.by)) told
 
 -- What is said of lines that were read, of which so many came early, and so many were ahead: of each that is refused, in their order,
 -- and of the first, second, fourth and so on that came early, or was ahead.
@@ -132,4 +132,4 @@ IsWarned more read early ahead text = (warnings : List Warning) × AreWarnings m
 
 -- of a log that is followed on it is said of the lines that came since
 abbrev pub IsSaid : Start → List (Result SaidLine Why) → (early ahead : ℕ) → List ℕ → Type 0
-IsSaid start read early ahead text = IsWarned (start.numbers.more + start.lines) (drop start.lines read) early ahead text
+IsSaid start read early ahead text = IsWarned (start.kept.more + start.lines) (drop start.lines read) early ahead text

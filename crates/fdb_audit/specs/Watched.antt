@@ -47,7 +47,7 @@ pub record IsTellerOf (asked : AuditArguments) (start : Start) (teller : Teller)
   pub wanted : teller.wanted ≡ asked.wanted
   pub margin : teller.margin ≡ asked.opts.margin
   pub by_key : is_some teller.key ≡ is_some asked.key
-  pub first : teller.first ≡ option_or start.before.first (first_told start.numbers read windows)
+  pub first : teller.first ≡ option_or start.before.first (first_told start.kept read windows)
   pub totals : HasTotals (members_asked asked) teller (start.before.told ++ faults_told read windows)
 
 -- These lines were read, and this text has been told of them, but for what is told next.
@@ -57,7 +57,7 @@ pub record IsTelling (asked : AuditArguments) (start : Start) (follower : Follow
   pub windows : List Window
   pub taken : AreTaken start follower.taking read (start.told ++ told_in_all read windows)
   pub margin : follower.taking.watch.margin ≡ asked.opts.margin
-  pub tells : AreWindows start.numbers asked.opts.margin asked.wanted read (line_names follower.reader).clients windows (told ++ string_bytes follower.teller.text)
+  pub tells : AreWindows start.kept asked.opts.margin asked.wanted read (line_names follower.reader).clients windows (told ++ string_bytes follower.teller.text)
   pub are : IsTellerOf asked start follower.teller read windows
 
 -- These bytes have been read, whatever comes after them, and this text has been told of their lines.
@@ -77,7 +77,7 @@ pub record HasSaid (asked : AuditArguments) (start : Start) (follower : Follower
   pub taken : AreTaken start follower.taking read told
   pub said : HasWarned start follower.taking read warned
 
--- At its end this was said of all lines, where the last that came early has this number, if one did.
+-- At its end this was said of all lines, and this is the last that came early, if one did.
 abbrev pub HasSaidAll : AuditArguments → Start → List ℕ → Option ℕ → List ℕ → Type 0
 HasSaidAll asked start bytes last_early text =
     (early ahead : ℕ) × (last : Option ℕ) × IsSaid start (lines_asked asked bytes) early ahead text
@@ -90,18 +90,18 @@ IsComplete true margin read told = IsPermutation told (audited margin (lines_tak
 IsComplete false margin read told = (to : ℕ) × IsPermutation told (audited_to margin to (lines_taken read) (keys_taken read))
 
 -- What is told of all lines of a text, window by window, and at the end how much was read, with what an earlier piece has counted;
--- the first fault, if one was told, and the number of the last line that came early, if one did. Where none came early, it is whole; from its beginning no more came early
+-- the first fault, if one was told, and the last line that came early, if one did. Where none came early, it is whole; from its beginning no more came early
 -- than began out of reach, and so many were ahead as are of what was known; and no fewer came early than began before that up to
 -- which all had been told.
 pub record IsFollowed (asked : AuditArguments) (start : Start) (ends : Bool) (bytes text : List ℕ) (found : Option LogFault) (last_early : Option ℕ) : Type 0 where
   pub windows : List Window
   pub told : List ℕ
-  pub before : start.early ≡ 0 → All (λ (found : Found). found.line < start.lines) start.told
+  pub before : start.early ≡ 0 → All (λ (found : Found). found.place < start.lines) start.told
   pub counts : Counted
   pub end : List ℕ
   pub text_is : text ≡ told ++ end
-  pub tells : AreWindows start.numbers asked.opts.margin asked.wanted (lines_asked asked bytes) (names_asked asked bytes).clients windows told
-  pub first : found ≡ option_or start.before.first (first_told start.numbers (lines_asked asked bytes) windows)
+  pub tells : AreWindows start.kept asked.opts.margin asked.wanted (lines_asked asked bytes) (names_asked asked bytes).clients windows told
+  pub first : found ≡ option_or start.before.first (first_told start.kept (lines_asked asked bytes) windows)
   pub counted : IsCounted start (lines_asked asked bytes) counts
   pub end_is : IsEnd (not (is_some found) && not asked.wanted.json) asked.wanted.totals asked.wanted.json (counted_on start.before.counts counts)
       (followed_by asked start.behind) (start.before.told ++ faults_told (lines_asked asked bytes) windows) end
@@ -109,7 +109,7 @@ pub record IsFollowed (asked : AuditArguments) (start : Start) (ends : Bool) (by
   pub early : start.anew ≡ true → counts.early ≤ out_of_reach start.behind (lines_taken (lines_asked asked bytes))
   pub ahead : start.anew ≡ true → counts.ahead ≡ ahead_in start.behind (lines_taken (lines_asked asked bytes))
   pub last : Option ℕ
-  pub came : AreEarly start.numbers.more (lines_asked asked bytes) counts.early counts.judged last
+  pub came : AreEarly start.kept.more (lines_asked asked bytes) counts.early counts.judged last
   pub last_is : last_early ≡ option_or last start.before.last_early
   pub late : early_at start.from (lines_since start (lines_asked asked bytes)) ≤ counts.early
 
@@ -118,12 +118,12 @@ pub record HasToldAll (asked : AuditArguments) (start : Start) (ends : Bool) (fo
   pub behind : follower.behind ≡ start.behind
   pub carried : IsCarried start.before follower.before
   pub windows : List Window
-  pub tells : AreWindows start.numbers asked.opts.margin asked.wanted read (line_names follower.reader).clients windows (told ++ string_bytes follower.teller.text)
+  pub tells : AreWindows start.kept asked.opts.margin asked.wanted read (line_names follower.reader).clients windows (told ++ string_bytes follower.teller.text)
   pub are : IsTellerOf asked start follower.teller read windows
-  pub before : start.early ≡ 0 → All (λ (found : Found). found.line < start.lines) start.told
+  pub before : start.early ≡ 0 → All (λ (found : Found). found.place < start.lines) start.told
   pub counted : IsCounted start read (counted_of follower.taking)
   pub whole : start.early ≡ 0 → follower.taking.counts.early ≡ 0 → IsComplete ends asked.opts.margin read (start.told ++ told_in_all read windows)
   pub early : start.anew ≡ true → follower.taking.counts.early ≤ out_of_reach start.behind (lines_taken read)
   pub ahead : start.anew ≡ true → follower.taking.counts.ahead ≡ ahead_in start.behind (lines_taken read)
-  pub came : AreEarly start.numbers.more read follower.taking.counts.early follower.taking.counts.judged follower.taking.counts.last_early
+  pub came : AreEarly start.kept.more read follower.taking.counts.early follower.taking.counts.judged follower.taking.counts.last_early
   pub late : early_at start.from (lines_since start read) ≤ follower.taking.counts.early

@@ -1,4 +1,4 @@
--- What a printer shows, and what is asked of a log. (this product's own)
+-- What a printer shows, and what is judged. (this product's own)
 pub mod Clocks
 pub mod Followed
 pub mod Numbering
@@ -18,7 +18,7 @@ use Rattle.fdb_audit.specs.Figures.{Figure}
 use Rattle.fdb_audit.specs.Groups.{by_client, by_member, Grouping}
 use Rattle.fdb_audit.specs.Text.{Beside, PrintedLog}
 use Rattle.fdb_audit.specs.Judged.{orders_text, steps_text}
-use Rattle.fdb_audit.specs.declared.printer.Asked.{Asked}
+use Rattle.fdb_audit.specs.declared.printer.Subject.{Subject}
 use Rattle.fdb_audit.specs.declared.members.Column.{Column}
 use Rattle.fdb_audit.specs.declared.members.MemberTexts.{MemberTexts}
 use Rattle.fdb_audit.specs.declared.printer.ClientNames.{ClientNames}
@@ -51,21 +51,21 @@ abbrev pub shown_in : Printer → PrintedLog
 shown_in printer = record {
   lines = (lines_of printer.log.now).lines;
   names = names_in printer.names;
-  numbers = printer.numbers.now;
+  own = printer.own.now;
   beside = map beside_of printer.beside.now;
 }
 
--- what is asked of a log
+-- what is judged: a log, with its keys and options
 
-abbrev pub log_in : Asked → Lines
-log_in asked = lines_of asked.printer.log.now
+abbrev pub log_in : Subject → Lines
+log_in subject = lines_of subject.printer.log.now
 
-abbrev pub keys_in : Asked → Option (List (Option ℕ))
-keys_in asked = option_copied asked.keys
+abbrev pub keys_in : Subject → Option (List (Option ℕ))
+keys_in subject = option_copied subject.keys
 
 -- where lines have keys, each has its own
-abbrev pub HasKeys : Asked → Type 0
-HasKeys asked = HaveKeys (log_in asked) (keys_in asked)
+abbrev pub HasKeys : Subject → Type 0
+HasKeys subject = HaveKeys (log_in subject) (keys_in subject)
 
 abbrev pub order_text : Bool → PrintedLog → Order → List ℕ
 order_text json it (One steps) = steps_text json it [] 0 steps.items

@@ -78,7 +78,7 @@ impl Follower {
         Ok(follower)
     }
 
-    /// The same, where lines with numbers of their own come first.
+    /// The same, where lines that were kept of others come first.
     fn numbered(
         alloc: Global,
         asked: &AuditArguments,
@@ -133,7 +133,7 @@ impl Follower {
             Ok(read) => read.said,
             Err(refused) => return Ok(Err(refused)),
         };
-        let numbering = Numbering::new(alloc, kept.numbers, kept.more);
+        let numbering = Numbering::new(alloc, kept.lines, kept.more);
         let mut follower = Follower::numbered(alloc, asked, behind, numbering)?;
         if !is_made_by(alloc, &follower.made_by, text)? {
             return Ok(Err(KeptRefused { line: 1, why: None }));
@@ -209,13 +209,13 @@ impl Follower {
             (self.new.taking.watch.from ≡ max self.old.taking.watch.from settled) }
         ensures read { OnOk result ((asked : AuditArguments) → (behind : ℕ) → (kept : KeptSaid)
             → kept.told ≡ told → kept.settled ≡ settled → EndsALine bytes.now
-            → IsUnread asked (start_with behind kept.numbers) self.old
+            → IsUnread asked (start_with behind kept.front) self.old
             → let start = start_from behind asked.opts.margin kept (lines_asked asked bytes.now) in
             HasFollowed asked start self.new bytes.now []
             × HasSaid asked start self.new bytes.now []) }
         ensures none_told { OnOk result ((asked : AuditArguments) → (behind : ℕ)
             → (kept : KeptSaid) → kept.told ≡ told → kept.settled ≡ settled → EndsALine bytes.now
-            → IsUnread asked (start_with behind kept.numbers) self.old
+            → IsUnread asked (start_with behind kept.front) self.old
             → let start = start_from behind asked.opts.margin kept (lines_asked asked bytes.now) in
             (has : HasFollowed asked start self.new bytes.now []) × (has.telling.windows ≡ [])) }
     {
@@ -269,7 +269,7 @@ impl Follower {
     pub fn kept(&self, beside: &str) -> Result<Result<String, KeptRefused>, AllocError>
         ensures { IfOk result (λ it. IfOk it (λ text. (asked : AuditArguments) → (start : Start)
             → (bytes told : List ℕ) → (has : HasFollowed asked start self.now bytes told)
-            → Keeps (option_map string_bytes asked.key) (line_names self.now.reader) start.numbers
+            → Keeps (option_map string_bytes asked.key) (line_names self.now.reader) start.kept
             self.now.taking has.read (string_bytes text))) }
     {
         keys_stay_in_one_member();
@@ -282,7 +282,7 @@ impl Follower {
             → (read : List (Result SaidLine Why)) → (told : List Found)
             → AreTaken start self.now.taking read told
             → let names = line_names self.now.reader in
-            Keeps (member_in names) names start.numbers self.now.taking read (string_bytes text))) }
+            Keeps (member_in names) names start.kept self.now.taking read (string_bytes text))) }
     {
         let kept = kept_in_order(self.alloc, &self.taking, None)?;
         self.read_back_of(&kept, beside)
@@ -300,7 +300,7 @@ impl Follower {
             → AreTaken start self.now.taking read told
             → All (IsKept (lines_taken read) (keys_taken read)) kept.now
             → let names = line_names self.now.reader in
-            KeepsLines (map number_of kept.now) (member_in names) names start.numbers
+            KeepsLines (map number_of kept.now) (member_in names) names start.kept
             self.now.taking read (string_bytes text))) }
     {
         let key = self.teller.key.as_deref();

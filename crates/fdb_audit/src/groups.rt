@@ -214,7 +214,7 @@ impl By<'_> {
     {
         let mut tally = Tally::new(alloc);
         for it in found {
-            tally.add(self.owner(it.line), it.fault)?;
+            tally.add(self.owner(it.place), it.fault)?;
         }
         Ok(tally)
     }

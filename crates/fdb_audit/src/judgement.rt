@@ -18,7 +18,7 @@ ghost use Rattle.fdb_audit.specs.private.{keys_in, log_in, shown_in, HasKeys};
 
 use crate::groups::push_totals;
 use crate::members::members_beside;
-use crate::printer::{Asked, ClientNames, Printer};
+use crate::printer::{ClientNames, Printer, Subject};
 use crate::summary::{explained, passed, push_total_line};
 use fdb_lines::{
     AuditOpts, Finding, Found, Log, Summary, findings, first_finding, first_finding_in_threads,
@@ -70,64 +70,64 @@ pub fn judge<'x>(
     let printer = Printer {
         log,
         names: ClientNames::Texts(names),
-        numbers: &[],
+        own: &[],
         beside: &[],
     };
-    let asked = Asked {
+    let subject = Subject {
         printer,
         keys: None,
         opts,
     };
-    judge_asked(alloc, asked, wanted)
+    judge_subject(alloc, subject, wanted)
 }
 
-/// Audits what is asked.
-pub(crate) fn judge_asked(
+/// Audits a log.
+pub(crate) fn judge_subject(
     alloc: Global,
-    asked: Asked<'_>,
+    subject: Subject<'_>,
     wanted: Wanted,
 ) -> Result<Judgement, AllocError>
-    requires { HasKeys asked }
-    ensures { IfOk result (λ found. IsTextOf (log_in asked.entry) (shown_in asked.entry.printer)
-        (keys_in asked.entry) asked.entry.opts.now wanted found.fault (string_bytes found.text)) }
+    requires { HasKeys subject }
+    ensures { IfOk result (λ found. IsTextOf (log_in subject.entry) (shown_in subject.entry.printer)
+        (keys_in subject.entry) subject.entry.opts.now wanted found.fault (string_bytes found.text)) }
 {
-    let (log, keys, opts) = (asked.printer.log, asked.keys, asked.opts);
+    let (log, keys, opts) = (subject.printer.log, subject.keys, subject.opts);
     if wanted.history {
         return match order_or_findings(alloc, log, keys, opts)? {
-            Ok(order) => explained(alloc, asked, &order, wanted),
-            Err(found) if wanted.all || wanted.totals => listed(alloc, asked, &found, wanted),
-            Err(found) => one_fault(alloc, asked, found[0], wanted),
+            Ok(order) => explained(alloc, subject, &order, wanted),
+            Err(found) if wanted.all || wanted.totals => listed(alloc, subject, &found, wanted),
+            Err(found) => one_fault(alloc, subject, found[0], wanted),
         };
     }
     if wanted.all || wanted.totals {
         let found = findings(alloc, log, keys, opts)?;
         if found.is_empty() {
-            return passed(alloc, asked, summary(alloc, log, keys, opts)?, wanted);
+            return passed(alloc, subject, summary(alloc, log, keys, opts)?, wanted);
         }
-        return listed(alloc, asked, &found, wanted);
+        return listed(alloc, subject, &found, wanted);
     }
     match first_finding(alloc, log, keys, opts)? {
-        Some(first) => one_fault(alloc, asked, first, wanted),
-        None => passed(alloc, asked, summary(alloc, log, keys, opts)?, wanted),
+        Some(first) => one_fault(alloc, subject, first, wanted),
+        None => passed(alloc, subject, summary(alloc, log, keys, opts)?, wanted),
     }
 }
 
-/// Audits what is asked as [`judge_asked`] does. Where the first fault alone is wanted, and lines
-/// have no keys, it is looked for in threads, beside one that counts what a verdict stands on.
-pub(crate) fn judge_asked_in_threads<R: Threads + Sync>(
+/// Audits a log as [`judge_subject`] does. Where the first fault alone is wanted, and lines have no
+/// keys, it is looked for in threads, beside one that counts what a verdict stands on.
+pub(crate) fn judge_subject_in_threads<R: Threads + Sync>(
     rt: &R,
     alloc: Global,
-    asked: Asked<'_>,
+    subject: Subject<'_>,
     wanted: Wanted,
 ) -> Result<Judgement, AllocError>
-    requires { HasKeys asked }
-    ensures { IfOk result (λ found. IsTextOf (log_in asked.entry) (shown_in asked.entry.printer)
-        (keys_in asked.entry) asked.entry.opts.now wanted found.fault (string_bytes found.text)) }
+    requires { HasKeys subject }
+    ensures { IfOk result (λ found. IsTextOf (log_in subject.entry) (shown_in subject.entry.printer)
+        (keys_in subject.entry) subject.entry.opts.now wanted found.fault (string_bytes found.text)) }
 {
-    if wanted.all || wanted.totals || wanted.history || asked.keys.is_some() {
-        return judge_asked(alloc, asked, wanted);
+    if wanted.all || wanted.totals || wanted.history || subject.keys.is_some() {
+        return judge_subject(alloc, subject, wanted);
     }
-    let (log, opts) = (asked.printer.log, asked.opts);
+    let (log, opts) = (subject.printer.log, subject.opts);
     let (first, counts) = join(
         rt,
         || -> Result<Option<Finding>, AllocError>
@@ -143,8 +143,8 @@ pub(crate) fn judge_asked_in_threads<R: Threads + Sync>(
         { summary_in_threads(rt, alloc, log, opts) },
     );
     match first? {
-        Some(first) => one_fault(alloc, asked, first, wanted),
-        None => passed(alloc, asked, counts?, wanted),
+        Some(first) => one_fault(alloc, subject, first, wanted),
+        None => passed(alloc, subject, counts?, wanted),
     }
 }
 
@@ -200,15 +200,15 @@ pub fn judge_named<'x>(
     let printer = Printer {
         log: &named.log,
         names: ClientNames::OfLog(&named.names),
-        numbers: own_numbers(named),
+        own: own_numbers(named),
         beside: &beside,
     };
-    let asked = Asked {
+    let subject = Subject {
         printer,
         keys: numbers_of(named),
         opts,
     };
-    judge_asked(alloc, asked, wanted)
+    judge_subject(alloc, subject, wanted)
 }
 
 /// The same, by threads.
@@ -227,15 +227,15 @@ pub(crate) fn judge_named_in_threads<'x, R: Threads + Sync>(
     let printer = Printer {
         log: &named.log,
         names: ClientNames::OfLog(&named.names),
-        numbers: own_numbers(named),
+        own: own_numbers(named),
         beside: &beside,
     };
-    let asked = Asked {
+    let subject = Subject {
         printer,
         keys: numbers_of(named),
         opts,
     };
-    judge_asked_in_threads(rt, alloc, asked, wanted)
+    judge_subject_in_threads(rt, alloc, subject, wanted)
 }
 
 /// For each line the number of its key, where keys were kept.
@@ -261,19 +261,19 @@ pub(crate) fn own_numbers(named: &NamedLog) -> &[u64]
 /// What is said of a log by its first fault.
 pub(crate) fn one_fault(
     alloc: Global,
-    asked: Asked<'_>,
+    subject: Subject<'_>,
     first: Finding,
     wanted: Wanted,
 ) -> Result<Judgement, AllocError>
     requires alone { (wanted.all ≡ false) × (wanted.totals ≡ false) }
-    requires reason { HasReasonIn (log_in asked) (keys_in asked) asked.opts.now first }
-    requires late { HasLateIn (log_in asked) (keys_in asked) asked.opts.now first }
+    requires reason { HasReasonIn (log_in subject) (keys_in subject) subject.opts.now first }
+    requires late { HasLateIn (log_in subject) (keys_in subject) subject.opts.now first }
     ensures fault { IfOk result (λ found. found.fault ≡ Some first.found) }
-    ensures text { IfOk result (λ found. IsFaulted (log_in asked.entry) (shown_in asked.entry.printer)
-        (keys_in asked.entry) asked.entry.opts.now wanted first.found (string_bytes found.text)) }
+    ensures text { IfOk result (λ found. IsFaulted (log_in subject.entry) (shown_in subject.entry.printer)
+        (keys_in subject.entry) subject.entry.opts.now wanted first.found (string_bytes found.text)) }
 {
     let mut text = String::new(alloc);
-    asked.printer.push_list(&mut text, wanted.json, &[first])?;
+    subject.printer.push_list(&mut text, wanted.json, &[first])?;
     Ok(Judgement {
         fault: Some(first.found),
         text,
@@ -283,22 +283,22 @@ pub(crate) fn one_fault(
 /// What is said of a log by all its faults.
 pub(crate) fn listed(
     alloc: Global,
-    asked: Asked<'_>,
+    subject: Subject<'_>,
     found: &[Finding],
     wanted: Wanted,
 ) -> Result<Judgement, AllocError>
-    requires keys { HasKeys asked }
+    requires keys { HasKeys subject }
     requires some { 0 < length found.now }
     requires more { (wanted.all ≡ true) ⊎ (wanted.totals ≡ true) }
-    requires all { AreAll (log_in asked) (keys_in asked) asked.opts.now found.now }
+    requires all { AreAll (log_in subject) (keys_in subject) subject.opts.now found.now }
     ensures { IfOk result (λ it. (first : Found) × (it.fault ≡ Some first)
         × (slice_get (map found_of found.entry.now) 0 ≡ Some first)
-        × IsFaulted (log_in asked.entry) (shown_in asked.entry.printer) (keys_in asked.entry)
-        asked.entry.opts.now wanted first (string_bytes it.text)) }
+        × IsFaulted (log_in subject.entry) (shown_in subject.entry.printer) (keys_in subject.entry)
+        subject.entry.opts.now wanted first (string_bytes it.text)) }
 {
     let mut text = String::new(alloc);
-    add_listing(&mut text, asked, found, wanted)?;
-    add_totals(alloc, &mut text, asked, found, wanted)?;
+    add_listing(&mut text, subject, found, wanted)?;
+    add_totals(alloc, &mut text, subject, found, wanted)?;
     Ok(Judgement {
         fault: Some(found[0].found),
         text,
@@ -308,19 +308,19 @@ pub(crate) fn listed(
 /// Writes the faults, unless the totals alone are wanted.
 fn add_listing(
     out: &mut String,
-    asked: Asked<'_>,
+    subject: Subject<'_>,
     found: &[Finding],
     wanted: Wanted,
 ) -> Result<(), AllocError>
     requires more { (wanted.all ≡ true) ⊎ (wanted.totals ≡ true) }
-    requires all { AreAll (log_in asked) (keys_in asked) asked.opts.now found.now }
+    requires all { AreAll (log_in subject) (keys_in subject) subject.opts.now found.now }
     ensures { OnOk result ((first : Found) → (text : List ℕ)
-        × IsListing (log_in asked.entry) (shown_in asked.entry.printer) (keys_in asked.entry)
-        asked.entry.opts.now wanted wanted.all wanted.totals first text
+        × IsListing (log_in subject.entry) (shown_in subject.entry.printer) (keys_in subject.entry)
+        subject.entry.opts.now wanted wanted.all wanted.totals first text
         × (string_bytes out.new ≡ string_bytes out.old ++ text)) }
 {
     if wanted.all {
-        asked.printer.push_list(out, wanted.json, found)
+        subject.printer.push_list(out, wanted.json, found)
     } else {
         Ok(())
     }
@@ -330,23 +330,23 @@ fn add_listing(
 fn add_totals(
     alloc: Global,
     out: &mut String,
-    asked: Asked<'_>,
+    subject: Subject<'_>,
     found: &[Finding],
     wanted: Wanted,
 ) -> Result<(), AllocError>
-    requires keys { HasKeys asked }
-    requires all { AreAll (log_in asked) (keys_in asked) asked.opts.now found.now }
-    ensures { OnOk result ((text : List ℕ) × AreTotals (log_in asked.entry) (shown_in asked.entry.printer)
-        (keys_in asked.entry) asked.entry.opts.now wanted wanted.totals text
+    requires keys { HasKeys subject }
+    requires all { AreAll (log_in subject) (keys_in subject) subject.opts.now found.now }
+    ensures { OnOk result ((text : List ℕ) × AreTotals (log_in subject.entry) (shown_in subject.entry.printer)
+        (keys_in subject.entry) subject.entry.opts.now wanted wanted.totals text
         × (string_bytes out.new ≡ string_bytes out.old ++ text)) }
 {
     if !wanted.totals {
         return Ok(());
     }
-    let counts = summary(alloc, asked.printer.log, asked.keys, asked.opts)?;
-    push_total_line(out, asked, counts, wanted.json)?;
+    let counts = summary(alloc, subject.printer.log, subject.keys, subject.opts)?;
+    push_total_line(out, subject, counts, wanted.json)?;
     let faults = faults_of(alloc, found)?;
-    push_totals(alloc, out, wanted.json, asked.printer, &faults)
+    push_totals(alloc, out, wanted.json, subject.printer, &faults)
 }
 
 /// The faults that were found, without why they stand.

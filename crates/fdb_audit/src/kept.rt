@@ -21,8 +21,8 @@ use fdb_log_reader::{LineReader, ReadLine, Why, printed_name};
 use std::alloc::{AllocError, Global};
 use std::fmt::Write;
 
-/// The member that has the number of a line among all that were read, counted from 1.
-const NUMBER: &str = "kept_line";
+/// The member that says where a line stood among all that were read, counted from 1.
+const LINE: &str = "kept_line";
 
 /// The member that has how many lines had been read.
 const READ: &str = "kept_lines";
@@ -36,8 +36,8 @@ const CLIENTS: &str = "kept_clients";
 /// What a text says of the lines that were kept.
 #[derive(Drop)]
 pub(crate) struct KeptText {
-    /// The number of each line.
-    pub(crate) numbers: Vec<u64>,
+    /// Where each line stood among all, counted from 1.
+    pub(crate) lines: Vec<u64>,
     /// How many of the lines had come when it had settled last.
     pub(crate) told: usize,
     /// How many lines had been read beside these.
@@ -47,7 +47,7 @@ pub(crate) struct KeptText {
     /// Whether lines of more than one client had come.
     pub(crate) are_many: bool,
     ghost few: { more < 18446744073709551615 },
-    ghost rise: { Rise numbers.items },
+    ghost rise: { Rise lines.items },
 }
 
 /// A text that keeps lines, as it was read.
@@ -64,7 +64,7 @@ pub(crate) struct KeptRead {
 /// As what a line was kept.
 #[derive(Clone, Copy)]
 struct KeptAs {
-    number: u64,
+    line: u64,
     read: u64,
     settled: Option<u64>,
     are_many: bool,
@@ -78,7 +78,7 @@ impl KeptText {
         ensures { said_of result ≡ kept_said [] }
     {
         KeptText {
-            numbers: Vec::new(alloc),
+            lines: Vec::new(alloc),
             told: 0,
             more: 0,
             settled: 0,
@@ -167,39 +167,39 @@ impl KeptText {
             → said_of self.old ≡ kept_said before
             → said_of self.new ≡ kept_said (before ++ said ∷ [])) }
     {
-        let count = self.numbers.len() as u64;
+        let count = self.lines.len() as u64;
         let more = kept.read.saturating_sub(count).saturating_sub(1);
         if !self.goes_on(kept) || more == u64::MAX {
             return Ok(false);
         }
-        self.numbers.push(kept.number)?;
+        self.lines.push(kept.line)?;
         self.more = more;
         self.are_many = self.are_many || kept.are_many;
         if let Some(settled) = kept.settled {
-            self.told = self.numbers.len();
+            self.told = self.lines.len();
             self.settled = settled;
         }
         Ok(true)
     }
 
-    /// Whether a line may stand behind those above it: its number is above theirs, and no lines are
+    /// Whether a line may stand behind those above it: it came after them, and no lines are
     /// told behind some that are not.
     fn goes_on(&self, kept: KeptAs) -> bool
         ensures told { result ≡ true → is_some kept.settled ≡ true
-            → self.now.told ≡ length self.now.numbers.items }
+            → self.now.told ≡ length self.now.lines.items }
         ensures above { result ≡ true
-            → All (λ number. number < kept.number) self.now.numbers.items }
+            → All (λ line. line < kept.line) self.now.lines.items }
     {
-        let count = self.numbers.len();
-        let last = self.numbers.last().copied().unwrap_or(0);
+        let count = self.lines.len();
+        let last = self.lines.last().copied().unwrap_or(0);
         let may_be_told = kept.settled.is_none() || self.told == count;
-        last < kept.number && kept.number <= kept.read && may_be_told
+        last < kept.line && kept.line <= kept.read && may_be_told
     }
 
     /// Why the next line is refused.
     fn refusal(&self, why: Option<Why>) -> KeptRefused {
         KeptRefused {
-            line: (self.numbers.len() as u64).saturating_add(1),
+            line: (self.lines.len() as u64).saturating_add(1),
             why,
         }
     }
@@ -210,7 +210,7 @@ fn members_kept(alloc: Global) -> Result<Vec<String>, AllocError>
     ensures { IfOk result (λ members. map string_bytes members.items ≡ kept_members) }
 {
     let mut members = Vec::new(alloc);
-    members.push(String::from_str(alloc, NUMBER)?)?;
+    members.push(String::from_str(alloc, LINE)?)?;
     members.push(String::from_str(alloc, READ)?)?;
     members.push(String::from_str(alloc, SETTLED)?)?;
     members.push(String::from_str(alloc, CLIENTS)?)?;
@@ -221,14 +221,14 @@ fn members_kept(alloc: Global) -> Result<Vec<String>, AllocError>
 fn kept_as(alloc: Global, read: &ReadLine) -> Result<Option<KeptAs>, AllocError>
     ensures { IfOk result (λ kept. IfSome kept (λ kept. IsKeptAs kept (said_by read.now))) }
 {
-    let number = number_at(alloc, read, 0)?;
+    let line = number_at(alloc, read, 0)?;
     let lines = number_at(alloc, read, 1)?;
     let settled = number_at(alloc, read, 2)?;
     let are_many = number_at(alloc, read, 3)?.is_some_and(|clients| clients > 1);
     let is_bad = settled.is_none() && read.shown.get(2).is_some_and(Option::is_some);
-    match (number, lines) {
-        (Some(number), Some(read)) if !is_bad => Ok(Some(KeptAs {
-            number,
+    match (line, lines) {
+        (Some(line), Some(read)) if !is_bad => Ok(Some(KeptAs {
+            line,
             read,
             settled,
             are_many,
@@ -356,9 +356,9 @@ fn push_key(
 
 /// Writes as what a line is kept.
 fn push_kept(out: &mut String, taking: &Taking, kept: &KeptLine) -> Result<(), AllocError> {
-    let number = taking.numbering.number(kept.number);
+    let its_line = taking.numbering.line(kept.number);
     let read = taking.line_count();
-    write!(out, ",\"{NUMBER}\":{number},\"{READ}\":{read}")?;
+    write!(out, ",\"{LINE}\":{its_line},\"{READ}\":{read}")?;
     if kept.number < taking.settled {
         let settled = taking.watch.settled_to();
         write!(out, ",\"{SETTLED}\":{settled}")?;

@@ -80,7 +80,7 @@ pub fn a_log_watched_in_pieces_is_told_as_by_one_watch()
         → taking.watch.margin ≡ asked.opts.margin
         → AreTaken start taking (lines_asked asked piece) told
         → (keeps : Keeps (option_map string_bytes asked.key) (names_asked asked piece)
-        start.numbers taking (lines_asked asked piece) kept) → MayGoOn asked piece kept next
+        start.kept taking (lines_asked asked piece) kept) → MayGoOn asked piece kept next
         → let on = start_of asked behind kept in on.from ≡ taking.watch.from
         → start.early ≡ 0 → taking.counts.early ≡ 0
         → early_at on.from (lines_since on (lines_asked asked (kept ++ next))) ≡ 0
@@ -146,7 +146,7 @@ pub fn what_a_watch_tells_is_true_of_all_lines()
 }
 
 /// A log that is divided into parts by its keys, each read and audited as a log of its own, has the
-/// faults of its parts, each by the number of its line, once, and no others.
+/// faults of its parts, each by its line, by the own numbers of lines, once, and no others.
 pub fn the_faults_of_parts_by_number_are_those_of_the_log()
     ensures { (opts : AuditOpts) (rule : Option (List ℕ) → ℕ) (whole : Reading)
         (parts : List Reading) → WasReadByKey whole → All WasReadByKey parts

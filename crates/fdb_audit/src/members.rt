@@ -1,5 +1,5 @@
 //! What is printed beside a call: the members that are shown, also of the lines that a watch keeps,
-//! and the number of the line, also where lines were taken of a log that is followed.
+//! and where a line stands among all, also where lines were taken of a log that is followed.
 
 ghost use Rattle.std.specs.Prelude.{◌≡◌, ◌++◌, ◌∷◌, [], IfOk, List, OnOk, Some, map, option_map};
 ghost use Rattle.std.specs.Prelude.{string_bytes, ◌+◌, ◌<◌, ◌≤◌, ℕ, All, OnErr, ◌-◌, ◌^◌, count_by};
@@ -200,7 +200,7 @@ fn shown_beside(alloc: Global, column: &Shown) -> Result<Column, AllocError>
 pub(crate) struct Rows {
     /// The names of the members, as they are printed.
     pub(crate) members: Vec<String>,
-    /// For each line that is kept, by its number among those that were taken, its texts.
+    /// For each line that is kept, by how many were taken above it, its texts.
     texts: BTreeMap<u64, Vec<Option<String>>>,
 }
 
@@ -221,23 +221,23 @@ impl Rows {
     }
 
     /// Keeps the texts of a line.
-    pub(crate) fn add(&mut self, line: u64, texts: Vec<Option<String>>) -> Result<(), AllocError> {
+    pub(crate) fn add(&mut self, taken: u64, texts: Vec<Option<String>>) -> Result<(), AllocError> {
         if !self.members.is_empty() {
-            self.texts.insert(line, texts)?;
+            self.texts.insert(taken, texts)?;
         }
         Ok(())
     }
 
     /// The text that a line has of a member.
-    fn text(&self, line: u64, column: usize) -> Option<&str> {
-        let texts = self.texts.get(&line)?;
+    fn text(&self, taken: u64, column: usize) -> Option<&str> {
+        let texts = self.texts.get(&taken)?;
         texts.get(column)?.as_deref()
     }
 
     /// Writes the members of a line that it has.
-    pub(crate) fn push_texts(&self, out: &mut String, line: u64) -> Result<(), AllocError> {
+    pub(crate) fn push_texts(&self, out: &mut String, taken: u64) -> Result<(), AllocError> {
         for (column, member) in self.members.iter().enumerate() {
-            if let Some(text) = self.text(line, column) {
+            if let Some(text) = self.text(taken, column) {
                 write!(out, ",{member}:{text}")?;
             }
         }
@@ -253,8 +253,8 @@ impl Rows {
     ) -> Result<(), AllocError> {
         for (place, member) in self.members.iter().enumerate() {
             let mut column = Column::new(alloc, member)?;
-            for line in &settled.numbers {
-                let text = match self.text(*line, place) {
+            for taken in &settled.numbers {
+                let text = match self.text(*taken, place) {
                     Some(text) => Some(shown_text(alloc, text)?),
                     None => None,
                 };
@@ -273,7 +273,7 @@ impl Rows {
         for entry in told {
             let settled = &entry.settled;
             let mut kept = 0;
-            for (place, line) in settled.numbers.iter().enumerate() {
+            for (place, taken) in settled.numbers.iter().enumerate() {
                 if settled
                     .kept
                     .get(kept)
@@ -281,15 +281,15 @@ impl Rows {
                 {
                     kept += 1;
                 } else {
-                    self.texts.remove(line);
+                    self.texts.remove(taken);
                 }
             }
         }
     }
 }
 
-/// The numbers of the lines that were kept of others and come first, how many more there were, and
-/// how many lines were taken above each line that was refused. Eight bytes for each of these.
+/// Which lines were kept of others and come first, how many more there were, and how many lines were
+/// taken above each line that was refused. Eight bytes for each of these.
 #[derive(Drop)]
 pub(crate) struct Numbering {
     kept: Vec<u64>,
@@ -299,12 +299,11 @@ pub(crate) struct Numbering {
 }
 
 impl Numbering {
-    ghost use Rattle.fdb_audit.specs.private.Numbering.{AreNumbersOf, kept_by};
+    ghost use Rattle.fdb_audit.specs.private.Numbering.{AreTakenLines, kept_by};
 
-    /// No line was refused. Lines of these numbers come first, counted from 1, and there were so many
-    /// more.
+    /// No line was refused. These lines come first, counted from 1, and there were so many more.
     pub(crate) fn new(alloc: Global, kept: Vec<u64>, more: u64) -> Self
-        ensures kept { kept_by result ≡ record { numbers = kept.items; more = more } }
+        ensures kept { kept_by result ≡ record { lines = kept.items; more = more } }
         ensures above { result.above.items ≡ [] }
     {
         Numbering {
@@ -339,20 +338,20 @@ impl Numbering {
         self.more.saturating_add(self.count())
     }
 
-    /// The number of a line, counted from 1, by how many were taken above it.
-    pub(crate) fn number(&self, taken: u64) -> u64
+    /// Where a line stands among all, counted from 1, by how many were taken above it.
+    pub(crate) fn line(&self, taken: u64) -> u64
         ensures { taken + self.now.more + length self.now.above.items < 18446744073709551615
             → result ≡ unwrap_or (slice_get self.now.kept.items taken) (taken + 1 + self.now.more
             + count_by (λ above. nat_le above taken) self.now.above.items) }
     {
         match self.kept.get(taken as usize) {
-            Some(number) => *number,
-            None => self.number_behind(taken),
+            Some(line) => *line,
+            None => self.line_behind(taken),
         }
     }
 
     /// The same of a line that was not kept of others. Logarithmic.
-    fn number_behind(&self, taken: u64) -> u64
+    fn line_behind(&self, taken: u64) -> u64
         ensures { taken + self.now.more + length self.now.above.items < 18446744073709551615
             → result ≡ taken + 1 + self.now.more
             + count_by (λ above. nat_le above taken) self.now.above.items }
@@ -364,15 +363,15 @@ impl Numbering {
             .saturating_add(refused)
     }
 
-    /// The numbers of the lines that a watch had kept, each at its place.
-    pub(crate) fn numbers(&self, alloc: Global, settled: &Settled) -> Result<Vec<u64>, AllocError>
-        ensures { IfOk result (λ numbers. AreNumbersOf (kept_by self.now) self.now.above.items
-            settled.now.numbers.items numbers.items) }
+    /// The same of some lines.
+    pub(crate) fn lines_at(&self, alloc: Global, places: &[u64]) -> Result<Vec<u64>, AllocError>
+        ensures { IfOk result (λ lines. AreTakenLines (kept_by self.now) self.now.above.items
+            places.now lines.items) }
     {
-        let mut numbers = Vec::with_capacity(alloc, settled.numbers.len())?;
-        for taken in &settled.numbers {
-            numbers.push(self.number(*taken))?;
+        let mut lines = Vec::with_capacity(alloc, places.len())?;
+        for taken in places {
+            lines.push(self.line(*taken))?;
         }
-        Ok(numbers)
+        Ok(lines)
     }
 }

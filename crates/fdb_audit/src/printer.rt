@@ -1,5 +1,5 @@
 //! The lines that are printed, the names of their clients as they are printed, and a fault by the
-//! number of the line at which it stands.
+//! line at which it stands.
 
 ghost use Rattle.std.specs.Prelude.{◌≡◌, ◌++◌, [], IfOk, OnOk, option_map, slice_get, string_bytes};
 ghost use Rattle.std.specs.Prelude.{map};
@@ -8,7 +8,7 @@ ghost use Rattle.fdb_lines.specs.Log.{lines_of};
 ghost use Rattle.fdb_log_reader.specs.Names.{names_of};
 ghost use Rattle.fdb_log_reader.specs.Printed.{printed};
 ghost use Rattle.fdb_audit.specs.Text.{call_text, client_or, fault_of, members_text, mention};
-ghost use Rattle.fdb_audit.specs.Text.{name_or_number, number_at, number_text, whose_text};
+ghost use Rattle.fdb_audit.specs.Text.{name_or_number, printed_line, line_text, whose_text};
 ghost use Rattle.fdb_audit.specs.ToldFaults.{client_text};
 ghost use Rattle.fdb_audit.specs.private.{shown_in, names_in};
 
@@ -21,7 +21,7 @@ use std::fmt::{self, Write};
 /// A log, with what is printed of it, that is judged as one register or, where its lines have keys,
 /// as one for each key.
 #[derive(Clone, Copy)]
-pub(crate) struct Asked<'a> {
+pub(crate) struct Subject<'a> {
     pub printer: Printer<'a>,
     pub keys: Option<&'a [Option<u32>]>,
     pub opts: &'a AuditOpts,
@@ -34,15 +34,15 @@ const NOBODY: Line = Line {
     times: None,
 };
 
-/// What is printed of a log: its lines, the names of their clients, by the clients' numbers, the
-/// numbers of the lines, counted from 1, by their places, and the members that are printed beside
-/// the calls. A client beyond the names is printed by its number, and a line beyond the numbers by
-/// its place, counted from 1.
+/// What is printed of a log: its lines; the names of their clients, by the clients' numbers; what
+/// each line is told as, by its place; and the members that are printed beside the calls. A client
+/// beyond the names is printed by its number, and a line beyond the others by its place, counted
+/// from 1.
 #[derive(Clone, Copy)]
 pub(crate) struct Printer<'a> {
     pub log: &'a Log,
     pub names: ClientNames<'a>,
-    pub numbers: &'a [u64],
+    pub own: &'a [u64],
     pub beside: &'a [Column],
 }
 
@@ -55,20 +55,20 @@ impl Printer<'_> {
         line.copied().unwrap_or(NOBODY)
     }
 
-    /// The number under which the line at a place is printed, counted from 1.
-    pub(crate) fn number(self, place: u32) -> u64
-        ensures { result ≡ number_at (shown_in self.entry).numbers place }
+    /// What the line at a place is told as.
+    pub(crate) fn printed_line(self, place: u32) -> u64
+        ensures { result ≡ printed_line (shown_in self.entry).own place }
     {
-        number_at(self.numbers, place)
+        printed_line(self.own, place)
     }
 
-    /// A fault, by the number of its line.
+    /// A fault, by its line.
     pub(crate) fn fault(self, found: Found) -> LogFault
-        ensures { result ≡ fault_of (shown_in self.entry).numbers found }
+        ensures { result ≡ fault_of (shown_in self.entry).own found }
     {
         LogFault {
             fault: found.fault,
-            number: self.number(found.line),
+            line: self.printed_line(found.place),
         }
     }
 
@@ -116,13 +116,14 @@ impl Printer<'_> {
         }
     }
 
-    /// Writes a line by its number, with whose it is, what was done, and what is printed beside it.
+    /// Writes a line: what it is told as, with whose it is, what was done, and what is printed
+    /// beside it.
     pub(crate) fn push_mention(self, out: &mut String, place: u32) -> Result<(), AllocError>
         ensures { OnOk result
             (string_bytes out.new ≡ string_bytes out.old ++ mention (shown_in self.entry) place) }
     {
         let line = self.line(place);
-        self.push_number(out, place)?;
+        self.push_line_text(out, place)?;
         write!(out, " (")?;
         self.push_whose(out, line.client)?;
         push_call(out, line.call)?;
@@ -130,13 +131,13 @@ impl Printer<'_> {
         write!(out, ")")
     }
 
-    /// Writes the line at a place by its number.
-    pub(crate) fn push_number(self, out: &mut String, place: u32) -> Result<(), AllocError>
+    /// Writes what the line at a place is told as.
+    pub(crate) fn push_line_text(self, out: &mut String, place: u32) -> Result<(), AllocError>
         ensures { OnOk result (string_bytes out.new
-            ≡ string_bytes out.old ++ number_text (shown_in self.entry).numbers place) }
+            ≡ string_bytes out.old ++ line_text (shown_in self.entry).own place) }
     {
-        let number = self.number(place);
-        write!(out, "line {number}")
+        let printed = self.printed_line(place);
+        write!(out, "line {printed}")
     }
 
     /// Writes what is printed beside a line.
@@ -227,11 +228,11 @@ fn push_name(out: &mut String, names: &Names, number: u32) -> Result<(), AllocEr
     }
 }
 
-/// A fault, and the number of the line at which it stands, counted from 1.
+/// A fault, and the line at which it stands: its own number, or counted from 1.
 #[derive(Clone, Copy, Debug, PartialEq, Eq)]
 pub struct LogFault {
     pub fault: Fault,
-    pub number: u64,
+    pub line: u64,
 }
 
 impl fmt::Display for LogFault {
@@ -241,25 +242,25 @@ impl fmt::Display for LogFault {
     ghost output = { λ it. Some (fault_text it) };
 
     fn fmt<W: fmt::Write>(&self, f: &mut fmt::Formatter<W>) -> fmt::Result {
-        write!(f, "{} {}", self.fault, self.number)
+        write!(f, "{} {}", self.fault, self.line)
     }
 }
 
-/// The number of the line at a place: by these numbers, or else the place, counted from 1.
-pub(crate) fn number_at(numbers: &[u64], place: u32) -> u64
-    ensures { result ≡ number_at numbers.now place }
+/// What the line at a place is told as: one of these, or else its place counted from 1.
+pub(crate) fn printed_line(own: &[u64], place: u32) -> u64
+    ensures { result ≡ printed_line own.now place }
 {
-    let number = numbers.get(place as usize);
-    number.copied().unwrap_or(place as u64 + 1)
+    let line = own.get(place as usize);
+    line.copied().unwrap_or(place as u64 + 1)
 }
 
-/// The first fault of a log, by the number of its line, if there is one.
-pub(crate) fn told(numbers: &[u64], first: Option<Found>) -> Option<LogFault>
-    ensures { result ≡ option_map (fault_of numbers.now) first }
+/// The first fault of a log, by its line, if there is one.
+pub(crate) fn told(own: &[u64], first: Option<Found>) -> Option<LogFault>
+    ensures { result ≡ option_map (fault_of own.now) first }
 {
     let found = first?;
     Some(LogFault {
         fault: found.fault,
-        number: number_at(numbers, found.line),
+        line: printed_line(own, found.place),
     })
 }

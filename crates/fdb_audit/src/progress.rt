@@ -40,7 +40,7 @@ pub(crate) struct Counts {
     pub early: u64,
     /// Of these, how many were judged by what was kept then.
     pub judged: u64,
-    /// The number of the last of them, counted from 1, if there is one.
+    /// The last of them, counted from 1, if there is one.
     pub last_early: Option<u64>,
     /// Lines of which one above was ahead, newer than those that were found to be before.
     pub ahead: u64,
@@ -49,8 +49,8 @@ pub(crate) struct Counts {
 /// How a line came.
 #[derive(Clone, Copy)]
 pub(crate) struct Came {
-    /// Its number, counted from 1.
-    pub number: u64,
+    /// Where it stands among all lines, counted from 1.
+    pub line: u64,
     /// Whether it is judged, be it early.
     pub is_judged: bool,
 }
@@ -104,7 +104,7 @@ impl Counts {
         if came.is_judged {
             add_one(&mut self.judged);
         }
-        self.last_early = Some(came.number);
+        self.last_early = Some(came.line);
     }
 
     /// Counts a line of which another is ahead.

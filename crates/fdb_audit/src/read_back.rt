@@ -17,7 +17,7 @@ ghost use Rattle.fdb_audit.specs.GoingOn.{places_staying};
 ghost use Rattle.fdb_audit.specs.private.KeyTimes.{is_staying};
 ghost use Rattle.fdb_audit.specs.Taken.{AreTaken, kept_by};
 ghost use Rattle.fdb_audit.specs.private.KeptTexts.{named_kept, number_of, said_of};
-ghost use Rattle.fdb_audit.specs.private.Numbering.{AreNumbersOf};
+ghost use Rattle.fdb_audit.specs.private.Numbering.{AreTakenLines};
 
 use crate::kept::{KeptText, client_name, key_name};
 use crate::members::Numbering;
@@ -74,11 +74,11 @@ pub(crate) fn refusal_of(
         → AreTaken start taking.now read told
         → All (IsKept (lines_taken read) (keys_taken read)) kept.now
         → kept_said (lines_kept (member_in (line_names reader.now)) text.now) ≡ kept_at
-        start.numbers read (map number_of kept.now) taking.now.settled taking.now.watch.from) }
+        start.kept read (map number_of kept.now) taking.now.settled taking.now.watch.from) }
     ensures lines { IfOk result (λ it. it ≡ None → let names = line_names reader.now in
         named_in (member_in names) kept_members text.now ≡ map (named_kept names) kept.now) }
     ensures rise { IfOk result (λ it. it ≡ None → let names = line_names reader.now in
-        Rise (kept_said (lines_kept (member_in names) text.now)).numbers.numbers) }
+        Rise (kept_said (lines_kept (member_in names) text.now)).front.lines) }
     ensures many { IfOk result (λ it. it ≡ None
         → length (lines_in text.now) ≡ length kept.now) }
     ensures ends { IfOk result (λ it. it ≡ None → EndsALine text.now) }
@@ -106,24 +106,24 @@ fn says_kept(
         → (read : List (Result SaidLine Why)) → (told : List Found)
         → AreTaken start taking.now read told
         → All (λ place. place < length (taken read)) places.now → said_of said.now
-        ≡ kept_at start.numbers read places.now taking.now.settled taking.now.watch.from) }
+        ≡ kept_at start.kept read places.now taking.now.settled taking.now.watch.from) }
 {
-    let numbers = numbers_at(alloc, &taking.numbering, places)?;
+    let lines = taking.numbering.lines_at(alloc, places)?;
     let come = places
         .iter()
         .filter(|place| **place < taking.settled)
         .count();
     let more = taking.line_count().saturating_sub(places.len() as u64);
     let at = settled_if(come > 0, taking.watch.settled_to());
-    Ok(says(said, &numbers, come, more, at))
+    Ok(says(said, &lines, come, more, at))
 }
 
 /// Whether a text says this.
-fn says(said: &KeptText, numbers: &[u64], told: usize, more: u64, settled: u64) -> bool
-    ensures { result ≡ true → (said.now.numbers.items ≡ numbers.now) × (said.now.told ≡ told)
+fn says(said: &KeptText, lines: &[u64], told: usize, more: u64, settled: u64) -> bool
+    ensures { result ≡ true → (said.now.lines.items ≡ lines.now) × (said.now.told ≡ told)
         × (said.now.more ≡ more) × (said.now.settled ≡ settled) }
 {
-    said.numbers.as_slice() == numbers
+    said.lines.as_slice() == lines
         && said.told == told
         && said.more == more
         && said.settled == settled
@@ -185,16 +185,4 @@ fn settled_if(is_said: bool, at: u64) -> u64
     ensures { result ≡ (if is_said then at else 0) }
 {
     if is_said { at } else { 0 }
-}
-
-/// The numbers of the lines at some places.
-fn numbers_at(alloc: Global, numbering: &Numbering, places: &[u64]) -> Result<Vec<u64>, AllocError>
-    ensures { IfOk result (λ numbers. AreNumbersOf (kept_by numbering.now)
-        numbering.now.above.items places.now numbers.items) }
-{
-    let mut numbers = Vec::with_capacity(alloc, places.len())?;
-    for taken in places {
-        numbers.push(numbering.number(*taken))?;
-    }
-    Ok(numbers)
 }

@@ -28,7 +28,7 @@ impl Printer<'_> {
         let found = finding.found;
         let fault = self.fault(found);
         write!(out, "audit fault: {fault}: ")?;
-        self.push_sentence(out, found.line, finding.late, finding.reason)?;
+        self.push_sentence(out, found.place, finding.late, finding.reason)?;
         writeln!(out)
     }
 
@@ -68,24 +68,28 @@ impl Printer<'_> {
                 self.push_known(out, place, version, by)
             }
             Reason::Unreported => write!(out, ", which nobody reported"),
-            Reason::Reported { line, version, by } => {
+            Reason::Reported {
+                place: reporter,
+                version,
+                by,
+            } => {
                 if is_by(place, by) {
                     write!(out, ", which was reported only after this: ")?;
-                    self.push_known(out, line, version, by)
+                    self.push_known(out, reporter, version, by)
                 } else {
                     write!(out, ", which ")?;
-                    self.push_mention(out, line)?;
+                    self.push_mention(out, reporter)?;
                     write!(out, " reported when {version} was known: ")?;
-                    self.push_known(out, line, version, by)
+                    self.push_known(out, reporter, version, by)
                 }
             }
-            Reason::Drawn { line } => {
+            Reason::Drawn { place: other } => {
                 if self.line(place).call.draws() {
                     write!(out, ", and so did ")?;
-                    self.push_mention(out, line)
+                    self.push_mention(out, other)
                 } else {
                     write!(out, ", which ")?;
-                    self.push_mention(out, line)?;
+                    self.push_mention(out, other)?;
                     write!(out, " drew")
                 }
             }
@@ -105,9 +109,9 @@ impl Printer<'_> {
             ++ late_text (shown_in self.entry) place late by) }
     {
         match late {
-            Some(late) if late.by > 0 && !is_told(late.line, by) => {
+            Some(late) if late.by > 0 && !is_told(late.place, by) => {
                 write!(out, ", {} too late: ", late.by)?;
-                self.push_ended(out, place, late.line)?;
+                self.push_ended(out, place, late.place)?;
                 write!(out, ", and ")
             }
             _ => write!(out, ", but "),
@@ -138,15 +142,15 @@ impl Printer<'_> {
             return write!(out, "all began with {version}");
         };
         match by.means {
-            Means::Ended => self.push_ended(out, place, by.line),
+            Means::Ended => self.push_ended(out, place, by.place),
             Means::Own => {
-                self.push_mention(out, by.line)?;
+                self.push_mention(out, by.place)?;
                 write!(out, " is an earlier call of its client")
             }
             Means::Learnt(teller) => {
-                self.push_number(out, teller)?;
+                self.push_line_text(out, teller)?;
                 write!(out, " had learnt of ")?;
-                self.push_mention(out, by.line)
+                self.push_mention(out, by.place)
             }
         }
     }
@@ -154,10 +158,10 @@ impl Printer<'_> {
     /// Writes how long a line had ended when the call at a place began.
     fn push_wait(self, out: &mut String, place: u32, wait: u64) -> Result<(), AllocError>
         ensures { OnOk result (string_bytes out.new
-            ≡ string_bytes out.old ++ wait_text (shown_in self.entry).numbers place wait) }
+            ≡ string_bytes out.old ++ wait_text (shown_in self.entry).own place wait) }
     {
         write!(out, " had ended {wait} before ")?;
-        self.push_number(out, place)?;
+        self.push_line_text(out, place)?;
         write!(out, " began")
     }
 
@@ -189,14 +193,14 @@ fn push_deed(out: &mut String, call: Operation) -> Result<(), AllocError>
 fn is_by(place: u32, by: Option<Witness>) -> bool
     ensures { result ≡ is_by place by }
 {
-    matches!(by, Some(by) if by.line == place)
+    matches!(by, Some(by) if by.place == place)
 }
 
 /// Whether a line is told by its end as how a version was known.
 fn is_told(place: u32, by: Option<Witness>) -> bool
     ensures { result ≡ is_told place by }
 {
-    matches!(by, Some(Witness { line, means: Means::Ended }) if line == place)
+    matches!(by, Some(Witness { place: other, means: Means::Ended }) if other == place)
 }
 
 impl Printer<'_> {
@@ -211,7 +215,7 @@ impl Printer<'_> {
     {
         let fault = finding.found.fault;
         write!(out, "{{\"fault\":\"{fault}\",\"at\":")?;
-        self.push_line_object(out, finding.found.line)?;
+        self.push_line_object(out, finding.found.place)?;
         self.push_late_field(out, finding.late)?;
         self.push_reason_field(out, finding.reason)?;
         writeln!(out, "}}")
@@ -223,8 +227,8 @@ impl Printer<'_> {
             ≡ string_bytes out.old ++ line_object (shown_in self.entry) place) }
     {
         let line = self.line(place);
-        let number = self.number(place);
-        write!(out, "{{\"line\":{number}")?;
+        let printed = self.printed_line(place);
+        write!(out, "{{\"line\":{printed}")?;
         self.push_client_or(out, ",\"client\":", line.client, "")?;
         self.push_call_field(out, line.call)?;
         push_times_field(out, line.times)?;
@@ -257,7 +261,7 @@ impl Printer<'_> {
         match late {
             Some(late) => {
                 write!(out, ",\"late\":{},\"first\":", late.by)?;
-                self.push_line_object(out, late.line)
+                self.push_line_object(out, late.place)
             }
             None => Ok(()),
         }
@@ -274,15 +278,15 @@ impl Printer<'_> {
                 self.push_by_field(out, by)
             }
             Reason::Unreported => write!(out, ",\"reason\":\"unreported\""),
-            Reason::Reported { line, version, by } => {
+            Reason::Reported { place, version, by } => {
                 write!(out, ",\"reason\":\"reported\",\"reported\":")?;
-                self.push_line_object(out, line)?;
+                self.push_line_object(out, place)?;
                 write!(out, ",\"known\":{version}")?;
                 self.push_by_field(out, by)
             }
-            Reason::Drawn { line } => {
+            Reason::Drawn { place } => {
                 write!(out, ",\"reason\":\"drawn\",\"drawn\":")?;
-                self.push_line_object(out, line)
+                self.push_line_object(out, place)
             }
             Reason::Undrawn => write!(out, ",\"reason\":\"undrawn\""),
         }
@@ -297,7 +301,7 @@ impl Printer<'_> {
             return write!(out, ",\"by\":null");
         };
         write!(out, ",\"by\":")?;
-        self.push_line_object(out, by.line)?;
+        self.push_line_object(out, by.place)?;
         self.push_means_field(out, by.means)
     }
 

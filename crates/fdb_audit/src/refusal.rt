@@ -17,9 +17,9 @@ pub enum LogsRefused {
     /// A line with which something is wrong, and what: the first one of the log, or, where the log
     /// is followed, the last one or the one that is just told.
     Log(ReadError),
-    /// The number, counted from 1, of the last line of a followed log that had begun before what
-    /// was settled when it came. What was told before is not told anew because of it, and the line
-    /// itself may not have been judged.
+    /// The last line, counted from 1, of a followed log that had begun before what was settled when
+    /// it came. What was told before is not told anew because of it, and the line itself may not
+    /// have been judged.
     Early(u64),
     /// Why lines that were kept are refused, and where they are kept.
     Kept(KeptFault),
@@ -39,8 +39,8 @@ pub struct KeptFault {
 /// Why lines that were kept are refused: the first with which something is wrong.
 #[derive(Clone, Copy, Debug, PartialEq, Eq)]
 pub struct KeptRefused {
-    /// The number of the wrong line among the kept ones, counted from 1; 0 where it is the kept
-    /// lines as a whole that do not say what they should.
+    /// The wrong line among the kept ones, counted from 1; 0 where it is the kept lines as a whole
+    /// that do not say what they should.
     pub line: u64,
     /// What is wrong with the line. It is none where the line can be read, but lacks the members of
     /// a kept line (`kept_line` and so on, docs/LOG.md), or they do not go on from those of the
@@ -157,7 +157,7 @@ pub enum Warning {
 /// A line that came early, or of which another is ahead.
 #[derive(Clone, Copy, Debug, PartialEq, Eq)]
 pub struct CountedLine {
-    /// The number of the line, counted from 1.
+    /// Where it stands in the log, counted from 1.
     pub line: u64,
     /// By how much the line is early, or the other line is ahead, in the unit of the log's times.
     pub by: u64,

@@ -15,7 +15,7 @@ ghost use Rattle.fdb_audit.specs.Objects.{step_field};
 use crate::figures::{Figure, KindCounts, push_figures, push_line, push_total_object};
 use crate::judgement::{Judgement, Wanted};
 use crate::members::Column;
-use crate::printer::{Asked, Printer};
+use crate::printer::{Printer, Subject};
 use crate::reason::push_or_null;
 use fdb_lines::{Effect, KeyOrder, Order, OrderStep, Summary, summary};
 use std::alloc::{AllocError, Global};
@@ -24,75 +24,75 @@ use std::fmt::Write;
 /// What is said of a log without a fault, by its counts.
 pub(crate) fn passed(
     alloc: Global,
-    asked: Asked<'_>,
+    subject: Subject<'_>,
     counts: Summary,
     wanted: Wanted,
 ) -> Result<Judgement, AllocError>
-    requires counts { IsSummary (log_in asked) (keys_in asked) asked.opts.now counts }
+    requires counts { IsSummary (log_in subject) (keys_in subject) subject.opts.now counts }
     requires unwanted { wanted.history ≡ false }
     ensures none { IfOk result (λ found. found.fault ≡ None) }
-    ensures text { IfOk result (λ found. IsPassed (log_in asked.entry) (shown_in asked.entry.printer)
-        (keys_in asked.entry) asked.entry.opts.now wanted (string_bytes found.text)) }
+    ensures text { IfOk result (λ found. IsPassed (log_in subject.entry) (shown_in subject.entry.printer)
+        (keys_in subject.entry) subject.entry.opts.now wanted (string_bytes found.text)) }
 {
     let mut text = String::new(alloc);
-    push_head(&mut text, asked, counts, wanted.json)?;
+    push_head(&mut text, subject, counts, wanted.json)?;
     Ok(Judgement { fault: None, text })
 }
 
 /// The same, with an order that explains the lines.
 pub(crate) fn explained(
     alloc: Global,
-    asked: Asked<'_>,
+    subject: Subject<'_>,
     order: &Order,
     wanted: Wanted,
 ) -> Result<Judgement, AllocError>
-    requires keys { HasKeys asked }
-    requires order { HasOrders (log_in asked) (keys_in asked) asked.opts.now order.now }
+    requires keys { HasKeys subject }
+    requires order { HasOrders (log_in subject) (keys_in subject) subject.opts.now order.now }
     requires wanted { wanted.history ≡ true }
     ensures none { IfOk result (λ found. found.fault ≡ None) }
-    ensures text { IfOk result (λ found. IsPassed (log_in asked.entry) (shown_in asked.entry.printer)
-        (keys_in asked.entry) asked.entry.opts.now wanted (string_bytes found.text)) }
+    ensures text { IfOk result (λ found. IsPassed (log_in subject.entry) (shown_in subject.entry.printer)
+        (keys_in subject.entry) subject.entry.opts.now wanted (string_bytes found.text)) }
 {
-    let counts = summary(alloc, asked.printer.log, asked.keys, asked.opts)?;
+    let counts = summary(alloc, subject.printer.log, subject.keys, subject.opts)?;
     let mut text = String::new(alloc);
-    push_explained(&mut text, asked, counts, order, wanted.json)?;
+    push_explained(&mut text, subject, counts, order, wanted.json)?;
     Ok(Judgement { fault: None, text })
 }
 
 /// Writes how much a verdict stands on, behind the line of a verdict or in front of its object.
 fn push_explained(
     out: &mut String,
-    asked: Asked<'_>,
+    subject: Subject<'_>,
     counts: Summary,
     order: &Order,
     json: bool,
 ) -> Result<(), AllocError>
-    ensures { let it = shown_in asked.entry.printer in OnOk result (string_bytes out.new
+    ensures { let it = shown_in subject.entry.printer in OnOk result (string_bytes out.new
         ≡ string_bytes out.old ++ passed_text json
-        (head_text json it (keys_in asked.entry) asked.entry.opts.now counts)
+        (head_text json it (keys_in subject.entry) subject.entry.opts.now counts)
         (order_text json it order.now)) }
 {
     if json {
-        asked.printer.push_order(out, true, order)?;
-        push_head(out, asked, counts, true)
+        subject.printer.push_order(out, true, order)?;
+        push_head(out, subject, counts, true)
     } else {
-        push_head(out, asked, counts, false)?;
-        asked.printer.push_order(out, false, order)
+        push_head(out, subject, counts, false)?;
+        subject.printer.push_order(out, false, order)
     }
 }
 
 /// Writes how much a verdict stands on.
 fn push_head(
     out: &mut String,
-    asked: Asked<'_>,
+    subject: Subject<'_>,
     counts: Summary,
     json: bool,
 ) -> Result<(), AllocError>
     ensures { OnOk result (string_bytes out.new ≡ string_bytes out.old ++ head_text json
-        (shown_in asked.entry.printer) (keys_in asked.entry) asked.entry.opts.now counts) }
+        (shown_in subject.entry.printer) (keys_in subject.entry) subject.entry.opts.now counts) }
 {
     if json {
-        push_total_line(out, asked, counts, true)?;
+        push_total_line(out, subject, counts, true)?;
         KindCounts::new().push_line(out, true)
     } else {
         push_line(out, "audit ok", &summary_figures(counts))
@@ -103,21 +103,21 @@ fn push_head(
 #[tactic(auto, using(crate::proofs::NamedMembers::named_beside))]
 pub(crate) fn push_total_line(
     out: &mut String,
-    asked: Asked<'_>,
+    subject: Subject<'_>,
     counts: Summary,
     json: bool,
 ) -> Result<(), AllocError>
     ensures { OnOk result (string_bytes out.new ≡ string_bytes out.old ++ line (total_line json
-        (shown_in asked.entry.printer) (keys_in asked.entry) asked.entry.opts.now counts)) }
+        (shown_in subject.entry.printer) (keys_in subject.entry) subject.entry.opts.now counts)) }
 {
     let figures = summary_figures(counts);
     if json {
         let arguments = [
-            Figure("complete", asked.opts.complete),
-            Figure("margin", Some(asked.opts.margin)),
+            Figure("complete", subject.opts.complete),
+            Figure("margin", Some(subject.opts.margin)),
         ];
-        let by_key = asked.keys.is_some();
-        push_total_object(out, &figures, &arguments, by_key, asked.printer.beside)
+        let by_key = subject.keys.is_some();
+        push_total_object(out, &figures, &arguments, by_key, subject.printer.beside)
     } else {
         push_line(out, "audit total", &figures)
     }
@@ -227,11 +227,11 @@ impl Printer<'_> {
         if json {
             write!(out, "{{")?;
             push_figures(out, true, &figures)?;
-            self.push_step_field(out, step.line)?;
+            self.push_step_field(out, step.place)?;
             writeln!(out, "{key},\"shared\":{}}}", step.shared)
         } else {
             push_figures(out, false, &figures)?;
-            self.push_whose_step(out, key, step.line)?;
+            self.push_whose_step(out, key, step.place)?;
             if step.shared {
                 writeln!(out, " shared")
             } else {
@@ -241,11 +241,11 @@ impl Printer<'_> {
     }
 
     /// Writes the line whose step it is; null for others.
-    fn push_step_field(self, out: &mut String, line: Option<u32>) -> Result<(), AllocError>
+    fn push_step_field(self, out: &mut String, place: Option<u32>) -> Result<(), AllocError>
         ensures { OnOk result (string_bytes out.new
-            ≡ string_bytes out.old ++ step_field (shown_in self.entry) line) }
+            ≡ string_bytes out.old ++ step_field (shown_in self.entry) place) }
     {
-        match line {
+        match place {
             Some(place) => {
                 write!(out, ",\"at\":")?;
                 self.push_line_object(out, place)
@@ -254,21 +254,21 @@ impl Printer<'_> {
         }
     }
 
-    /// Writes whose a step is: of a line, by number, with its client, or of callers who logged
+    /// Writes whose a step is: of which line, with its client, or of callers who logged
     /// nothing, with the key.
     fn push_whose_step(
         self,
         out: &mut String,
         key: &str,
-        line: Option<u32>,
+        place: Option<u32>,
     ) -> Result<(), AllocError>
         ensures { OnOk result (string_bytes out.new
-            ≡ string_bytes out.old ++ step_owner (shown_in self.entry) key.now line) }
+            ≡ string_bytes out.old ++ step_owner (shown_in self.entry) key.now place) }
     {
-        match line {
+        match place {
             Some(place) => {
                 write!(out, " ")?;
-                self.push_number(out, place)?;
+                self.push_line_text(out, place)?;
                 self.push_client_or(out, " client ", self.line(place).client, "")?;
                 self.push_members(out, place)
             }

@@ -55,8 +55,8 @@ impl Taking {
     ghost use Rattle.fdb_audit.specs.private.Followed.{AreTaken, NotesLine, counted_line};
     ghost use Rattle.fdb_audit.specs.private.Followed.{noted, odd_text};
 
-    /// No line has been taken; those of these numbers come first. It fails only where memory is
-    /// refused.
+    /// No line has been taken; those that were kept of others come first. It fails only where
+    /// memory is refused.
     pub(crate) fn new(
         alloc: Global,
         margin: u64,
@@ -127,7 +127,7 @@ impl Taking {
         requires timed { All (λ read. IfOk read IsTimed) lines.items }
         ensures taken { OnOk result ((behind : ℕ) → (kept : KeptSaid)
             → kept.told ≡ told → kept.settled ≡ settled
-            → AreTaken (start_with behind kept.numbers) self.old [] []
+            → AreTaken (start_with behind kept.front) self.old [] []
             → let read = map said_in lines.items in
             let start = start_from behind self.old.watch.margin kept read in
             AreTaken start self.new read start.told × HasWarned start self.new read []) }
@@ -158,7 +158,7 @@ impl Taking {
         ensures from { self.new.watch.from ≡ self.old.watch.from }
         ensures margin { self.new.watch.margin ≡ self.old.watch.margin }
     {
-        // No more lines are read than have numbers.
+        // No more lines are read than can be counted.
         if self.line_count() >= u64::MAX - 1 {
             return Err(AllocError);
         }
@@ -289,15 +289,19 @@ impl Taking {
         self.unsettled.add(line.began());
         self.kept = self.kept.saturating_add(1);
         self.taken += 1;
-        let number = self.line_count();
-        self.counts.add(line, from, Came { number, is_judged });
+        let its_line = self.line_count();
+        let came = Came {
+            line: its_line,
+            is_judged,
+        };
+        self.counts.add(line, from, came);
         self.counts.add_ahead(ahead_by > 0);
-        self.warn(number, from.saturating_sub(line.began()), ahead_by)?;
+        self.warn(its_line, from.saturating_sub(line.began()), ahead_by)?;
         Ok(())
     }
 
-    /// Says that the line of a number came so long before what had been settled, and is so far ahead,
-    /// where it is, and the number of such lines has doubled.
+    /// Says that a line came so long before what had been settled, and is so far ahead, where it
+    /// is, and the number of such lines has doubled.
     fn warn(&mut self, line: u64, early_by: u64, ahead_by: u64) -> Result<(), AllocError>
         ensures warnings { OnOk result (string_bytes self.new.warnings ≡ odd_text
             (counted_line line early_by self.old.counts.early)

@@ -14,7 +14,7 @@ ghost use Rattle.fdb_log_reader.specs.ReadLine.{SaidLine};
 ghost use Rattle.fdb_log_reader.specs.Printed.{printed};
 ghost use Rattle.fdb_log_reader.specs.declared.error.Why.{Why};
 ghost use Rattle.fdb_audit.specs.Following.{keys_taken, lines_taken, told_text, total_head, IsEnd};
-ghost use Rattle.fdb_audit.specs.Following.{KeptNumbers};
+ghost use Rattle.fdb_audit.specs.Following.{KeptBefore};
 ghost use Rattle.fdb_audit.specs.Text.{fault_of};
 ghost use Rattle.fdb_audit.specs.ToldFaults.{told_at, ToldFault};
 ghost use Rattle.fdb_audit.specs.private.{members_of, shown_in};
@@ -55,8 +55,8 @@ pub struct Followed {
     pub found: Option<LogFault>,
     /// The last line that was refused, if one was. Where the log had no line, it is [`Why::Empty`].
     pub refused: Option<ReadError>,
-    /// The number, counted from 1, of the last line that had begun before what was settled when it
-    /// came, if there is one: then not all of the log was judged.
+    /// The last line, counted from 1, that had begun before what was settled when it came, if there
+    /// is one: then not all of the log was judged.
     pub last_early: Option<u64>,
 }
 
@@ -124,7 +124,7 @@ impl Teller {
         taking: &Taking,
         told: &[SettledKey],
     ) -> Result<(), AllocError>
-        ensures { OnOk result ((kept : KeptNumbers) → (read : List (Result SaidLine Why))
+        ensures { OnOk result ((kept : KeptBefore) → (read : List (Result SaidLine Why))
             → (to : Option ℕ) → (parts : List KeyPart) → (margin : ℕ)
             → AreNumbered kept taking.now read → All (λ part. part.watch.margin ≡ margin) parts
             → AreTold to (lines_taken read) (keys_taken read) parts told.now
@@ -147,7 +147,7 @@ impl Teller {
         taking: &Taking,
         entry: &SettledKey,
     ) -> Result<(), AllocError>
-        ensures { OnOk result ((kept : KeptNumbers) → (read : List (Result SaidLine Why))
+        ensures { OnOk result ((kept : KeptBefore) → (read : List (Result SaidLine Why))
             → (to : Option ℕ) → (part : KeyPart) → (margin : ℕ)
             → AreNumbered kept taking.now read → (part.watch.margin ≡ margin)
             → IsToldOf to (lines_taken read) (keys_taken read) entry.now part
@@ -155,14 +155,14 @@ impl Teller {
             (told_by entry.now)) }
     {
         let settled = &entry.settled;
-        let numbers = taking.numbering.numbers(alloc, settled)?;
+        let own = taking.numbering.lines_at(alloc, &settled.numbers)?;
         let mut beside = Vec::new(alloc);
         self.add_key(alloc, reader, entry, &mut beside)?;
         taking.rows.add_beside(alloc, settled, &mut beside)?;
         let printer = Printer {
             log: &settled.log,
             names: ClientNames::OfLog(reader.names()),
-            numbers: &numbers,
+            own: &own,
             beside: &beside,
         };
         self.add(alloc, printer, &settled.found)?;
@@ -206,7 +206,7 @@ impl Teller {
         ensures text { OnOk result (string_bytes self.new.text ≡ string_bytes self.old.text
             ++ told_text self.old.wanted (shown_in printer.entry) found.now) }
         ensures first { OnOk result (self.new.first ≡ option_or self.old.first (option_map
-            (λ finding. fault_of (shown_in printer.entry).numbers (found_of finding))
+            (λ finding. fault_of (shown_in printer.entry).own (found_of finding))
             (slice_get found.now 0))) }
         ensures counts { let it = shown_in printer.entry in OnOk result (CountsOn self.old self.new
             (map (λ finding. told_at it.lines it.names it.beside finding.found) found.now)) }

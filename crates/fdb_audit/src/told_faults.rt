@@ -8,7 +8,7 @@ ghost use Rattle.std.specs.Str.{bytes_eq};
 ghost use Rattle.fdb_log_reader.specs.Numbers.{number_in};
 ghost use Rattle.fdb_audit.specs.Groups.{client_name, AreMost};
 ghost use Rattle.fdb_audit.specs.ToldFaults.{by_text, client_of, text_of, told_at, AreMostByText};
-ghost use Rattle.fdb_audit.specs.ToldFaults.{AreTotals, ToldFault, with_text};
+ghost use Rattle.fdb_audit.specs.ToldFaults.{AreTotalsTold, ToldFault, with_text};
 ghost use Rattle.fdb_audit.specs.private.{members_of, shown_in, beside_in};
 ghost use Rattle.fdb_audit.specs.private.Followed.{HasCounted};
 ghost use Rattle.fdb_audit.specs.Tallied.{HasTexts, HasTextsIn, texts_in, AreNumbered};
@@ -68,7 +68,7 @@ impl ToldFaults {
             → HasCounted members self.new (told ++ told_at it.lines it.names it.beside found ∷ [])) }
     {
         self.kinds.add(found.fault)?;
-        let client = printer.client(alloc, found.line)?;
+        let client = printer.client(alloc, found.place)?;
         self.clients.add(alloc, client.as_deref(), found.fault)?;
         add_texts(alloc, &mut self.texts, printer, found)
     }
@@ -77,7 +77,7 @@ impl ToldFaults {
     pub(crate) fn push(&self, alloc: Global, out: &mut String, json: bool) -> Result<(), AllocError>
         ensures { OnOk result ((members : List (List ℕ)) → (told : List ToldFault)
             → HasCounted members self.now told → (totals : List ℕ)
-            × AreTotals json members told totals
+            × AreTotalsTold json members told totals
             × (string_bytes out.new ≡ string_bytes out.old ++ totals)) }
     {
         self.kinds.push_line(out, json)?;
@@ -102,7 +102,7 @@ fn push_clients(
     let printer = Printer {
         log: &none,
         names: ClientNames::Texts(&clients.texts),
-        numbers: &[],
+        own: &[],
         beside: &[],
     };
     By::Client(printer).push_tally(alloc, out, json, &clients.tally, clients.more)
@@ -173,7 +173,7 @@ fn text_at<'a>(printer: Printer<'a>, member: usize, found: Found) -> Option<&'a 
     ensures { let it = shown_in printer.entry in option_map (λ text. text.now) result
         ≡ text_of member (told_at it.lines it.names it.beside found) }
 {
-    printer.beside.get(member)?.text(found.line)
+    printer.beside.get(member)?.text(found.place)
 }
 
 /// Of so many clients, and of so many texts of a member, faults are counted.

@@ -210,16 +210,16 @@ abbrev pub means_by : Option Witness → ℕ
 means_by None = FDB_MEANS_START
 means_by (Some by) = number_of_means by.means
 
--- the line that let it be known, or 0
-abbrev pub line_by : Option Witness → ℕ
-line_by None = 0
-line_by (Some by) = by.line
+-- the place of the line that let it be known, or 0
+abbrev pub place_by : Option Witness → ℕ
+place_by None = 0
+place_by (Some by) = by.place
 
--- the line by which the client had learnt of that, or 0
+-- the place of the line by which the client had learnt of that, or 0
 abbrev pub teller_in : Means → ℕ
 teller_in means.Ended = 0
 teller_in means.Own = 0
-teller_in (means.Learnt line) = line
+teller_in (means.Learnt place) = place
 
 abbrev pub learnt_by : Option Witness → ℕ
 learnt_by None = 0
@@ -230,7 +230,7 @@ abbrev pub plain : Finding → ℕ → ℕ → FdbFault
 plain finding why other = record {
   known = 0;
   late = 0;
-  line = finding.found.line;
+  place = finding.found.place;
   other = other;
   by = 0;
   learnt = 0;
@@ -246,9 +246,9 @@ abbrev pub knowing : Finding → ℕ → ℕ → ℕ → Option Witness → FdbF
 knowing finding why other version by = record {
   known = version;
   late = 0;
-  line = finding.found.line;
+  place = finding.found.place;
   other = other;
-  by = line_by by;
+  by = place_by by;
   learnt = learnt_by by;
   first = 0;
   kind = number_of_fault finding.found.fault;
@@ -268,7 +268,7 @@ told_with finding reason.Undrawn = plain finding FDB_REASON_UNDRAWN 0
 -- with how late the call was, where a line of another call outdates it
 abbrev pub with_late : FdbFault → Option Late → FdbFault
 with_late fault None = fault
-with_late fault (Some it) = record fault { late = it.by; first = it.line; has_late = true }
+with_late fault (Some it) = record fault { late = it.by; first = it.place; has_late = true }
 
 -- A fault, as C is told of it.
 abbrev pub told : Finding → FdbFault

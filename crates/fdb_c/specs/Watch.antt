@@ -98,8 +98,8 @@ pub record HasTold (watch : Watch) : Type 0 where
   pub follower : Follower
   pub followed : HasFollowed arguments (start_in arguments watch) follower watch.bytes watch.told
 
--- It was told of all of them, where the log ends there, with this first fault, and the last line that came early has this number,
--- if one did.
+-- It was told of all of them, where the log ends there, with this first fault, and the last line that came early, if one
+-- did.
 pub record HasToldAll (watch : Watch) (first : Option LogFault) (last_early : Option ℕ) : Type 0 where
   pub arguments : AuditArguments
   pub are : asked_in arguments ≡ watch.asked
@@ -125,7 +125,7 @@ pub record HasLeftOut (watch : Watch) (error : ReadError) : Type 0 where
 
 -- The last line that came early, as C is told of it where not all was judged.
 abbrev pub unjudged_at : ℕ → FdbRefused
-unjudged_at number = record { line = number; member = 0 }
+unjudged_at line = record { line = line; member = 0 }
 
 -- ---- what it keeps, and how much has come
 
@@ -135,7 +135,7 @@ pub record IsKeptOf (asked : Asked) (behind : ℕ) (from : Option (List ℕ)) (b
   pub are : asked_in arguments ≡ asked
   pub follower : Follower
   pub followed : HasFollowed arguments (started arguments behind from) follower bytes told
-  pub keeps : Keeps (option_map string_bytes arguments.key) (line_names follower.reader) (started arguments behind from).numbers
+  pub keeps : Keeps (option_map string_bytes arguments.key) (line_names follower.reader) (started arguments behind from).kept
       follower.taking followed.read kept
 
 abbrev pub IsKept : Watch → List ℕ → Type 0
@@ -205,7 +205,7 @@ pub record IsWatchEnded (before after : Watch) (status : ℕ) : Type 0 where
 pub record IsWatchVerdict (watch : Watch) (refused : FdbRefused) (status : ℕ) : Type 0 where
   pub ok : status ≡ FDB_OK → HasToldAll watch None None × HasTakenAll watch
   pub unjudged : status ≡ FDB_UNJUDGED
-      → HasTakenAll watch × (number : ℕ) × HasToldAll watch None (Some number) × (refused ≡ unjudged_at number)
+      → HasTakenAll watch × (line : ℕ) × HasToldAll watch None (Some line) × (refused ≡ unjudged_at line)
   pub fault : status ≡ FDB_FAULT → HasToldFault watch
   pub left_out : IsRefusal status → status ≢ FDB_OVER
       → (last_early : Option ℕ) × HasToldAll watch None last_early × IsToldWhy (HasLeftOut watch) refused status

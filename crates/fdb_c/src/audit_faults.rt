@@ -1,7 +1,7 @@
 //! Faults as C is told of them, each with why it stands and how late it was.
 
 ghost use Rattle.std.specs.Prelude.{◌≡◌};
-ghost use Rattle.fdb_c.specs.Audit.{knowing, learnt_by, line_by, means_by, number_of_fault};
+ghost use Rattle.fdb_c.specs.Audit.{knowing, learnt_by, means_by, number_of_fault, place_by};
 ghost use Rattle.fdb_c.specs.Audit.{plain, told, told_with, with_late};
 
 use fdb_lines::{Fault, Finding, Late, Means, Reason, Witness};
@@ -49,7 +49,8 @@ pub const FDB_MEANS_OWN: u8 = 3;
 /// The version was known by a line of which the client that knew it had learnt.
 pub const FDB_MEANS_LEARNT: u8 = 4;
 
-/// A fault, and why it stands. Lines are counted from 0; what has no meaning is 0.
+/// A fault, and why it stands. Lines are told by their places, counted from 0; what has no meaning
+/// is 0.
 #[repr(C)]
 #[derive(Clone, Copy)]
 pub struct FdbFault {
@@ -57,8 +58,8 @@ pub struct FdbFault {
     pub known: u64,
     /// By how much the call was late, in the unit of the log's times, where `has_late` holds.
     pub late: u64,
-    /// The line at which it stands.
-    pub line: u32,
+    /// The place of the line at which it stands.
+    pub place: u32,
     /// The first line that reports the version, or the line that drew it.
     pub other: u32,
     /// The line that let a version be known.
@@ -105,24 +106,24 @@ fn means_by(by: Option<Witness>) -> u8
     }
 }
 
-/// The line that let a version be known.
-fn line_by(by: Option<Witness>) -> u32
-    ensures { result ≡ line_by by }
+/// The place of the line that let a version be known.
+fn place_by(by: Option<Witness>) -> u32
+    ensures { result ≡ place_by by }
 {
     match by {
         None => 0,
-        Some(by) => by.line,
+        Some(by) => by.place,
     }
 }
 
-/// The line by which the client had learnt of that one.
+/// The place of the line by which the client had learnt of that one.
 fn learnt_by(by: Option<Witness>) -> u32
     ensures { result ≡ learnt_by by }
 {
     match by {
         None => 0,
         Some(by) => match by.means {
-            Means::Learnt(line) => line,
+            Means::Learnt(place) => place,
             _ => 0,
         },
     }
@@ -135,7 +136,7 @@ fn plain(finding: Finding, reason: u8, other: u32) -> FdbFault
     FdbFault {
         known: 0,
         late: 0,
-        line: finding.found.line,
+        place: finding.found.place,
         other,
         by: 0,
         learnt: 0,
@@ -154,9 +155,9 @@ fn knowing(finding: Finding, reason: u8, other: u32, version: u64, by: Option<Wi
     FdbFault {
         known: version,
         late: 0,
-        line: finding.found.line,
+        place: finding.found.place,
         other,
-        by: line_by(by),
+        by: place_by(by),
         learnt: learnt_by(by),
         first: 0,
         kind: number_of_fault(finding.found.fault),
@@ -172,9 +173,9 @@ fn with_late(fault: FdbFault, late: Option<Late>) -> FdbFault
 {
     match late {
         None => fault,
-        Some(Late { line, by }) => FdbFault {
+        Some(Late { place, by }) => FdbFault {
             late: by,
-            first: line,
+            first: place,
             has_late: true,
             ..fault
         },
@@ -195,10 +196,10 @@ fn told_with(finding: Finding) -> FdbFault
     match finding.reason {
         Reason::Known { version, by } => knowing(finding, FDB_REASON_KNOWN, 0, version, by),
         Reason::Unreported => plain(finding, FDB_REASON_UNREPORTED, 0),
-        Reason::Reported { line, version, by } => {
-            knowing(finding, FDB_REASON_REPORTED, line, version, by)
+        Reason::Reported { place, version, by } => {
+            knowing(finding, FDB_REASON_REPORTED, place, version, by)
         }
-        Reason::Drawn { line } => plain(finding, FDB_REASON_DRAWN, line),
+        Reason::Drawn { place } => plain(finding, FDB_REASON_DRAWN, place),
         Reason::Undrawn => plain(finding, FDB_REASON_UNDRAWN, 0),
     }
 }

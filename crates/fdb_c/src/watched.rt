@@ -265,7 +265,7 @@ fn let_go(held: &mut Option<String>)
 }
 
 /// The verdict of a log that was watched, or why the last line was refused that was, or that lines
-/// came early, the last of them with this number: a fault goes first, and a refusal second.
+/// came early, and which was the last of them: a fault goes first, and a refusal second.
 fn status_at_end(
     found: Option<LogFault>,
     left_out: Option<ReadError>,
@@ -275,7 +275,7 @@ fn status_at_end(
     ensures ok { (result ≡ FDB_OK) → (found ≡ None) × (left_out ≡ None) × (last_early ≡ None) }
     ensures fault { (result ≡ FDB_FAULT) → (first : LogFault) × (found ≡ Some first) }
     ensures unjudged { (result ≡ FDB_UNJUDGED) → (found ≡ None) × (left_out ≡ None)
-        × (number : ℕ) × (last_early ≡ Some number) × (refused.new ≡ unjudged_at number) }
+        × (line : ℕ) × (last_early ≡ Some line) × (refused.new ≡ unjudged_at line) }
     ensures refused { IsRefusal result → (found ≡ None)
         × IsToldWhy (λ error. left_out ≡ Some error) refused.new result }
     ensures untold { ¬ (IsRefusal result ⊎ (result ≡ FDB_UNJUDGED))

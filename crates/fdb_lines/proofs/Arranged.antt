@@ -186,7 +186,7 @@ module _ (c : Case) (ranked : IsRanked c (slot_rank c.lines)) (none : IsFaultles
   -- the item at which a step stands is that of its slot
   each : (i : ℕ) (step : OrderStep) → slice_get (steps_from None slots) i ≡ Some step
       → (m : ℕ) × IsStepAt (steps_from None slots) i m × Happens (effects_of (steps_from None slots)) m step.effect
-      × IfSome step.line (λ k. (k < length c.lines) × IsMoment c asked took k m)
+      × IfSome step.place (λ k. (k < length c.lines) × IsMoment c asked took k m)
   each i step h =
       let it = stepped_at slots i step h in
       let m = it.0 in
@@ -196,7 +196,7 @@ module _ (c : Case) (ranked : IsRanked c (slot_rank c.lines)) (none : IsFaultles
       let first = slice_get-map item_of (dedup is_one slots) m ∙ ap (option_map item_of) is.at in
       let same = same_items c (slot_rank c.lines) ranked x (item_of is.first) needs.0 (origins _ (in_at items m _ first)) (one_same is.slot is.first is.one) in
       let at : slice_get items m ≡ Some x = first ∙ ap Some (sym same) in
-      (m, it.1, ap (λ h. slice_get h m) (stepped_effects slots) ∙ (effect_at items m x at ∙ ap Some is.effect), of step.line m x at (subst (IsOwn c x) is.line needs.1))
+      (m, it.1, ap (λ h. slice_get h m) (stepped_effects slots) ∙ (effect_at items m x at ∙ ap Some is.effect), of step.place m x at (subst (IsOwn c x) is.place needs.1))
     where
       of : (line : Option ℕ) (m : ℕ) (x : Item) → slice_get items m ≡ Some x → IsOwn c x line
           → IfSome line (λ k. (k < length c.lines) × IsMoment c asked took k m)
@@ -206,7 +206,7 @@ module _ (c : Case) (ranked : IsRanked c (slot_rank c.lines)) (none : IsFaultles
   -- a step with the effect of a moment of its line stands there
   stands : (k m : ℕ) (effect : Effect) → k < length c.lines → IsMoment c asked took k m → Happens (effects_of (steps_from None slots)) m effect
       → HasOrderStep (steps_from None slots) k effect
-      → (i : ℕ) × (step : OrderStep) × (slice_get (steps_from None slots) i ≡ Some step) × (step.line ≡ Some k) × IsStepAt (steps_from None slots) i m
+      → (i : ℕ) × (step : OrderStep) × (slice_get (steps_from None slots) i ≡ Some step) × (step.place ≡ Some k) × IsStepAt (steps_from None slots) i m
   stands k m effect lt is happens has =
       let it = each has.0 has.1 has.2 in
       let own = MatchOption-at_some (Unit {0}) (λ k. (k < length c.lines) × IsMoment c asked took k it.0) k has.3 it.3 in
@@ -214,7 +214,7 @@ module _ (c : Case) (ranked : IsRanked c (slot_rank c.lines)) (none : IsFaultles
       (has.0, has.1, has.2, has.3, it.1 ∙ ap suc same)
 
   at_all : (k m : ℕ) → k < length c.lines → IsMoment c asked took k m
-      → (i : ℕ) × (step : OrderStep) × (slice_get (steps_from None slots) i ≡ Some step) × (step.line ≡ Some k) × IsStepAt (steps_from None slots) i m
+      → (i : ℕ) × (step : OrderStep) × (slice_get (steps_from None slots) i ≡ Some step) × (step.place ≡ Some k) × IsStepAt (steps_from None slots) i m
   at_all k m lt (inl asks) =
       stands k m (Asks (version_at c k)) lt (inl asks) (ap (slice_get _) asks.1 ∙ explain.explains.asks k lt asks.0)
       ((found k _ lt (has_ask c k (asks_drawn c k asks.0))).1 (ap (λ b. cond b (Some k) None) asks.0))

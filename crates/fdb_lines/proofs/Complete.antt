@@ -27,13 +27,13 @@ module _ (c : Case) (rank : ℕ → ℕ) where
         rises = all.rises;
         from = λ z i.
             let is = all.from z i in
-            let here : IsItemOf c rank k z → IsItemBelow c rank (suc k) z = λ is. record { line = k; there = omega arith; item = is } in
-            let before : IsItemBelow c rank k z → IsItemBelow c rank (suc k) z = λ is. record { line = is.line; there = omega (arith, is.there); item = is.item } in
+            let here : IsItemOf c rank k z → IsItemBelow c rank (suc k) z = λ is. record { place = k; there = omega arith; item = is } in
+            let before : IsItemBelow c rank k z → IsItemBelow c rank (suc k) z = λ is. record { place = is.place; there = omega (arith, is.there); item = is.item } in
             grind arith;
         keyed = λ z is.
             let find = all.keyed z in
-            let here = λ (same : is.line ≡ k). subst (λ j. IsItemOf c rank j z) same is.item in
-            let before : is.line < k → IsItemBelow c rank k z = λ lt. record { line = is.line; there = lt; item = is.item } in
+            let here = λ (same : is.place ≡ k). subst (λ j. IsItemOf c rank j z) same is.item in
+            let before : is.place < k → IsItemBelow c rank k z = λ lt. record { place = is.place; there = lt; item = is.item } in
             grind arith;
       }
 
@@ -48,7 +48,7 @@ module _ (c : Case) (rank : ℕ → ℕ) where
         origins = s.from;
         asks = λ k lk need. has _ (Asked k lk need refl);
         takes = λ k lk shown. has _ (origin_take c rank k lk shown);
-        reports = λ k lk need. has _ (record { line = k; there = lk; item = inr (inr (need, refl)) });
+        reports = λ k lk need. has _ (record { place = k; there = lk; item = inr (inr (need, refl)) });
       }
 
 -- ---- what comes before comes before, and no two lines have one effect, unless they are commits
@@ -87,13 +87,13 @@ unreported c none k lk need =
 whose : (c : Case) (rank : ℕ → ℕ) → IsFaultless c → (x : Item) (p : Origin c rank x)
     → ((k : ℕ) × (k < length c.lines) × IsEffectOf c rank k x) ⊎ ((c.complete ≡ false) × OthersMay c x.effect)
 whose c rank none x p = elim p.item [
-  | inl ask ↦ elim (asked_above c none p.line p.there ask.0).1 [
-    | inl drawn ↦ let some = some_find (draws_it c (version_at c p.line)) (length c.lines) drawn in inl (some.0, some.1, inl (grind (arith, nat_tests)))
+  | inl ask ↦ elim (asked_above c none p.place p.there ask.0).1 [
+    | inl drawn ↦ let some = some_find (draws_it c (version_at c p.place)) (length c.lines) drawn in inl (some.0, some.1, inl (grind (arith, nat_tests)))
     | inr part ↦ inr (part, subst (λ z. OthersMay c z.effect) (sym ask.1) tt)
   ]
   | inr own ↦ elim own [
-    | inl take ↦ inl (p.line, p.there, inr take)
-    | inr report ↦ inr (subst (λ z. (c.complete ≡ false) × OthersMay c z.effect) (sym report.1) (unreported c none p.line p.there report.0))
+    | inl take ↦ inl (p.place, p.there, inr take)
+    | inr report ↦ inr (subst (λ z. (c.complete ≡ false) × OthersMay c z.effect) (sym report.1) (unreported c none p.place p.there report.0))
   ]
 ]
 

@@ -80,8 +80,8 @@ module _ (log : Lines) (keys : List (Option ℕ)) (opts : AuditOpts) (q : Option
 
   apart_at : (places : List ℕ) → at_key keys q (faults_apart log keys opts places) ≡ found_at (its keys places q)
   apart_at places =
-      filter_mapped (λ (one : Found). option_eq ◌==◌ (key_at keys one.line) q) (placed_found places) found
-      ∙ (ap (map (placed_found places)) (filter_same (λ (one : Found). option_eq ◌==◌ (key_at keys (slice_index places one.line)) q) (λ (one : Found). option_eq ◌==◌ (key_at part_keys one.line) q) found
+      filter_mapped (λ (one : Found). option_eq ◌==◌ (key_at keys one.place) q) (placed_found places) found
+      ∙ (ap (map (placed_found places)) (filter_same (λ (one : Found). option_eq ◌==◌ (key_at keys (slice_index places one.place)) q) (λ (one : Found). option_eq ◌==◌ (key_at part_keys one.place) q) found
       (λ k d lt.
       let inside = at_lines part part_keys opts (length part.lines) k d lt in
       ap (λ key. option_eq ◌==◌ key q) (sym (get_or-map (key_at keys) places _ 0 None (omega (arith, inside, size)))))
@@ -125,7 +125,7 @@ module _ (log : Lines) (keys : List (Option ℕ)) (opts : AuditOpts) (q : Option
 
     more : (n : ℕ) → at_key keys q (faults_by_part log keys opts rule (suc n))
         ≡ at_key keys q (faults_by_part log keys opts rule n) ++ at_key keys q (faults_apart log keys opts (places_in rule keys n))
-    more n = filter-append (λ (found : Found). option_eq ◌==◌ (key_at keys found.line) q) (faults_by_part log keys opts rule n) (faults_apart log keys opts (places_in rule keys n))
+    more n = filter-append (λ (found : Found). option_eq ◌==◌ (key_at keys found.place) q) (faults_by_part log keys opts rule n) (faults_apart log keys opts (places_in rule keys n))
 
     none_before : (n : ℕ) → n ≤ rule q → at_key keys q (faults_by_part log keys opts rule n) ≡ []
     none_before zero le = refl
@@ -146,5 +146,5 @@ pub divided : (log : Lines) (keys : List (Option ℕ)) (opts : AuditOpts) (rule 
     → ((key : Option ℕ) → rule key < parts) → IsPermutation (faults_by_part log keys opts rule parts) (faults_by_key log keys opts)
 divided log keys opts rule parts as_many below =
     let them = faults_by_part log keys opts rule parts in
-    permuted_by_key (λ (found : Found). key_at keys found.line) (length them) them (faults_by_key log keys opts) (omega arith) (λ q.
+    permuted_by_key (λ (found : Found). key_at keys found.place) (length them) them (faults_by_key log keys opts) (omega arith) (λ q.
     subst (IsPermutation (at_key keys q them)) (all_behind log keys opts q rule as_many parts (below q)) (IsPermutation-refl (at_key keys q them)))

@@ -32,16 +32,16 @@ use Rattle.fdb_lines.proofs.Windows.{told_after, told_before}
 
 -- ---- what there is to tell is of lines that are there
 
-pub told_there : (margin : ℕ) (test : ℕ → Line → Bool) (lines : List Line) → All (λ (found : Found). found.line < length lines) (told_of margin test lines)
+pub told_there : (margin : ℕ) (test : ℕ → Line → Bool) (lines : List Line) → All (λ (found : Found). found.place < length lines) (told_of margin test lines)
 told_there margin test lines =
     let at = λ (k : ℕ). test k (line_at lines k) in
     let c = watched margin lines in
-    subst (All (λ (found : Found). found.line < length lines)) (filtered at c (length lines))
-    (All-weaker (IsToldAt at c (length lines)) (λ (found : Found). found.line < length lines) (λ found is. is.there) (told_below at c (length lines)) (all_told at c (length lines)))
+    subst (All (λ (found : Found). found.place < length lines)) (filtered at c (length lines))
+    (All-weaker (IsToldAt at c (length lines)) (λ (found : Found). found.place < length lines) (λ found is. is.there) (told_below at c (length lines)) (all_told at c (length lines)))
 
-pub none_of_none : (n : ℕ) (found : List Found) → n ≡ 0 → All (λ (one : Found). one.line < n) found → found ≡ []
+pub none_of_none : (n : ℕ) (found : List Found) → n ≡ 0 → All (λ (one : Found). one.place < n) found → found ≡ []
 none_of_none n [] is all = refl
-none_of_none n (one ∷ found) is all = let lt = All-head (λ (one : Found). one.line < n) one found all in absurd (omega (arith, lt, is))
+none_of_none n (one ∷ found) is all = let lt = All-head (λ (one : Found). one.place < n) one found all in absurd (omega (arith, lt, is))
 
 -- ---- in windows
 
@@ -72,7 +72,7 @@ pub window_more : (margin from early since : ℕ) (to : Option ℕ) (lines : Lis
     → IsPermutation (told_of margin (is_due 0 0 0 (Some from)) lines ++ told_of margin (is_due from early since to) lines) (told_of margin (is_due 0 0 0 to) lines)
 window_more margin from early since to lines after timely =
     let all = told_of margin (is_due 0 0 0 to) lines in
-    let before = λ (found : Found). begins_before (Some from) (line_at lines found.line) in
+    let before = λ (found : Found). begins_before (Some from) (line_at lines found.place) in
     let one = told_before margin 0 0 0 from to lines after in
     let same = told_same margin (is_due from early since to) (is_due from early (length lines) to) lines (λ k lt.
     in_time_due (begins_before to (line_at lines k)) from early since (length lines) k (began (line_at lines k)) lt (λ ge. timely k ge lt)) in
@@ -86,8 +86,8 @@ never k line = grind (arith, nat_tests)
 
 pub none_yet : (margin : ℕ) (lines : List Line) → told_of margin (is_due 0 0 0 (Some 0)) lines ≡ []
 none_yet margin lines =
-    none_pass (λ (found : Found). is_watched found.fault && is_due 0 0 0 (Some 0) found.line (line_at lines found.line)) (faults_of (watched margin lines))
-    (λ k d lt. let found = get_or (faults_of (watched margin lines)) k d in not_due (is_watched found.fault) (is_due 0 0 0 (Some 0) found.line (line_at lines found.line)) (never found.line (line_at lines found.line)))
+    none_pass (λ (found : Found). is_watched found.fault && is_due 0 0 0 (Some 0) found.place (line_at lines found.place)) (faults_of (watched margin lines))
+    (λ k d lt. let found = get_or (faults_of (watched margin lines)) k d in not_due (is_watched found.fault) (is_due 0 0 0 (Some 0) found.place (line_at lines found.place)) (never found.place (line_at lines found.place)))
   where
     not_due : (a b : Bool) → b ≡ false → (a && b) ≡ false
     not_due true b is = is
@@ -100,8 +100,8 @@ at_last false k line = refl
 
 pub all_due : (margin : ℕ) (lines : List Line) → filter (λ (found : Found). is_watched found.fault) (faults_of (watched margin lines)) ≡ told_of margin (is_due 0 0 0 None) lines
 all_due margin lines =
-    filter_agree (λ (found : Found). is_watched found.fault) (λ (found : Found). is_watched found.fault && is_due 0 0 0 None found.line (line_at lines found.line))
-    (λ found. at_last (is_watched found.fault) found.line (line_at lines found.line)) (faults_of (watched margin lines))
+    filter_agree (λ (found : Found). is_watched found.fault) (λ (found : Found). is_watched found.fault && is_due 0 0 0 None found.place (line_at lines found.place))
+    (λ found. at_last (is_watched found.fault) found.place (line_at lines found.place)) (faults_of (watched margin lines))
 
 -- ---- what an entry tells
 
@@ -110,9 +110,9 @@ maps_same f g [] same = refl
 maps_same {X} {Y} f g (x ∷ xs) same =
     ap (λ (y : Y). y ∷ map f xs) (All-head (λ x. f x ≡ g x) x xs same) ∙ ap (λ (ys : List Y). g x ∷ ys) (maps_same f g xs (All-tail (λ x. f x ≡ g x) x xs same))
 
-pub placed_twice : (mine numbers : List ℕ) (found : Found) → found.line < length numbers → placed_found (map (slice_index mine) numbers) found ≡ placed_found mine (placed_found numbers found)
+pub placed_twice : (mine numbers : List ℕ) (found : Found) → found.place < length numbers → placed_found (map (slice_index mine) numbers) found ≡ placed_found mine (placed_found numbers found)
 placed_twice mine numbers found lt =
-    ap (λ (line : ℕ). let it : Found = record { line = line; fault = found.fault } in it) (get_or-map (slice_index mine) numbers found.line 0 0 lt)
+    ap (λ (line : ℕ). let it : Found = record { place = line; fault = found.fault } in it) (get_or-map (slice_index mine) numbers found.place 0 0 lt)
 
 -- of lines of its key what there is to tell of them
 entry_told : (to : Option ℕ) (lines : List Line) (keys : List (Option ℕ)) (entry : SettledKey) (part : KeyPart) → IsToldOf to lines keys entry part
@@ -127,14 +127,14 @@ entry_told to lines keys entry part is =
     ∙ (sym (map-map (placed_found mine) (λ (finding : Finding). placed_found numbers (found_of finding)) found) ∙ ap (map (placed_found mine)) is.told.tells.told))
 
 record IsOf (keys : List (Option ℕ)) (key : Option ℕ) (found : Found) : Type 0 where
-  there : found.line < length keys
-  its : key_at keys found.line ≡ key
+  there : found.place < length keys
+  its : key_at keys found.place ≡ key
 
-placed_of : (keys : List (Option ℕ)) (key : Option ℕ) (found : List Found) → All (λ (one : Found). one.line < length (places_of keys key)) found
+placed_of : (keys : List (Option ℕ)) (key : Option ℕ) (found : List Found) → All (λ (one : Found). one.place < length (places_of keys key)) found
     → All (IsOf keys key) (map (placed_found (places_of keys key)) found)
 placed_of keys key found within =
     All-map (IsOf keys key) (placed_found (places_of keys key)) found (λ k d lt.
-    let is = of_key keys key (places_of keys key) refl (get_or found k d).line (within k d lt) in record { there = is.0; its = is.1 })
+    let is = of_key keys key (places_of keys key) refl (get_or found k d).place (within k d lt) in record { there = is.0; its = is.1 })
 
 entry_of : (to : Option ℕ) (lines : List Line) (keys : List (Option ℕ)) (entry : SettledKey) (part : KeyPart) → IsToldOf to lines keys entry part
     → All (IsOf keys entry.key) (told_by entry)
@@ -149,16 +149,16 @@ entry_of to lines keys entry part is =
 -- ---- of a key, what entries tell
 
 all_of_key : (keys : List (Option ℕ)) (key q : Option ℕ) (told : List Found) → All (IsOf keys key) told → option_eq ◌==◌ key q ≡ true → at_key keys q told ≡ told
-all_of_key keys key q told are same = all_pass (λ (found : Found). option_eq ◌==◌ (key_at keys found.line) q) told (λ k d lt. ap (λ key. option_eq ◌==◌ key q) (are k d lt).its ∙ same)
+all_of_key keys key q told are same = all_pass (λ (found : Found). option_eq ◌==◌ (key_at keys found.place) q) told (λ k d lt. ap (λ key. option_eq ◌==◌ key q) (are k d lt).its ∙ same)
 
 none_of_key : (keys : List (Option ℕ)) (key q : Option ℕ) (told : List Found) → All (IsOf keys key) told → option_eq ◌==◌ key q ≡ false → at_key keys q told ≡ []
-none_of_key keys key q told are other = none_pass (λ (found : Found). option_eq ◌==◌ (key_at keys found.line) q) told (λ k d lt. ap (λ key. option_eq ◌==◌ key q) (are k d lt).its ∙ other)
+none_of_key keys key q told are other = none_pass (λ (found : Found). option_eq ◌==◌ (key_at keys found.place) q) told (λ k d lt. ap (λ key. option_eq ◌==◌ key q) (are k d lt).its ∙ other)
 
 abbrev Is_told : List (Option ℕ) → SettledKey → Type 0
 Is_told keys entry = All (IsOf keys entry.key) (told_by entry)
 
 in_two : (keys : List (Option ℕ)) (q : Option ℕ) (one more : List Found) → at_key keys q (one ++ more) ≡ at_key keys q one ++ at_key keys q more
-in_two keys q one more = filter-append (λ (found : Found). option_eq ◌==◌ (key_at keys found.line) q) one more
+in_two keys q one more = filter-append (λ (found : Found). option_eq ◌==◌ (key_at keys found.place) q) one more
 
 others_tell : (keys : List (Option ℕ)) (q : Option ℕ) (entries : List SettledKey) → All (Is_told keys) entries → All (λ (entry : SettledKey). option_eq ◌==◌ entry.key q ≡ false) entries
     → at_key keys q (told_by_all entries) ≡ []
@@ -223,22 +223,22 @@ module _ (lines : List Line) (keys : List (Option ℕ)) (as_many : length keys �
       each_once keys (length keys) i j (omega (arith, size, li)) (omega (arith, size, lj)) (name_at i d li ∙ (same ∙ sym (name_at j d lj)))
 
   -- the key of each line has a part
-  key_there : (found : Found) (d : KeyPart) → found.line < length lines → (i : ℕ) × (i < length parts) × ((get_or parts i d).key ≡ key_at keys found.line)
+  key_there : (found : Found) (d : KeyPart) → found.place < length lines → (i : ℕ) × (i < length parts) × ((get_or parts i d).key ≡ key_at keys found.place)
   key_there found d lt =
       let size = names_size in
-      let has = has_key keys (length keys) found.line (omega (arith, lt, as_many)) in
+      let has = has_key keys (length keys) found.place (omega (arith, lt, as_many)) in
       let within = has.1 in
       let inside : has.0 < length parts = omega (arith, size, within) in
       (has.0, inside, sym (name_at has.0 d inside) ∙ has.2)
 
   -- of a key without a part nothing is told
-  pub nobody_tells : (q : Option ℕ) (d : KeyPart) (told : List Found) → ((i : ℕ) → i < length parts → (get_or parts i d).key ≢ q) → All (λ (found : Found). found.line < length lines) told
+  pub nobody_tells : (q : Option ℕ) (d : KeyPart) (told : List Found) → ((i : ℕ) → i < length parts → (get_or parts i d).key ≢ q) → All (λ (found : Found). found.place < length lines) told
       → at_key keys q told ≡ []
   nobody_tells q d told none came =
-      none_pass (λ (found : Found). option_eq ◌==◌ (key_at keys found.line) q) told (λ k e lt.
+      none_pass (λ (found : Found). option_eq ◌==◌ (key_at keys found.place) q) told (λ k e lt.
       let found = get_or told k e in
       let has = key_there found d (came k e lt) in
-      apart (key_at keys found.line) q (λ is. none has.0 has.1 (has.2 ∙ is)))
+      apart (key_at keys found.place) q (λ is. none has.0 has.1 (has.2 ∙ is)))
 
   module _ (to : Option ℕ) (entries : List SettledKey) (tell : AreTold to lines keys parts entries) where
     are_of : All (Is_told keys) entries
@@ -251,13 +251,13 @@ module _ (lines : List Line) (keys : List (Option ℕ)) (as_many : length keys �
         part_of [] i lt = absurd (omega (arith, lt))
         part_of (part ∷ ps) i lt = part
 
-    came_now : All (λ (found : Found). found.line < length lines) (told_by_all entries)
+    came_now : All (λ (found : Found). found.place < length lines) (told_by_all entries)
     came_now = all_came entries are_of
       where
-        all_came : (es : List SettledKey) → All (Is_told keys) es → All (λ (found : Found). found.line < length lines) (told_by_all es)
-        all_came [] are = All-nil (λ (found : Found). found.line < length lines)
+        all_came : (es : List SettledKey) → All (Is_told keys) es → All (λ (found : Found). found.place < length lines) (told_by_all es)
+        all_came [] are = All-nil (λ (found : Found). found.place < length lines)
         all_came (e ∷ es) are =
-            All-append (λ (found : Found). found.line < length lines) (told_by e) (told_by_all es)
+            All-append (λ (found : Found). found.place < length lines) (told_by e) (told_by_all es)
             (λ k d lt. let there = (All-head (Is_told keys) e es are k d lt).there in omega (arith, there, as_many)) (all_came es (All-tail (Is_told keys) e es are))
 
     new_told : (i : ℕ) (d : KeyPart) → i < length parts → HasEntry entries (get_or parts i d).key ⊎ HasNothingToTell to lines keys (get_or parts i d)
@@ -299,8 +299,8 @@ module _ (lines : List Line) (keys : List (Option ℕ)) (as_many : length keys �
         (subst (λ l. IsPermutation l (map place all)) (map-append place was now)
         (IsPermutation-map place (was ++ now) all (window_more margin part.watch.from _ part.watch.settled to mine after has.in_time))))
 
-    pub told_came : (told : List Found) → All (λ (found : Found). found.line < length lines) told → All (λ (found : Found). found.line < length lines) (told ++ told_by_all entries)
-    told_came told came = All-append (λ (found : Found). found.line < length lines) told (told_by_all entries) came came_now
+    pub told_came : (told : List Found) → All (λ (found : Found). found.place < length lines) told → All (λ (found : Found). found.place < length lines) (told ++ told_by_all entries)
+    told_came told came = All-append (λ (found : Found). found.place < length lines) told (told_by_all entries) came came_now
 
 -- how each key goes on
 pub settled_on : (lines : List Line) (keys : List (Option ℕ)) → length keys ≡ length lines → (old new : List KeyPart) → names_of old ≡ keys_of keys → All (HasSeenOne lines keys) old

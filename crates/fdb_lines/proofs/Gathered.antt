@@ -29,16 +29,16 @@ use Rattle.fdb_lines.proofs.Merged.{all_there, explained}
 
 -- ---- the faults of a key at a line of the whole log: those at its place among the lines of the key
 
-here : (places : List ℕ) (k n : ℕ) (b : Bool) → (slice_index places n == k) ≡ b → (xs : List Found) → All (λ (found : Found). found.line ≡ n) xs
+here : (places : List ℕ) (k n : ℕ) (b : Bool) → (slice_index places n == k) ≡ b → (xs : List Found) → All (λ (found : Found). found.place ≡ n) xs
     → filter (stands_at k) (map (placed_found places) xs) ≡ cond b (map (told_at k) xs) []
 here places k n true is [] are = refl
 here places k n false is [] are = refl
 here places k n true is (x ∷ xs) are =
-    let P : Found → Type 0 = λ found. found.line ≡ n in
+    let P : Found → Type 0 = λ found. found.place ≡ n in
     let at : slice_index places n ≡ k = eqb-true _ _ is in
     rw (All-head P x xs are, is, at, here places k n true is xs (All-tail P x xs are)) refl
 here places k n false is (x ∷ xs) are =
-    let P : Found → Type 0 = λ found. found.line ≡ n in
+    let P : Found → Type 0 = λ found. found.place ≡ n in
     rw (All-head P x xs are, is) (here places k n false is xs (All-tail P x xs are))
 
 one_more : (c : Case) (places : List ℕ) (k n : ℕ)
@@ -150,7 +150,7 @@ module _ (log : Lines) (opts : AuditOpts) (keys : List (Option ℕ)) where
 -- ---- what is in order, line by line
 
 abbrev below : ℕ → Found → Bool
-below n found = nat_lt found.line n
+below n found = nat_lt found.place n
 
 all_pass : {X : Type 0} (p : X → Bool) (xs : List X) → All (λ x. p x ≡ true) xs → filter p xs ≡ xs
 all_pass p [] all = refl
@@ -164,36 +164,36 @@ none_pass p (x ∷ xs) none =
     ap (λ b. cond b (x ∷ filter p xs) (filter p xs)) (All-head (λ y. p y ≡ false) x xs none) ∙ none_pass p xs (All-tail (λ y. p y ≡ false) x xs none)
 
 abbrev Rise : List Found → Type 0
-Rise = IsNonDecreasingBy (λ (found : Found). found.line)
+Rise = IsNonDecreasingBy (λ (found : Found). found.place)
 
 line_more : (n : ℕ) (xs : List Found) → Rise xs → filter (below (suc n)) xs ≡ filter (below n) xs ++ filter (stands_at n) xs
 line_more n [] rise = refl
-line_more n (x ∷ xs) rise = by (nat_lt x.line n) (x.line == n) refl refl (line_more n xs (λ i j d le lt. rise (suc i) (suc j) d (omega arith) (omega arith)))
+line_more n (x ∷ xs) rise = by (nat_lt x.place n) (x.place == n) refl refl (line_more n xs (λ i j d le lt. rise (suc i) (suc j) d (omega arith) (omega arith)))
   where
-    by : (less at : Bool) → nat_lt x.line n ≡ less → (x.line == n) ≡ at → filter (below (suc n)) xs ≡ filter (below n) xs ++ filter (stands_at n) xs
+    by : (less at : Bool) → nat_lt x.place n ≡ less → (x.place == n) ≡ at → filter (below (suc n)) xs ≡ filter (below n) xs ++ filter (stands_at n) xs
         → filter (below (suc n)) (x ∷ xs) ≡ filter (below n) (x ∷ xs) ++ filter (stands_at n) (x ∷ xs)
     by true at lt is rest =
-        let up : nat_lt x.line (suc n) ≡ true = grind (arith, nat_tests) in
-        let not : (x.line == n) ≡ false = grind (arith, nat_tests) in
+        let up : nat_lt x.place (suc n) ≡ true = grind (arith, nat_tests) in
+        let not : (x.place == n) ≡ false = grind (arith, nat_tests) in
         rw (up, lt, not) (ap (λ (ys : List Found). x ∷ ys) rest)
     by false true lt is rest =
-        let up : nat_lt x.line (suc n) ≡ true = grind (arith, nat_tests) in
+        let up : nat_lt x.place (suc n) ≡ true = grind (arith, nat_tests) in
         let none : filter (below n) xs ≡ [] = none_pass (below n) xs (λ j d inside.
         let le = rise 0 (suc j) d (omega arith) (omega arith) in grind (arith, nat_tests)) in
         rw (up, lt, is, none) (ap (λ (ys : List Found). x ∷ ys) (rest ∙ ap (λ (ys : List Found). ys ++ filter (stands_at n) xs) none))
     by false false lt is rest =
-        let up : nat_lt x.line (suc n) ≡ false = grind (arith, nat_tests) in
+        let up : nat_lt x.place (suc n) ≡ false = grind (arith, nat_tests) in
         rw (up, lt, is) rest
 
-pub all_below : (c : Case) (n : ℕ) → All (λ (found : Found). found.line < n) (faults_below c n)
-all_below c zero = All-nil (λ (found : Found). found.line < 0)
+pub all_below : (c : Case) (n : ℕ) → All (λ (found : Found). found.place < n) (faults_below c n)
+all_below c zero = All-nil (λ (found : Found). found.place < 0)
 all_below c (suc n) =
-    All-append (λ (found : Found). found.line < suc n) (faults_below c n) (faults_at c n) (λ i d lt. let less = all_below c n i d lt in omega arith)
+    All-append (λ (found : Found). found.place < suc n) (faults_below c n) (faults_at c n) (λ i d lt. let less = all_below c n i d lt in omega arith)
     (λ i d lt. let at = all_there c n i d lt in omega arith)
 
 module _ (log : Lines) (opts : AuditOpts) (keys : List (Option ℕ)) where
   abbrev Inside : Found → Type 0
-  Inside found = found.line < length keys
+  Inside found = found.place < length keys
 
   all_inside : (names : List (Option ℕ)) → All Inside (faults_of_keys log keys opts names)
   all_inside [] = All-nil Inside
@@ -203,7 +203,7 @@ module _ (log : Lines) (opts : AuditOpts) (keys : List (Option ℕ)) where
       All-append Inside (faults_of_key log keys opts key) (faults_of_keys log keys opts names)
       (All-map Inside (placed_found (places_of keys key)) (faults_of c) (λ i d lt.
       let less = all_below c (length c.lines) i d lt in
-      (of_key keys key (places_of keys key) refl (get_or (faults_of c) i d).line (omega arith)).0))
+      (of_key keys key (places_of keys key) refl (get_or (faults_of c) i d).place (omega arith)).0))
       (all_inside names)
 
   listed_below : (found : List Found) → Rise found → ((k : ℕ) → k < length keys → filter (stands_at k) found ≡ faults_at_by_key log keys opts k)
@@ -224,21 +224,21 @@ module _ (log : Lines) (opts : AuditOpts) (keys : List (Option ℕ)) where
       ∙ ap (faults_below_by_key log keys opts) as_many)
 
 -- what `sort_by_key` says, of what was found
-pub rise_all : (findings : List Finding) → IsNonDecreasingBy (λ (finding : Finding). finding.found.line) findings → Rise (map found_of findings)
+pub rise_all : (findings : List Finding) → IsNonDecreasingBy (λ (finding : Finding). finding.found.place) findings → Rise (map found_of findings)
 rise_all findings rise i j d le lt =
     let any : Finding = record { found = d; reason = Unreported; late = None } in
     let size = length-map findings found_of in
     rw (get_or-map found_of findings i any d (omega arith), get_or-map found_of findings j any d (omega arith)) (rise i j any le (omega arith))
 
 abbrev lesser : Finding → Finding → Bool
-lesser one other = is_lt (nat_cmp one.found.line other.found.line)
+lesser one other = is_lt (nat_cmp one.found.place other.found.place)
 
-tied : (x : Finding) (findings : List Finding) → filter (stands_at x.found.line) (map found_of findings) ≡ map found_of (filter (ties lesser x) findings)
+tied : (x : Finding) (findings : List Finding) → filter (stands_at x.found.place) (map found_of findings) ≡ map found_of (filter (ties lesser x) findings)
 tied x [] = refl
-tied x (y ∷ ys) = by (y.found.line == x.found.line) refl (tied x ys)
+tied x (y ∷ ys) = by (y.found.place == x.found.place) refl (tied x ys)
   where
-    by : (b : Bool) → (y.found.line == x.found.line) ≡ b → filter (stands_at x.found.line) (map found_of ys) ≡ map found_of (filter (ties lesser x) ys)
-        → filter (stands_at x.found.line) (map found_of (y ∷ ys)) ≡ map found_of (filter (ties lesser x) (y ∷ ys))
+    by : (b : Bool) → (y.found.place == x.found.place) ≡ b → filter (stands_at x.found.place) (map found_of ys) ≡ map found_of (filter (ties lesser x) ys)
+        → filter (stands_at x.found.place) (map found_of (y ∷ ys)) ≡ map found_of (filter (ties lesser x) (y ∷ ys))
     by true is rest =
         let tie : ties lesser x y ≡ true = grind (arith, nat_tests) in
         rw (tie, is) (ap (λ (fs : List Found). y.found ∷ fs) rest)
@@ -248,7 +248,7 @@ tied x (y ∷ ys) = by (y.found.line == x.found.line) refl (tied x ys)
 
 pub stays : (old new : List Finding) → IsStableBy lesser old new → (k : ℕ) → filter (stands_at k) (map found_of new) ≡ filter (stands_at k) (map found_of old)
 stays old new stable k =
-    let x : Finding = record { found = record { line = k; fault = Order }; reason = Unreported; late = None } in
+    let x : Finding = record { found = record { place = k; fault = Order }; reason = Unreported; late = None } in
     tied x new ∙ (ap (map found_of) (stable x) ∙ sym (tied x old))
 
 -- ---- key by key
@@ -273,20 +273,20 @@ module _ (log : Lines) (opts : AuditOpts) (keys : List (Option ℕ)) where
   at_its_place P key j lt has =
       subst (λ q. P q (length (places_below keys q (slice_index (places_of keys key) j)))) (whose key j lt) (subst (P key) (sym (place_is keys key (length keys) j lt).2) has)
 
-  reason_here : (key : Option ℕ) (finding : Finding) → finding.found.line < length (places_of keys key) → HasReason (lines_of_key log keys key) opts finding
+  reason_here : (key : Option ℕ) (finding : Finding) → finding.found.place < length (places_of keys key) → HasReason (lines_of_key log keys key) opts finding
       → HasReasonByKey log keys opts (placed_finding (places_of keys key) finding)
   reason_here key finding lt has = (
     finding.reason,
-    at_its_place (λ q j. IsReason (lines_of_key log keys q) opts j finding.found.fault finding.reason) key finding.found.line lt has,
-    ap (λ q. placed_reason (places_of keys q) finding.reason) (whose key finding.found.line lt),
+    at_its_place (λ q j. IsReason (lines_of_key log keys q) opts j finding.found.fault finding.reason) key finding.found.place lt has,
+    ap (λ q. placed_reason (places_of keys q) finding.reason) (whose key finding.found.place lt),
   )
 
-  late_here : (key : Option ℕ) (finding : Finding) → finding.found.line < length (places_of keys key) → HasLate (lines_of_key log keys key) opts finding
+  late_here : (key : Option ℕ) (finding : Finding) → finding.found.place < length (places_of keys key) → HasLate (lines_of_key log keys key) opts finding
       → HasLateByKey log keys opts (placed_finding (places_of keys key) finding)
   late_here key finding lt has = (
     finding.late,
-    at_its_place (λ q j. IsLateAt (lines_of_key log keys q) opts j finding.found.fault finding.late) key finding.found.line lt has,
-    ap (λ q. placed_late (places_of keys q) finding.late) (whose key finding.found.line lt),
+    at_its_place (λ q j. IsLateAt (lines_of_key log keys q) opts j finding.found.fault finding.late) key finding.found.place lt has,
+    ap (λ q. placed_late (places_of keys q) finding.late) (whose key finding.found.place lt),
   )
 
   pub gathered_more : (n : ℕ) (found here new : List Finding) (part : Lines) (places : List ℕ) → n < length (keys_of keys)
@@ -301,14 +301,14 @@ module _ (log : Lines) (opts : AuditOpts) (keys : List (Option ℕ)) where
       let size = size_of log opts keys key in
       let its : map found_of here ≡ faults_of (case_of_key log keys opts key) = all ∙ ap (λ (ls : Lines). faults_of (case_of ls opts)) lines in
       let now : new ≡ found ++ map (placed_finding mine) here = added ∙ ap (λ (ps : List ℕ). found ++ map (placed_finding ps) here) is in
-      let within : (i : ℕ) (d : Finding) → i < length here → (get_or here i d).found.line < length mine =
+      let within : (i : ℕ) (d : Finding) → i < length here → (get_or here i d).found.place < length mine =
       λ i d lt.
       let c = case_of_key log keys opts key in
       let many = length-map here found_of in
       let long = ap length its in
       let low = all_below c (length c.lines) i d.found (omega arith) in
-      let same : (get_or here i d).found.line ≡ (get_or (faults_of c) i d.found).line =
-      ap (λ (found : Found). found.line) (sym (get_or-map found_of here i d d.found lt) ∙ ap (λ (fs : List Found). get_or fs i d.found) its) in
+      let same : (get_or here i d).found.place ≡ (get_or (faults_of c) i d.found).place =
+      ap (λ (found : Found). found.place) (sym (get_or-map found_of here i d d.found lt) ∙ ap (λ (fs : List Found). get_or fs i d.found) its) in
       omega arith in
       let R = HasReasonByKey log keys opts in
       let L = HasLateByKey log keys opts in

@@ -152,7 +152,7 @@ to_tell_on margin from q lines keys (line ∷ more) (key ∷ more_keys) as_many 
     ∙ (ap (λ (ks : List (Option ℕ)). to_tell margin (Some from) ((lines ++ line ∷ []) ++ more) ks q) (sym (append_assoc keys (key ∷ []) more_keys))
     ∙ (to_tell_on margin from q (lines ++ line ∷ []) (keys ++ key ∷ []) more more_keys (let one = length_push keys key in let two = length_push lines line in omega arith) (omega arith)
     (λ j lt. later (suc j) (omega arith))
-    ∙ to_tell_still lines keys as_many line key [] (All-nil (λ (found : Found). found.line < length lines)) q margin from (later 0 (omega arith))))
+    ∙ to_tell_still lines keys as_many line key [] (All-nil (λ (found : Found). found.place < length lines)) q margin from (later 0 (omega arith))))
 
 module _ (margin from : ℕ) (lines : List Line) (keys : List (Option ℕ)) (as_many : length keys ≡ length lines) (more : List Line) (more_keys : List (Option ℕ)) (same : length more_keys ≡ length more) where
   abbrev both : List Line
@@ -168,9 +168,9 @@ module _ (margin from : ℕ) (lines : List Line) (keys : List (Option ℕ)) (as_
   audited_to_on later =
       let was = audited_to margin from lines keys in
       let now = audited_to margin from both both_keys in
-      permuted_by_key (λ (found : Found). key_at both_keys found.line) (length was) was now (omega arith) (λ q.
+      permuted_by_key (λ (found : Found). key_at both_keys found.place) (length was) was now (omega arith) (λ q.
       let of_q : at_key both_keys q was ≡ at_key both_keys q now =
-      filter_same (λ (found : Found). option_eq ◌==◌ (key_at both_keys found.line) q) (λ (found : Found). option_eq ◌==◌ (key_at keys found.line) q) was
+      filter_same (λ (found : Found). option_eq ◌==◌ (key_at both_keys found.place) q) (λ (found : Found). option_eq ◌==◌ (key_at keys found.place) q) was
       (λ k d lt.
       let is = audited_there margin from lines keys k d lt in
       ap (λ key. option_eq ◌==◌ key q) (get_or_append_left keys more_keys None _ (omega (arith, is))))
@@ -201,7 +201,7 @@ module _ (margin from : ℕ) (lines : List Line) (keys : List (Option ℕ)) (as_
       IsPermutation-trans (was ++ place (audited_from margin from others other_keys)) (before ++ after) (audited margin both both_keys)
       (IsPermutation-append was before (place (audited_from margin from others other_keys)) after (audited_to_on later)
       (subst (λ (found : List Found). IsPermutation (place found) after) renamed (IsPermutation-sym after (place (audited_from margin from (lines_in both beyond) (keys_in both_keys beyond))) told)))
-      (both_parts (λ (found : Found). begins_before (Some from) (line_at both found.line)) (audited margin both both_keys))
+      (both_parts (λ (found : Found). begins_before (Some from) (line_at both found.place)) (audited margin both both_keys))
 
   -- what is told once what there was to tell up to a moment has been told is what stands at lines that began from then on
   pub told_then : ((j : ℕ) → j < length more → from ≤ began (line_at more j)) → (told new : List Found) → IsPermutation told (audited_to margin from lines keys)
@@ -214,5 +214,5 @@ module _ (margin from : ℕ) (lines : List Line) (keys : List (Option ℕ)) (as_
       the_rest told new after
       (IsPermutation-trans (told ++ new) every (told ++ after) all
       (IsPermutation-trans every (before ++ after) (told ++ after)
-      (IsPermutation-sym (before ++ after) every (both_parts (λ (found : Found). begins_before (Some from) (line_at both found.line)) every))
+      (IsPermutation-sym (before ++ after) every (both_parts (λ (found : Found). begins_before (Some from) (line_at both found.place)) every))
       (IsPermutation-append_left after before told (IsPermutation-sym told before old))))

@@ -13,7 +13,7 @@ use Rattle.fdb_lines.specs.Lines.{line_at, kind_of, is_learn, teller_of}
 use Rattle.fdb_lines.specs.Reasons.{IsMeans}
 use Rattle.fdb_lines.specs.private.Known.{counts_at, newer, version_in, lets_know, IsKnownBy, KnowsOf}
 use Rattle.fdb_lines.specs.private.Exposure.{counts}
-use Rattle.fdb_lines.specs.private.Telling.{gained, heard_by, learnt_by, IsHeard, IsHeardAs}
+use Rattle.fdb_lines.specs.private.Telling.{gained, heard_of, learnt_by, IsHeard, IsHeardAs}
 use Rattle.fdb_lines.proofs.Knowing.{as_well, newer_is}
 
 -- what was heard of by the lines above is heard of by one line more
@@ -26,7 +26,7 @@ of_one a o e = grind (arith, nat_tests)
 -- ---- what is new by a line
 
 abbrev IsOf : List Line → ℕ → ℕ → Witness → Type 0
-IsOf lines n a by = IsHeardAs lines n a by.line by.means
+IsOf lines n a by = IsHeardAs lines n a by.place by.means
 
 abbrev new : Exposure → List Line → ℕ → ℕ → Bool
 new seen lines k j =
@@ -44,8 +44,8 @@ learnt_is : (seen : Exposure) (lines : List Line) (k a : ℕ) (o : Option Witnes
 learnt_is seen lines k a None of does none = λ j lt. sym (learns_new seen lines k j does) ∙ none j lt
 learnt_is seen lines k a (Some w) of does h = (
   h.0,
-  sym (learns_new seen lines k w.line does) ∙ h.1,
-  (omega arith, of_one a (line_at lines k).client of, does, (and_parts (has_heard lines k (teller_of (line_at lines k).call) w.line) _ h.1).0),
+  sym (learns_new seen lines k w.place does) ∙ h.1,
+  (omega arith, of_one a (line_at lines k).client of, does, (and_parts (has_heard lines k (teller_of (line_at lines k).call) w.place) _ h.1).0),
   λ j lt passes. h.3 j lt (learns_new seen lines k j does ∙ passes),
 )
 
@@ -56,7 +56,7 @@ gained_is seen lines newest k a lt of are = by (is_learn (kind_of (line_at lines
   where
     by : (learns counted : Bool) → is_learn (kind_of (line_at lines k).call) ≡ learns → counts seen (kind_of (line_at lines k).call) ≡ counted
         → IsKnownBy (new seen lines k) (IsOf lines (suc k) a) lines
-        (cond learns (learnt_by k (newest (teller_of (line_at lines k).call))) (cond counted (Some (record { line = k; means = Own })) None))
+        (cond learns (learnt_by k (newest (teller_of (line_at lines k).call))) (cond counted (Some (record { place = k; means = Own })) None))
     by true counted does is = learnt_is seen lines k a (newest (teller_of (line_at lines k).call)) of does (are (teller_of (line_at lines k).call))
     by false true does_not is = (
       lt,
@@ -76,7 +76,7 @@ heard_more seen lines newest k q lt are =
     let old : ℕ → Bool = λ j. has_heard lines k q j && counts_at seen lines j in
     let after : ℕ → Bool = λ j. has_heard lines (suc k) q j && counts_at seen lines j in
     let still : IsKnownBy old (IsOf lines (suc k) q) lines (newest q) =
-    as_well old old (IsOf lines k q) (IsOf lines (suc k) q) lines (newest q) (λ j l. refl) (λ by h. stays lines k q by.line by.means h) (are q) in
+    as_well old old (IsOf lines k q) (IsOf lines (suc k) q) lines (newest q) (λ j l. refl) (λ by h. stays lines k q by.place by.means h) (are q) in
     elim (cases_Bool own) [
       | inl does ↦
           rw (cond-true own (newer lines (newest q) here) (newest q) does)
@@ -93,12 +93,12 @@ means_is : (margin : ℕ) (lines : List Line) (k a j : ℕ) (means : Means) → 
 means_is margin lines k a j means is h = grind arith
 
 pub knows_is : (margin : ℕ) (seen : Exposure) (lines : List Line) (newest : ℕ → Option Witness) (k : ℕ) → ((p : ℕ) → IsHeard seen lines k p (newest p))
-    → KnowsOf (lets_know (by_telling lines) seen lines) margin lines k (heard_by newest (line_at lines k).client)
+    → KnowsOf (lets_know (by_telling lines) seen lines) margin lines k (heard_of newest (line_at lines k).client)
 knows_is margin seen lines newest k are = by (line_at lines k).client refl
   where
-    by : (o : Option ℕ) → (line_at lines k).client ≡ o → KnowsOf (lets_know (by_telling lines) seen lines) margin lines k (heard_by newest o)
+    by : (o : Option ℕ) → (line_at lines k).client ≡ o → KnowsOf (lets_know (by_telling lines) seen lines) margin lines k (heard_of newest o)
     by None is = λ j lt. ap (λ o. heard_at lines k o j && counts_at seen lines j) is
     by (Some a) is =
         as_well (λ j. has_heard lines k a j && counts_at seen lines j) (lets_know (by_telling lines) seen lines k) (IsOf lines k a)
-        (λ (by : Witness). IsMeans margin lines by.line k by.means) lines (newest a)
-        (λ j lt. sym (ap (λ o. heard_at lines k o j && counts_at seen lines j) is)) (λ by h. means_is margin lines k a by.line by.means is h) (are a)
+        (λ (by : Witness). IsMeans margin lines by.place k by.means) lines (newest a)
+        (λ j lt. sym (ap (λ o. heard_at lines k o j && counts_at seen lines j) is)) (λ by h. means_is margin lines k a by.place by.means is h) (are a)

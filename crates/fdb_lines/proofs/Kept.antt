@@ -23,15 +23,15 @@ kept test k true is (x ∷ xs) = rw (is x) (ap (λ (zs : List Found). told_at k 
 kept test k false is (x ∷ xs) = rw (is x) (kept test k false is xs)
 
 -- faults that all stand at one line are told at its place
-placed_told : (places : List ℕ) (k j : ℕ) → slice_index places j ≡ k → (xs : List Found) → All (λ (found : Found). found.line ≡ j) xs
+placed_told : (places : List ℕ) (k j : ℕ) → slice_index places j ≡ k → (xs : List Found) → All (λ (found : Found). found.place ≡ j) xs
     → map (placed_found places) xs ≡ map (told_at k) xs
 placed_told places k j at [] all = refl
 placed_told places k j at (x ∷ xs) all =
-    let line : slice_index places x.line ≡ k = ap (slice_index places) (All-head (λ (found : Found). found.line ≡ j) x xs all) ∙ at in
-    rw line (ap (λ (zs : List Found). told_at k x ∷ zs) (placed_told places k j at xs (All-tail (λ (found : Found). found.line ≡ j) x xs all)))
+    let line : slice_index places x.place ≡ k = ap (slice_index places) (All-head (λ (found : Found). found.place ≡ j) x xs all) ∙ at in
+    rw line (ap (λ (zs : List Found). told_at k x ∷ zs) (placed_told places k j at xs (All-tail (λ (found : Found). found.place ≡ j) x xs all)))
 
 abbrev Tests : List (Option ℕ) → Option ℕ → Found → Bool
-Tests keys key found = option_eq ◌==◌ (key_at keys found.line) key
+Tests keys key found = option_eq ◌==◌ (key_at keys found.place) key
 
 -- one line more
 line_more : (log : Lines) (keys : List (Option ℕ)) (opts : AuditOpts) (key : Option ℕ) (n : ℕ) (b : Bool) → n < length keys → option_eq ◌==◌ (key_at keys n) key ≡ b
@@ -64,7 +64,7 @@ kept_below log keys opts key (suc n) le =
     ∙ line_more log keys opts key n (option_eq ◌==◌ (key_at keys n) key) (omega arith) refl (kept_below log keys opts key n (omega arith))
 
 pub kept_of_key : (log : Lines) (keys : List (Option ℕ)) (opts : AuditOpts) (key : Option ℕ) → length keys ≡ length log.lines
-    → filter (λ (found : Found). option_eq ◌==◌ (key_at keys found.line) key) (faults_by_key log keys opts) ≡ map (placed_found (places_of keys key)) (faults_of (case_of_key log keys opts key))
+    → filter (λ (found : Found). option_eq ◌==◌ (key_at keys found.place) key) (faults_by_key log keys opts) ≡ map (placed_found (places_of keys key)) (faults_of (case_of_key log keys opts key))
 kept_of_key log keys opts key as_many =
     ap (λ n. filter (Tests keys key) (faults_below_by_key log keys opts n)) (sym as_many)
     ∙ (kept_below log keys opts key (length keys) (omega arith)

@@ -10,7 +10,7 @@ use Rattle.fdb_lines.specs.KeyParts.{HasSeenOne}
 use Rattle.fdb_lines.specs.Keys.{key_at, places_of}
 use Rattle.fdb_lines.specs.KeyWatch.{AreKept, IsKept}
 use Rattle.fdb_lines.specs.Lines.{line_at, lines_in}
-use Rattle.fdb_lines.specs.private.KeyParts.{kept_at, kept_below, kept_of}
+use Rattle.fdb_lines.specs.private.KeyParts.{kept_at, kept_below, kept_in_part}
 use Rattle.fdb_lines.proofs.Carried.{at_part, fewer_are}
 use Rattle.fdb_lines.proofs.Keyed.{place_is, same_is}
 
@@ -62,28 +62,28 @@ numbers_below part (suc n) le =
     ∙ (ap (λ (ns : List ℕ). ns ++ slice_index part.numbers.items n ∷ []) (numbers_below part n (omega arith))
     ∙ (sym (take_more part.numbers.items n 0 (omega arith)) ∙ ap (λ m. take m part.numbers.items) (add-one n)))
 
-numbers_of_part : (part : KeyPart) → map number_is (kept_of part) ≡ part.numbers.items
+numbers_of_part : (part : KeyPart) → map number_is (kept_in_part part) ≡ part.numbers.items
 numbers_of_part part = numbers_below part (length part.numbers.items) (omega arith) ∙ take_all (length part.numbers.items) part.numbers.items (omega arith)
 
 -- ---- of all
 
 all_kept : (lines : List Line) (keys : List (Option ℕ)) → length keys ≡ length lines → (parts : List KeyPart) → All (HasSeenOne lines keys) parts
-    → All (IsKept lines keys) (flat_map kept_of parts)
+    → All (IsKept lines keys) (flat_map kept_in_part parts)
 all_kept lines keys as_many [] each = All-nil (IsKept lines keys)
 all_kept lines keys as_many (part ∷ parts) each =
-    All-append (IsKept lines keys) (kept_of part) (flat_map kept_of parts)
+    All-append (IsKept lines keys) (kept_in_part part) (flat_map kept_in_part parts)
     (kept_are lines keys as_many part (each 0 part (omega arith)) (length part.numbers.items) (omega arith))
     (all_kept lines keys as_many parts (λ k d lt. each (suc k) d (omega arith)))
 
-all_numbers : (parts : List KeyPart) → map number_is (flat_map kept_of parts) ≡ flat_map numbers_are parts
+all_numbers : (parts : List KeyPart) → map number_is (flat_map kept_in_part parts) ≡ flat_map numbers_are parts
 all_numbers [] = refl
 all_numbers (part ∷ parts) =
-    map-append number_is (kept_of part) (flat_map kept_of parts)
-    ∙ (ap (λ (ns : List ℕ). ns ++ map number_is (flat_map kept_of parts)) (numbers_of_part part)
+    map-append number_is (kept_in_part part) (flat_map kept_in_part parts)
+    ∙ (ap (λ (ns : List ℕ). ns ++ map number_is (flat_map kept_in_part parts)) (numbers_of_part part)
     ∙ ap (λ (ns : List ℕ). part.numbers.items ++ ns) (all_numbers parts))
 
 pub kept_by_key : (lines : List Line) (keys : List (Option ℕ)) (parts : List KeyPart) (kept : List KeptLine) → length keys ≡ length lines → All (HasSeenOne lines keys) parts
-    → kept ≡ flat_map kept_of parts → AreKept lines keys parts kept
+    → kept ≡ flat_map kept_in_part parts → AreKept lines keys parts kept
 kept_by_key lines keys parts kept as_many each is = record {
   each = subst (All (IsKept lines keys)) (sym is) (all_kept lines keys as_many parts each);
   all = ap (map number_is) is ∙ all_numbers parts;

@@ -24,7 +24,7 @@ pub as_well : (a b : ℕ → Bool) (Is IsToo : Witness → Type 0) (lines : List
     → ((j : ℕ) → j < length lines → a j ≡ b j) → ((by : Witness) → Is by → IsToo by) → IsKnownBy a Is lines o → IsKnownBy b IsToo lines o
 as_well a b Is IsToo lines None same too none = λ j lt. sym (same j lt) ∙ none j lt
 as_well a b Is IsToo lines (Some by) same too is =
-    (is.0, sym (same by.line is.0) ∙ is.1, too by is.2, λ j lt passes. is.3 j lt (same j lt ∙ passes))
+    (is.0, sym (same by.place is.0) ∙ is.1, too by is.2, λ j lt passes. is.3 j lt (same j lt ∙ passes))
 
 -- the newer of two is that of both
 pub newer_is : (a b : ℕ → Bool) (Is : Witness → Type 0) (lines : List Line) (one other : Option Witness)
@@ -34,9 +34,9 @@ newer_is a b Is lines None (Some y) none is =
     (is.0, grind (arith, is.1), is.2, λ j lt passes. let none_j = none j lt in let most = is.3 j lt in grind arith)
 newer_is a b Is lines (Some x) None is none =
     (is.0, grind (arith, is.1), is.2, λ j lt passes. let none_j = none j lt in let most = is.3 j lt in grind arith)
-newer_is a b Is lines (Some x) (Some y) is too = by (nat_lt (version_in lines x.line) (version_in lines y.line)) refl
+newer_is a b Is lines (Some x) (Some y) is too = by (nat_lt (version_in lines x.place) (version_in lines y.place)) refl
   where
-    by : (less : Bool) → nat_lt (version_in lines x.line) (version_in lines y.line) ≡ less → IsKnownBy (λ j. a j || b j) Is lines (Some (cond less y x))
+    by : (less : Bool) → nat_lt (version_in lines x.place) (version_in lines y.place) ≡ less → IsKnownBy (λ j. a j || b j) Is lines (Some (cond less y x))
     by true less = (too.0, grind (arith, too.1), too.2, λ j lt passes. let m = is.3 j lt in let n = too.3 j lt in grind (arith, nat_tests))
     by false not_less = (is.0, grind (arith, is.1), is.2, λ j lt passes. let m = is.3 j lt in let n = too.3 j lt in grind (arith, nat_tests))
 
@@ -47,8 +47,8 @@ version_is test Is lines None none =
     let most = greatest_least test (version_in lines) (length lines) 0 (λ j lt passes. absurd (both_ways (test j) (none j lt) passes)) in
     omega arith
 version_is test Is lines (Some by) is =
-    let most = greatest_least test (version_in lines) (length lines) (version_in lines by.line) is.3 in
-    let least = greatest_bound test (version_in lines) (length lines) by.line is.0 is.1 in
+    let most = greatest_least test (version_in lines) (length lines) (version_in lines by.place) is.3 in
+    let least = greatest_bound test (version_in lines) (length lines) by.place is.0 is.1 in
     omega arith
 
 -- and where that is at most a version, it is the witness of that version
@@ -56,13 +56,13 @@ pub found_is : (before : ℕ → ℕ → Bool) (margin : ℕ) (seen : Exposure) 
     → KnowsOf (lets_know before seen lines) margin lines k o → newest_known before seen lines k ≤ version
     → IsFound before margin seen lines k version (of_version lines version o)
 found_is before margin seen lines k version None none most = λ j lt. let fails = none j lt in grind arith
-found_is before margin seen lines k version (Some w) is most = by (version_in lines w.line == version) refl
+found_is before margin seen lines k version (Some w) is most = by (version_in lines w.place == version) refl
   where
-    by : (same : Bool) → (version_in lines w.line == version) ≡ same → IsFound before margin seen lines k version (cond same (Some w) None)
+    by : (same : Bool) → (version_in lines w.place == version) ≡ same → IsFound before margin seen lines k version (cond same (Some w) None)
     by true same = (is.0, grind (arith, is.1), is.2)
     by false other = λ j lt.
         let newest = is.3 j lt in
-        let up = greatest_bound (lets_know before seen lines k) (version_in lines) (length lines) w.line is.0 is.1 in
+        let up = greatest_bound (lets_know before seen lines k) (version_in lines) (length lines) w.place is.0 is.1 in
         grind (arith, nat_tests)
 
 -- one line more, and what it knows
@@ -117,4 +117,4 @@ pub both_are : (margin : ℕ) (seen : Exposure) (lines : List Line) (k : ℕ) (o
 both_are margin seen lines k one other is too =
     as_well (λ j. of_all margin seen lines k j || of_own seen lines k j) (lets_know (by_time margin lines) seen lines k) _ _ lines (newer lines one other)
     (λ j lt. sym (before_is margin seen lines j k (ended (line_at lines j)))) (λ by h. h)
-    (newer_is (of_all margin seen lines k) (of_own seen lines k) (λ by. IsMeans margin lines by.line k by.means) lines one other is too)
+    (newer_is (of_all margin seen lines k) (of_own seen lines k) (λ by. IsMeans margin lines by.place k by.means) lines one other is too)

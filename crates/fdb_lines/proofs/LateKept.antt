@@ -142,22 +142,22 @@ module _ (margin at : ℕ) (lines : List Line) (places : List ℕ) (stand : Stan
     kept_first late is =
         let end = is.0 in
         let first = is.1 in
-        let lj = inside late.line first.there in
+        let lj = inside late.place first.there in
         elim (cases_lt end at) [
           | inl before ↦ inr (
             end,
-            stand.within late.line lj,
-            sym (outdates_same late.line lj) ∙ first.passes,
-            sym (end_same late.line lj) ∙ first.ended_at,
+            stand.within late.place lj,
+            sym (outdates_same late.place lj) ∙ first.passes,
+            sym (end_same late.place lj) ∙ first.ended_at,
             before,
             is.3 ∙ ap (λ n. n - end) begins_same,
             λ other less. stands_here other (is.4.under other less),
           )
           | inr later ↦
-              let there = first_same late.line end first (not_before late.line end first later) in
+              let there = first_same late.place end first (not_before late.place end first later) in
               let by : late.by ≡ began (line_at lines k) - end = is.3 ∙ ap (λ n. n - end) begins_same in
-              inl (subst (λ n. IsLateAt all opts k fault (Some (record { line = place late.line; by = n }))) (sym by)
-              (first_is all opts k fault (place late.line) end (λ untimed. timed_only _ untimed) stand_at there (apart late.line lj is.2)))
+              inl (subst (λ n. IsLateAt all opts k fault (Some (record { place = place late.place; by = n }))) (sym by)
+              (first_is all opts k fault (place late.place) end (λ untimed. timed_only _ untimed) stand_at there (apart late.place lj is.2)))
         ]
       where
         apart : (j : ℕ) → j < length places → j ≢ i → place j ≢ k

@@ -150,7 +150,7 @@ by_none fault log opts k others none =
 
 -- the late call by the first of the lines that outdate it
 abbrev pub late_of : List Line → ℕ → ℕ → ℕ → Late
-late_of lines k j end = record { line = j; by = began (line_at lines k) - end }
+late_of lines k j end = record { place = j; by = began (line_at lines k) - end }
 
 -- a call's own end is never before it began
 by_own : (fault : Fault) (log : Lines) (opts : AuditOpts) (k end : ℕ) → AreAlike log → IsByOthers fault log.lines opts k

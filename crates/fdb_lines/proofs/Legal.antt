@@ -19,28 +19,28 @@ IsItemOf c rank k x =
 
 -- an item of one of the first n lines
 pub record IsItemBelow (c : Case) (rank : ℕ → ℕ) (n : ℕ) (x : Item) : Type 0 where
-  pub line : ℕ
-  pub there : line < n
-  pub item : IsItemOf c rank line x
+  pub place : ℕ
+  pub there : place < n
+  pub item : IsItemOf c rank place x
 
 -- where an item comes from
 abbrev pub Origin : Case → (ℕ → ℕ) → Item → Type 0
 Origin c rank = IsItemBelow c rank (length c.lines)
 
 pub Asked : {c : Case} {rank : ℕ → ℕ} {x : Item} (k : ℕ) → k < length c.lines → needs_ask c k ≡ true → x ≡ ask_item (version_at c k) → Origin c rank x
-Asked k lk need is = record { line = k; there = lk; item = inl (need, is) }
+Asked k lk need is = record { place = k; there = lk; item = inl (need, is) }
 
 pub origin_take : (c : Case) (rank : ℕ → ℕ) (k : ℕ) → k < length c.lines → shows (kind_at c k) ≡ true → Origin c rank (take_item c rank k)
-origin_take c rank k lk s = record { line = k; there = lk; item = inr (inl (s, refl)) }
+origin_take c rank k lk s = record { place = k; there = lk; item = inr (inl (s, refl)) }
 
 pub origin_report : (c : Case) (rank : ℕ → ℕ) → IsFaultless c → (k : ℕ) → k < length c.lines → needs_report c k ≡ true → Origin c rank (shared_item (version_at c k))
-origin_report c rank none k lk need = record { line = k; there = lk; item = inr (inr (need, refl)) }
+origin_report c rank none k lk need = record { place = k; there = lk; item = inr (inr (need, refl)) }
 
 -- one item for a key
 pub same_items : (c : Case) (rank : ℕ → ℕ) → IsRanked c rank → (x y : Item) → Origin c rank x → Origin c rank y → SameKey x y → x ≡ y
 same_items c rank ranked x y p q s =
-    let one = ranked.apart p.line q.line p.there q.there in
-    let same : p.line ≡ q.line → take_item c rank p.line ≡ take_item c rank q.line = ap (take_item c rank) in
+    let one = ranked.apart p.place q.place p.there q.there in
+    let same : p.place ≡ q.place → take_item c rank p.place ≡ take_item c rank q.place = ap (take_item c rank) in
     grind (arith, nat_tests)
 
 -- what the item of an effect is
@@ -49,7 +49,7 @@ IsFor c (Asks v) k x = (needs_ask c k ≡ true) × (version_at c k ≡ v) × (x.
 IsFor c (Reports v) k x = (needs_ask c k ≡ true) × (version_at c k ≡ v) × (4 * v + 1 ≤ x.stage)
 IsFor c (Reads v) k x = (kind_at c k ≡ Read) × (version_at c k ≡ v) × (x.stage ≡ 4 * v + 3)
 
-is_for : (c : Case) (rank : ℕ → ℕ) (x : Item) (p : Origin c rank x) (effect : Effect) → x.effect ≡ effect → IsFor c effect p.line x
+is_for : (c : Case) (rank : ℕ → ℕ) (x : Item) (p : Origin c rank x) (effect : Effect) → x.effect ≡ effect → IsFor c effect p.place x
 is_for c rank x p effect e = grind (arith, nat_tests)
 
 raising : (c : Case) (rank : ℕ → ℕ) (v k : ℕ) → raises_it c v k ≡ true
@@ -77,7 +77,7 @@ module _ (c : Case) (rank : ℕ → ℕ) (ranked : IsRanked c rank) (none : IsFa
 
   -- the item of an effect
   pub item_of : (m : ℕ) (effect : Effect) → Happens (map (λ z. z.effect) items) m effect
-      → (x : Item) × (slice_get items m ≡ Some x) × (x.effect ≡ effect) × (p : Origin c rank x) × IsFor c effect p.line x
+      → (x : Item) × (slice_get items m ≡ Some x) × (x.effect ≡ effect) × (p : Origin c rank x) × IsFor c effect p.place x
   item_of m effect h =
       let it = item_at items m effect h in
       let from = o.origins it.0 (in_at items m it.0 it.1) in
@@ -94,16 +94,16 @@ module _ (c : Case) (rank : ℕ → ℕ) (ranked : IsRanked c rank) (none : IsFa
   allowed : (m : ℕ) (effect : Effect) → Happens (map (λ z. z.effect) items) m effect → IsAllowed c.start (map (λ z. z.effect) items) m effect
   allowed m (Asks v) h =
       let x = item_of m (Asks v) h in
-      let above = asked_above c none x.3.line x.3.there x.4.0 in (
+      let above = asked_above c none x.3.place x.3.there x.4.0 in (
         λ w q. let y = item_of q.0 (Asks w) q.2 in let less = rises_at items q.0 m y.0 x.0 o.rises y.1 x.1 q.1 in omega arith,
         λ w r. let under = low m w x.0 x.1 r in omega arith,
       )
   allowed m (Reports v) h =
       let x = item_of m (Reports v) h in
-      earlier (ask_item (version_at c x.3.line)) x.0 m (Asks v) (o.asks x.3.line x.3.there x.4.0) (ap Asks x.4.1) x.1 (inl (omega arith))
+      earlier (ask_item (version_at c x.3.place)) x.0 m (Asks v) (o.asks x.3.place x.3.there x.4.0) (ap Asks x.4.1) x.1 (inl (omega arith))
   allowed m (Reads v) h =
       let x = item_of m (Reads v) h in
-      let k = x.3.line in
+      let k = x.3.place in
       let order = no_order c none k x.3.there x.4.0 in (
         elim (no_wrong c none k x.3.there x.4.0) [
           | inl first ↦ inl (sym x.4.1 ∙ first)

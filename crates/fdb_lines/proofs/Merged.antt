@@ -69,14 +69,14 @@ explained log keys opts as_many = (
 
 -- ---- the faults at a line
 
-there_if : (c : Case) (fault : Fault) (j : ℕ) → All (λ (found : Found). found.line ≡ j) (found_if c fault j)
+there_if : (c : Case) (fault : Fault) (j : ℕ) → All (λ (found : Found). found.place ≡ j) (found_if c fault j)
 there_if c fault j = by (stands c fault j)
   where
-    by : (b : Bool) → All (λ (found : Found). found.line ≡ j) (cond b (record { line = j; fault = fault } ∷ []) [])
-    by true = All-cons (λ (found : Found). found.line ≡ j) _ [] refl (All-nil (λ (found : Found). found.line ≡ j))
-    by false = All-nil (λ (found : Found). found.line ≡ j)
+    by : (b : Bool) → All (λ (found : Found). found.place ≡ j) (cond b (record { place = j; fault = fault } ∷ []) [])
+    by true = All-cons (λ (found : Found). found.place ≡ j) _ [] refl (All-nil (λ (found : Found). found.place ≡ j))
+    by false = All-nil (λ (found : Found). found.place ≡ j)
 
-pub all_there : (c : Case) (j : ℕ) → All (λ (found : Found). found.line ≡ j) (faults_at c j)
+pub all_there : (c : Case) (j : ℕ) → All (λ (found : Found). found.place ≡ j) (faults_at c j)
 all_there c j =
-    let P : Found → Type 0 = λ found. found.line ≡ j in
+    let P : Found → Type 0 = λ found. found.place ≡ j in
     All-append P _ _ (All-append P _ _ (All-append P _ _ (All-append P _ _ (there_if c Order j) (there_if c Wrong j)) (there_if c NotAbove j)) (there_if c Twice j)) (there_if c Stray j)

@@ -59,7 +59,7 @@ pub audited_of : (margin : ℕ) (lines : List Line) (keys : List (Option ℕ)) (
     → at_key keys q (audited margin lines keys) ≡ to_tell margin None lines keys q
 audited_of margin lines keys q as_many =
     let all = faults_by_key (with_times lines) keys (opts_of margin) in
-    let its = λ (found : Found). option_eq ◌==◌ (key_at keys found.line) q in
+    let its = λ (found : Found). option_eq ◌==◌ (key_at keys found.place) q in
     let wanted = λ (found : Found). is_watched found.fault in
     let place = placed_found (places_of keys q) in
     let mine = lines_of_one lines keys q in
@@ -74,7 +74,7 @@ pub told_of_each : (lines : List Line) (keys : List (Option ℕ)) → length key
     → (margin : ℕ) (to : Option ℕ) (entries : List SettledKey) (told : List Found) → AreTold to lines keys parts entries
     → All (λ (part : KeyPart). HasEntry entries part.key ⊎ HasNothingToTell to lines keys part) parts → All (λ (part : KeyPart). part.watch.margin ≡ margin) parts
     → All (λ (part : KeyPart). IfSome to (λ last. part.watch.from ≤ last)) parts
-    → All (HasToldOne lines keys told) parts → All (λ (found : Found). found.line < length lines) told
+    → All (HasToldOne lines keys told) parts → All (λ (found : Found). found.place < length lines) told
     → (q : Option ℕ) → IsPermutation (at_key keys q (told ++ told_by_all entries)) (to_tell margin to lines keys q)
 told_of_each lines keys as_many parts named each margin to entries told tell rest same after has came = of_one
   where
@@ -93,11 +93,11 @@ told_of_each lines keys as_many parts named each margin to entries told tell res
         let found = told_of margin (is_due 0 0 0 to) mine in
         let nothing : found ≡ [] = none_of_none (length mine) found (size ∙ empty) (told_there margin (is_due 0 0 0 to) mine) in
         let quiet : at_key keys q (told ++ told_by_all entries) ≡ [] =
-        none_pass (λ (found : Found). option_eq ◌==◌ (key_at keys found.line) q) (told ++ told_by_all entries) (λ k e lt.
+        none_pass (λ (found : Found). option_eq ◌==◌ (key_at keys found.place) q) (told ++ told_by_all entries) (λ k e lt.
         let one = get_or (told ++ told_by_all entries) k e in
         let there = told_came lines keys as_many parts named each to entries tell told came k e lt in
-        let key = has_key keys (length keys) one.line (omega (arith, there, as_many)) in
-        apart (key_at keys one.line) q (λ is. here key.0 key.1 (key.2 ∙ is))) in
+        let key = has_key keys (length keys) one.place (omega (arith, there, as_many)) in
+        apart (key_at keys one.place) q (λ is. here key.0 key.1 (key.2 ∙ is))) in
         subst (λ l. IsPermutation l (to_tell margin to lines keys q)) (sym quiet)
         (subst (λ l. IsPermutation [] (map (placed_found (places_of keys q)) l)) (sym nothing) (IsPermutation-refl []))
 
@@ -116,36 +116,36 @@ told_of_each lines keys as_many parts named each margin to entries told tell res
 pub told_for_good : (lines : List Line) (keys : List (Option ℕ)) → length keys ≡ length lines → (parts : List KeyPart) → names_of parts ≡ keys_of keys → All (HasSeenOne lines keys) parts
     → (margin : ℕ) (entries : List SettledKey) (told : List Found) → AreTold None lines keys parts entries
     → All (λ (part : KeyPart). HasEntry entries part.key ⊎ HasNothingToTell None lines keys part) parts → All (λ (part : KeyPart). part.watch.margin ≡ margin) parts
-    → All (HasToldOne lines keys told) parts → All (λ (found : Found). found.line < length lines) told
+    → All (HasToldOne lines keys told) parts → All (λ (found : Found). found.place < length lines) told
     → IsPermutation (told ++ told_by_all entries) (audited margin lines keys)
 told_for_good lines keys as_many parts named each margin entries told tell rest same has came =
-    permuted_by_key (λ (found : Found). key_at keys found.line) (length (told ++ told_by_all entries)) (told ++ told_by_all entries) (audited margin lines keys) (omega arith) (λ q.
+    permuted_by_key (λ (found : Found). key_at keys found.place) (length (told ++ told_by_all entries)) (told ++ told_by_all entries) (audited margin lines keys) (omega arith) (λ q.
     subst (IsPermutation (at_key keys q (told ++ told_by_all entries))) (sym (audited_of margin lines keys q as_many))
     (told_of_each lines keys as_many parts named each margin None entries told tell rest same (λ i d lt. tt) has came q))
 
 -- ---- with one more line
 
 module _ (lines : List Line) (keys : List (Option ℕ)) (as_many : length keys ≡ length lines) (line : Line) (key : Option ℕ) (told : List Found)
-    (came : All (λ (found : Found). found.line < length lines) told) where
+    (came : All (λ (found : Found). found.place < length lines) told) where
   abbrev more : List Line
   more = lines ++ line ∷ []
 
   abbrev names : List (Option ℕ)
   names = keys ++ key ∷ []
 
-  pub came_still : All (λ (found : Found). found.line < length more) told
+  pub came_still : All (λ (found : Found). found.place < length more) told
   came_still k d lt = let there = came k d lt in let size = length-append lines (line ∷ []) in omega (arith, there, size)
 
   -- what was told of a key was told of it
   at_still : (q : Option ℕ) → at_key names q told ≡ at_key keys q told
   at_still q = by told came
     where
-      by : (found : List Found) → All (λ (one : Found). one.line < length lines) found → at_key names q found ≡ at_key keys q found
+      by : (found : List Found) → All (λ (one : Found). one.place < length lines) found → at_key names q found ≡ at_key keys q found
       by [] all = refl
       by (one ∷ found) all =
-          let there = All-head (λ (one : Found). one.line < length lines) one found all in
-          ap (λ k. cond (option_eq ◌==◌ k q) (one ∷ at_key names q found) (at_key names q found)) (get_or_append_left keys (key ∷ []) None one.line (omega (arith, there, as_many)))
-          ∙ ap (λ (l : List Found). cond (option_eq ◌==◌ (key_at keys one.line) q) (one ∷ l) l) (by found (All-tail (λ (one : Found). one.line < length lines) one found all))
+          let there = All-head (λ (one : Found). one.place < length lines) one found all in
+          ap (λ k. cond (option_eq ◌==◌ k q) (one ∷ at_key names q found) (at_key names q found)) (get_or_append_left keys (key ∷ []) None one.place (omega (arith, there, as_many)))
+          ∙ ap (λ (l : List Found). cond (option_eq ◌==◌ (key_at keys one.place) q) (one ∷ l) l) (by found (All-tail (λ (one : Found). one.place < length lines) one found all))
 
   -- the lines of a key are as they were, or there is one more
   record IsMoreOf (q : Option ℕ) (mine : List Line) (places : List ℕ) : Type 0 where
@@ -191,8 +191,8 @@ module _ (lines : List Line) (keys : List (Option ℕ)) (as_many : length keys �
       ∙ maps_same (placed_found (places_of keys q ++ it.beyond)) (placed_found (places_of keys q)) found (λ k d lt.
       let there = told_there margin test mine k d lt in
       let one = get_or found k d in
-      ap (λ (place : ℕ). let found : Found = record { line = place; fault = one.fault } in found)
-      (get_or_append_left (places_of keys q) it.beyond 0 one.line (omega (arith, there, size))))))
+      ap (λ (place : ℕ). let found : Found = record { place = place; fault = one.fault } in found)
+      (get_or_append_left (places_of keys q) it.beyond 0 one.place (omega (arith, there, size))))))
     where
       due_before : (number : ℕ) (one : Line) → is_due 0 0 0 (Some from) number one ≡ true → began one < from
       due_before number one is = grind (arith, nat_tests)
@@ -303,8 +303,8 @@ filter_same {X} p q (x ∷ xs) same =
 pub audited_to_of : (margin to : ℕ) (lines : List Line) (keys : List (Option ℕ)) (q : Option ℕ) → length keys ≡ length lines
     → at_key keys q (audited_to margin to lines keys) ≡ to_tell margin (Some to) lines keys q
 audited_to_of margin to lines keys q as_many =
-    let its = λ (found : Found). option_eq ◌==◌ (key_at keys found.line) q in
-    let before = λ (found : Found). begins_before (Some to) (line_at lines found.line) in
+    let its = λ (found : Found). option_eq ◌==◌ (key_at keys found.place) q in
+    let before = λ (found : Found). begins_before (Some to) (line_at lines found.place) in
     let places = places_of keys q in
     let mine = lines_of_one lines keys q in
     let place = placed_found places in
@@ -313,30 +313,30 @@ audited_to_of margin to lines keys q as_many =
     filters_swap its before (audited margin lines keys)
     ∙ (ap (filter before) (audited_of margin lines keys q as_many)
     ∙ (filter_mapped before place found
-    ∙ (ap (map place) (filter_same (λ (one : Found). before (place one)) (λ (one : Found). begins_before (Some to) (line_at mine one.line)) found (λ k d lt.
+    ∙ (ap (map place) (filter_same (λ (one : Found). before (place one)) (λ (one : Found). begins_before (Some to) (line_at mine one.place)) found (λ k d lt.
     let there = told_there margin (is_due 0 0 0 None) mine k d lt in
-    ap (begins_before (Some to)) (sym (at_part lines places (get_or found k d).line (omega (arith, there, size))))))
+    ap (begins_before (Some to)) (sym (at_part lines places (get_or found k d).place (omega (arith, there, size))))))
     ∙ ap (map place) (sym (told_before margin 0 0 0 to None mine tt)))))
 
-pub at_lines : (log : Lines) (keys : List (Option ℕ)) (opts : AuditOpts) (n : ℕ) → All (λ (found : Found). found.line < n) (faults_below_by_key log keys opts n)
-at_lines log keys opts zero = All-nil (λ (found : Found). found.line < 0)
+pub at_lines : (log : Lines) (keys : List (Option ℕ)) (opts : AuditOpts) (n : ℕ) → All (λ (found : Found). found.place < n) (faults_below_by_key log keys opts n)
+at_lines log keys opts zero = All-nil (λ (found : Found). found.place < 0)
 at_lines log keys opts (suc n) =
-    All-append (λ (found : Found). found.line < suc n) (faults_below_by_key log keys opts n) (faults_at_by_key log keys opts n)
-    (All-weaker (λ (found : Found). found.line < n) (λ (found : Found). found.line < suc n) (λ found lt. omega (arith, lt)) (faults_below_by_key log keys opts n) (at_lines log keys opts n))
-    (All-map (λ (found : Found). found.line < suc n) (placed_at n) (faults_at (case_of_key log keys opts (key_at keys n)) (place_among keys n)) (λ k d lt. omega arith))
+    All-append (λ (found : Found). found.place < suc n) (faults_below_by_key log keys opts n) (faults_at_by_key log keys opts n)
+    (All-weaker (λ (found : Found). found.place < n) (λ (found : Found). found.place < suc n) (λ found lt. omega (arith, lt)) (faults_below_by_key log keys opts n) (at_lines log keys opts n))
+    (All-map (λ (found : Found). found.place < suc n) (placed_at n) (faults_at (case_of_key log keys opts (key_at keys n)) (place_among keys n)) (λ k d lt. omega arith))
 
-pub audited_there : (margin to : ℕ) (lines : List Line) (keys : List (Option ℕ)) → All (λ (found : Found). found.line < length lines) (audited_to margin to lines keys)
+pub audited_there : (margin to : ℕ) (lines : List Line) (keys : List (Option ℕ)) → All (λ (found : Found). found.place < length lines) (audited_to margin to lines keys)
 audited_there margin to lines keys =
-    let is = λ (found : Found). found.line < length lines in
+    let is = λ (found : Found). found.place < length lines in
     let all = faults_by_key (with_times lines) keys (opts_of margin) in
-    All-filter (λ (found : Found). begins_before (Some to) (line_at lines found.line)) is (audited margin lines keys)
+    All-filter (λ (found : Found). begins_before (Some to) (line_at lines found.place)) is (audited margin lines keys)
     (All-filter (λ (found : Found). is_watched found.fault) is all (at_lines (with_times lines) keys (opts_of margin) (length lines)))
 
 -- all that was told, each once
 pub told_is : (watch : KeyWatch) (lines : List Line) (keys : List (Option ℕ)) (told : List Found) → HasSeenByKey watch lines keys → HasTold watch lines keys told
     → IsPermutation told (audited_to watch.margin watch.from lines keys)
 told_is watch lines keys told seen has =
-    permuted_by_key (λ (found : Found). key_at keys found.line) (length told) told (audited_to watch.margin watch.from lines keys) (omega arith) (λ q.
+    permuted_by_key (λ (found : Found). key_at keys found.place) (length told) told (audited_to watch.margin watch.from lines keys) (omega arith) (λ q.
     subst (IsPermutation (at_key keys q told)) (sym (audited_to_of watch.margin watch.from lines keys q seen.as_many)) (has.all q))
 
 -- and so it may as well be said to have been told that

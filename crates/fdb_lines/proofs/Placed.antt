@@ -13,7 +13,7 @@ use Rattle.fdb_lines.specs.Keys.{case_of_key, key_at, keys_of, lines_of_key, pla
 use Rattle.fdb_lines.specs.Lines.{line_at, part_of, Lines}
 use Rattle.fdb_lines.specs.Listing.{faults_below}
 use Rattle.fdb_lines.specs.OrderSteps.{effects_of, IsOrderOf}
-use Rattle.fdb_lines.specs.private.KeyOrders.{AreOrders}
+use Rattle.fdb_lines.specs.private.KeyOrders.{AreOrdersOf}
 use Rattle.fdb_lines.proofs.Keyed.{has_key, place_is, same_is}
 use Rattle.fdb_lines.proofs.Listed.{explained_by_length}
 
@@ -28,7 +28,7 @@ no_lines log keys opts key none =
     let size : length (lines_of_key log keys key).lines ≡ 0 = length-map (places_of keys key) (line_at log.lines) ∙ none in
     (explained_by_length (lines_of_key log keys key) opts _ refl).0 (subst (λ n. length (faults_below c n) ≡ 0) (sym size) refl)
 
-pub all_explained : (log : Lines) (keys : List (Option ℕ)) (opts : AuditOpts) (orders : List KeyOrder) → AreOrders log keys opts (keys_of keys) orders
+pub all_explained : (log : Lines) (keys : List (Option ℕ)) (opts : AuditOpts) (orders : List KeyOrder) → AreOrdersOf log keys opts (keys_of keys) orders
     → AreExplainedByKey log keys opts
 all_explained log keys opts orders (names, all) key = elim (cases_lt 0 (length (places_of keys key))) [
   | inl some ↦
@@ -57,8 +57,8 @@ module _ (log : Lines) (opts : AuditOpts) (keys : List (Option ℕ)) where
       (steps, subst (λ (ls : Lines). IsOrderOf (case_of ls opts) steps) lines explains, placed ∙ ap (λ (ps : List ℕ). map (placed_step ps) steps) mine)
 
   pub orders_more : (n : ℕ) (before after : List KeyOrder) (order : KeyOrder) → n < length (keys_of keys) → after ≡ before ++ order ∷ []
-      → order.key ≡ key_at (keys_of keys) n → IsOrderOfKey log keys opts order → AreOrders log keys opts (take n (keys_of keys)) before
-      → AreOrders log keys opts (take (n + 1) (keys_of keys)) after
+      → order.key ≡ key_at (keys_of keys) n → IsOrderOfKey log keys opts order → AreOrdersOf log keys opts (take n (keys_of keys)) before
+      → AreOrdersOf log keys opts (take (n + 1) (keys_of keys)) after
   orders_more n before after order next added its one are =
       let names = keys_of keys in
       let of = λ (order : KeyOrder). order.key in

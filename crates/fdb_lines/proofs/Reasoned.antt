@@ -99,11 +99,11 @@ module _ (margin at : ℕ) (lines : List Line) (places : List ℕ) (stand : Stan
     witness_same : (lets_know : Kind → Bool) (version : ℕ) (by : Witness) → IsWitness (with_times part) (opts_of margin) lets_know i version by
         → IsKnown (with_times lines) (opts_of margin) lets_know k version (placed_by places (Some by))
     witness_same lets_know version by is =
-        let lj = inside by.line is.there in
+        let lj = inside by.place is.there in
         record {
-          there = stand.within by.line lj;
-          knew = sym (knew_same lets_know version by.line lj) ∙ is.knew;
-          means = means_same by.line by.means lj is.means;
+          there = stand.within by.place lj;
+          knew = sym (knew_same lets_know version by.place lj) ∙ is.knew;
+          means = means_same by.place by.means lj is.means;
         }
 
     -- ---- that no line let it be known

@@ -21,17 +21,17 @@ use Rattle.fdb_lines.specs.Reasons.{IsFirstPassing, IsKnown, IsReason, shows_or_
 use Rattle.fdb_lines.specs.private.Entries.{other, IsFirstFrom}
 use Rattle.fdb_lines.specs.private.Known.{by_at, counts_at, newest_known, of_version, version_by, version_in}
 use Rattle.fdb_lines.specs.private.Locators.{is_located_at, knows_at, name}
-use Rattle.fdb_lines.specs.private.Tables.{asked_of, drawn_by, has_ask, AreKnownIn, AreTables, Asked, IsAnswer, IsFoundIn}
+use Rattle.fdb_lines.specs.private.Tables.{subject_of, drawn_by, has_ask, AreKnownIn, AreTables, Subject, IsAnswer, IsFoundIn}
 use Rattle.fdb_lines.proofs.Entries.{first_is, first_same}
 use Rattle.fdb_lines.proofs.Knowing.{found_is, version_is}
 use Rattle.fdb_lines.proofs.Numbers.{greatest_bound, greatest_least, some_at}
 
 -- ---- the tables
 
--- what holds of the tables of a log, of what is asked of it
-pub are_asked : {log : Log} {opts : AuditOpts} {made : LogTables} {asked : Asked} → asked_of log opts ≡ asked → AreTables (lines_of log) opts made
-    → AreTables (lines_of asked.log) asked.opts made
-are_asked {made = made} same are = subst (λ (asked : Asked). AreTables (lines_of asked.log) asked.opts made) same are
+-- what holds of the tables of a log, of their subject
+pub are_of_subject : {log : Log} {opts : AuditOpts} {made : LogTables} {subject : Subject} → subject_of log opts ≡ subject → AreTables (lines_of log) opts made
+    → AreTables (lines_of subject.log) subject.opts made
+are_of_subject {made = made} same are = subst (λ (subject : Subject). AreTables (lines_of subject.log) subject.opts made) same are
 
 abbrev before : Lines → AuditOpts → ℕ → ℕ → Bool
 before log opts = comes_before log.timed opts.margin log.lines

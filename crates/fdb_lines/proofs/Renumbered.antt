@@ -205,7 +205,7 @@ module _ (lines others : List Line) (alike : AreAlike lines others) (timed : Boo
     stand_alike Stray = λ i. is_report (kinds k lk i) && cond (drawn i) (not (own i)) (c.complete || nat_le (versions k lk i) c.start)
 
     one_alike : (fault : Fault) → found_if c fault k ≡ found_if d fault k
-    one_alike fault = ap (λ b. cond {A = List Found} b (record { line = k; fault = fault } ∷ []) []) (stand_alike fault)
+    one_alike fault = ap (λ b. cond {A = List Found} b (record { place = k; fault = fault } ∷ []) []) (stand_alike fault)
 
     faults_alike : faults_at c k ≡ faults_at d k
     faults_alike = λ i. one_alike Order i ++ one_alike Wrong i ++ one_alike NotAbove i ++ one_alike Twice i ++ one_alike Stray i
@@ -300,12 +300,12 @@ module _ (lines others : List Line) (keys other_keys : List (Option ℕ)) (same 
 
   pub audited_to_alike : (margin to : ℕ) → audited_to margin to lines keys ≡ audited_to margin to others other_keys
   audited_to_alike margin to =
-      filter_agree (λ (found : Found). begins_before (Some to) (line_at lines found.line)) (λ (found : Found). begins_before (Some to) (line_at others found.line))
-      (λ found. ap (λ began. nat_lt began to) (begins_alike found.line)) (audited margin lines keys)
-      ∙ ap (filter (λ (found : Found). begins_before (Some to) (line_at others found.line))) (audited_alike margin)
+      filter_agree (λ (found : Found). begins_before (Some to) (line_at lines found.place)) (λ (found : Found). begins_before (Some to) (line_at others found.place))
+      (λ found. ap (λ began. nat_lt began to) (begins_alike found.place)) (audited margin lines keys)
+      ∙ ap (filter (λ (found : Found). begins_before (Some to) (line_at others found.place))) (audited_alike margin)
 
   pub audited_from_alike : (margin from : ℕ) → audited_from margin from lines keys ≡ audited_from margin from others other_keys
   audited_from_alike margin from =
-      filter_agree (λ (found : Found). not (begins_before (Some from) (line_at lines found.line))) (λ (found : Found). not (begins_before (Some from) (line_at others found.line)))
-      (λ found. ap (λ began. not (nat_lt began from)) (begins_alike found.line)) (audited margin lines keys)
-      ∙ ap (filter (λ (found : Found). not (begins_before (Some from) (line_at others found.line)))) (audited_alike margin)
+      filter_agree (λ (found : Found). not (begins_before (Some from) (line_at lines found.place))) (λ (found : Found). not (begins_before (Some from) (line_at others found.place)))
+      (λ found. ap (λ began. not (nat_lt began from)) (begins_alike found.place)) (audited margin lines keys)
+      ∙ ap (filter (λ (found : Found). not (begins_before (Some from) (line_at others found.place)))) (audited_alike margin)

@@ -21,7 +21,7 @@ use Rattle.fdb_lines.specs.Log.{lines_of}
 use Rattle.fdb_lines.specs.Watch.{due, judged_from, HasSeen, IsTold}
 use Rattle.fdb_lines.specs.Watching.{begins_before, told_of, watched}
 use Rattle.fdb_lines.specs.private.Due.{told_at, told_below}
-use Rattle.fdb_lines.specs.private.KeyParts.{flag_at, flags_of, AreEntries, AreNext, AreOpen, ArePut, IsAlike, IsNext, IsNextOf}
+use Rattle.fdb_lines.specs.private.KeyParts.{flag_at, flags_of, AreEntriesOf, AreNext, AreOpen, ArePut, IsAlike, IsNext, IsNextOf}
 use Rattle.fdb_lines.specs.private.Quiet.{IsQuiet}
 use Rattle.fdb_lines.proofs.Carried.{at_part, fewer_are}
 use Rattle.fdb_lines.proofs.Keyed.{each_once}
@@ -82,7 +82,7 @@ quiet_tells_nothing watch to lines seen quiet =
 
 -- ---- what is told
 
-module _ (to : Option ℕ) (old : List KeyPart) (places : List ℕ) (entries : List SettledKey) (open_are : AreOpen (flags_of old) places) (are : AreEntries to old places entries)
+module _ (to : Option ℕ) (old : List KeyPart) (places : List ℕ) (entries : List SettledKey) (open_are : AreOpen (flags_of old) places) (are : AreEntriesOf to old places entries)
     (lines : List Line) (keys : List (Option ℕ)) (named : names_of old ≡ keys_of keys) (each : All (HasSeenOne lines keys) old) where
   in_range : (j : ℕ) → j < length places → slice_index places j < length old
   in_range j lt = open_within old places open_are j 0 lt
@@ -240,7 +240,7 @@ module _ (at : ℕ) (old : List KeyPart) (places : List ℕ) (nexts : List KeyPa
         | inr same ↦ subst (HasSeenOne lines keys) (sym same.1) was
       ]
 
-  pub entries_on : (margin horizon from : ℕ) → from ≤ at → All (IsAlike margin horizon from) old → AreEntries (Some at) old places given
+  pub entries_on : (margin horizon from : ℕ) → from ≤ at → All (IsAlike margin horizon from) old → AreEntriesOf (Some at) old places given
   entries_on margin horizon from le all = record {
     as_many = put.entries_too ∙ next.entries_too;
     each = λ j d e lt.

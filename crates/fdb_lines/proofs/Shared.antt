@@ -25,7 +25,7 @@ one_same x y e = (grind (arith, nat_tests), grind (arith, nat_tests))
 
 -- a line's slot at the place of the one above has that of a lower line there
 abbrev IsNext : Slot → Slot → Type 0
-IsNext x s = is_one s x ≡ true → (b : ℕ) → s.line ≡ Some b → (a : ℕ) × (x.line ≡ Some a) × (a < b)
+IsNext x s = is_one s x ≡ true → (b : ℕ) → s.place ≡ Some b → (a : ℕ) × (x.place ≡ Some a) × (a < b)
 
 abbrev Follow : Slot → List Slot → Type 0
 Follow x [] = Unit {0}
@@ -34,7 +34,7 @@ Follow x (s ∷ ss) = IsNext x s × Follow s ss
 -- a step that shares the effect above is of a line, and that above of a lower one
 abbrev pub Chained : Option ℕ → List OrderStep → Type 0
 Chained above [] = Unit {0}
-Chained above (step ∷ steps) = (step.shared ≡ true → (a b : ℕ) × (above ≡ Some a) × (step.line ≡ Some b) × (a < b)) × Chained step.line steps
+Chained above (step ∷ steps) = (step.shared ≡ true → (a b : ℕ) × (above ≡ Some a) × (step.place ≡ Some b) × (a < b)) × Chained step.place steps
 
 none_chained : (line above : Option ℕ) (steps : List OrderStep) → line ≡ None → Chained line steps → Chained above steps
 none_chained line above [] none h = tt
@@ -49,26 +49,26 @@ no_line None none = refl
 no_line (Some b) none = absurd (both_ways true none refl)
 
 -- others have no step where they share one
-chained : (x : Slot) (ss : List Slot) → Follow x ss → Chained x.line (steps_from (Some x.key) ss)
+chained : (x : Slot) (ss : List Slot) → Follow x ss → Chained x.place (steps_from (Some x.key) ss)
 chained x [] follow = tt
-chained x (s ∷ ss) follow = by (is_one s x) (is_some s.line) refl refl (chained s ss follow.1)
+chained x (s ∷ ss) follow = by (is_one s x) (is_some s.place) refl refl (chained s ss follow.1)
   where
-    by : (b d : Bool) → is_one s x ≡ b → is_some s.line ≡ d → Chained s.line (steps_from (Some s.key) ss)
-        → Chained x.line (steps_by s (steps_from (Some s.key) ss) b d)
+    by : (b d : Bool) → is_one s x ≡ b → is_some s.place ≡ d → Chained s.place (steps_from (Some s.key) ss)
+        → Chained x.place (steps_by s (steps_from (Some s.key) ss) b d)
     by false d other line rest = (λ shared. absurd (both_ways false refl shared), rest)
-    by true true same line rest = (λ _. let of = line_of s.line line in let up = follow.0 same of.0 of.1 in (up.0, of.0, up.1, of.1, up.2), rest)
-    by true false same line rest = none_chained s.line x.line _ (no_line s.line line) rest
+    by true true same line rest = (λ _. let of = line_of s.place line in let up = follow.0 same of.0 of.1 in (up.0, of.0, up.1, of.1, up.2), rest)
+    by true false same line rest = none_chained s.place x.place _ (no_line s.place line) rest
 
 pub chained_at : (above : Option ℕ) (steps : List OrderStep) → Chained above steps → (i : ℕ) (one step : OrderStep) → slice_get steps i ≡ Some one
-    → slice_get steps (suc i) ≡ Some step → step.shared ≡ true → (a b : ℕ) × (one.line ≡ Some a) × (step.line ≡ Some b) × (a < b)
+    → slice_get steps (suc i) ≡ Some step → step.shared ≡ true → (a b : ℕ) × (one.place ≡ Some a) × (step.place ≡ Some b) × (a < b)
 chained_at above [] h i one step at next shared = absurd (none-some one at)
 chained_at above (x ∷ []) h zero one step at next shared = absurd (none-some step next)
 chained_at above (x ∷ y ∷ steps) h zero one step at next shared =
     let same = same_Some x one at in
     let own = same_Some y step next in
     let of = h.1.0 (ap (λ (t : OrderStep). t.shared) own ∙ shared) in
-    (of.0, of.1, ap (λ (t : OrderStep). t.line) (sym same) ∙ of.2, ap (λ (t : OrderStep). t.line) (sym own) ∙ of.3, of.4)
-chained_at above (x ∷ steps) h (suc i) one step at next shared = chained_at x.line steps h.1 i one step at next shared
+    (of.0, of.1, ap (λ (t : OrderStep). t.place) (sym same) ∙ of.2, ap (λ (t : OrderStep). t.place) (sym own) ∙ of.3, of.4)
+chained_at above (x ∷ steps) h (suc i) one step at next shared = chained_at x.place steps h.1 i one step at next shared
 
 -- ---- slots of one place are of different lines, and stand in the order of these
 
@@ -124,7 +124,7 @@ IsFew slots = (a stage : ℕ) → sum_by (weight a stage) (map entry_of slots) �
 
 -- no slot is less than the one above: by the key, and then lines come first, in their order
 abbrev pub IsPlaced : Slot → Slot → Type 0
-IsPlaced x s = is_lt (ordering_then (ordering_then (cmp-value.it s.key x.key) (bool_cmp (is_none s.line) (is_none x.line))) (option_cmp nat_cmp s.line x.line)) ≡ false
+IsPlaced x s = is_lt (ordering_then (ordering_then (cmp-value.it s.key x.key) (bool_cmp (is_none s.place) (is_none x.place))) (option_cmp nat_cmp s.place x.place)) ≡ false
 
 abbrev pub ArePlaced : List Slot → Type 0
 ArePlaced slots = (k : ℕ) (d : Slot) → k + 1 < length slots → IsPlaced (slice_index_or slots k d) (slice_index_or slots (k + 1) d)
@@ -142,7 +142,7 @@ follow : (x : Slot) (ss : List Slot) → ArePlaced (x ∷ ss) → IsFew (x ∷ s
 follow x [] placed few = tt
 follow x (s ∷ ss) placed few = (
   λ same b own.
-      let above = placed_line _ s.line x.line b (sym (matches_eq-law s.key x.key) ∙ same) own (placed 0 x (omega arith)) in
+      let above = placed_line _ s.place x.place b (sym (matches_eq-law s.key x.key) ∙ same) own (placed 0 x (omega arith)) in
       let one = few b (item_of s).stage in
       let sums = sum_by-cons (weight b (item_of s).stage) (entry_of x) (map entry_of (s ∷ ss)) in
       let more = sum_by-cons (weight b (item_of s).stage) (entry_of s) (map entry_of ss) in

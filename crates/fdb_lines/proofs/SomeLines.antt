@@ -63,12 +63,12 @@ passed p xs x there = holds (Contains xs) (filter p xs) x (All-filter p (Contain
 -- ---- a fault is found exactly where it stands
 
 abbrev StandsAt : Case → Found → Type 0
-StandsAt c found = stands c found.fault found.line ≡ true
+StandsAt c found = stands c found.fault found.place ≡ true
 
-found_stands : (c : Case) (fault : Fault) (k : ℕ) (b : Bool) → stands c fault k ≡ b → All (StandsAt c) (cond b (record { line = k; fault = fault } ∷ []) [])
+found_stands : (c : Case) (fault : Fault) (k : ℕ) (b : Bool) → stands c fault k ≡ b → All (StandsAt c) (cond b (record { place = k; fault = fault } ∷ []) [])
 found_stands c fault k true is = λ j d lt. subst (StandsAt c) (one j d lt) is
   where
-    one : (j : ℕ) (d : Found) → j < 1 → record { line = k; fault = fault } ≡ slice_index_or (record { line = k; fault = fault } ∷ []) j d
+    one : (j : ℕ) (d : Found) → j < 1 → record { place = k; fault = fault } ≡ slice_index_or (record { place = k; fault = fault } ∷ []) j d
     one zero d lt = refl
     one (suc j) d lt = absurd (omega (arith, lt))
 found_stands c fault k false is = All-nil (StandsAt c)
@@ -85,7 +85,7 @@ all_stand c (suc n) =
     (All-append S (found_if c Order n) (found_if c Wrong n) (its Order) (its Wrong)) (its NotAbove)) (its Twice)) (its Stray))
 
 abbrev at : ℕ → Fault → Found
-at k fault = record { line = k; fault = fault }
+at k fault = record { place = k; fault = fault }
 
 here_if : (k : ℕ) (fault : Fault) (b : Bool) → b ≡ true → Contains (cond b (at k fault ∷ []) []) (at k fault)
 here_if k fault true is = (0, omega arith, refl)
@@ -144,25 +144,25 @@ module _ (margin : ℕ) (lines : List Line) (places : List ℕ) (within : (i : �
       subst (All IsThere) (all_due margin part) (λ k d lt.
       let c = watched margin part in
       let found = slice_index_or (filter its_watched (faults_of c)) k d in
-      let low = All-filter its_watched (λ (found : Found). found.line < length part) (faults_of c) (all_below c (length part)) k d lt in
+      let low = All-filter its_watched (λ (found : Found). found.place < length part) (faults_of c) (all_below c (length part)) k d lt in
       let stand = All-filter its_watched (StandsAt c) (faults_of c) (all_stand c (length part)) k d lt in
       let is = filter_passes its_watched (faults_of c) k d lt in
-      let near : found.line < length places = (let size = length-map places (line_at lines) in omega (arith, low, size)) in
+      let near : found.place < length places = (let size = length-map places (line_at lines) in omega (arith, low, size)) in
       subst (λ (all : List Found). Contains all (placed_found places found)) (all_due margin lines)
       (passing its_watched (faults_of (watched margin lines)) (placed_found places found)
-      (found_below (watched margin lines) (length lines) (slice_index places found.line) found.fault (within found.line near) is (one_true found.fault found.line near is stand)) is))
+      (found_below (watched margin lines) (length lines) (slice_index places found.place) found.fault (within found.place near) is (one_true found.fault found.place near is stand)) is))
 
 -- what is told of some of them is among all that there is to tell
 some_told : (margin : ℕ) (due : ℕ → Line → Bool) (lines : List Line) → All (Contains (told_all margin lines)) (told_of margin due lines)
 some_told margin due lines =
     let c = watched margin lines in
-    let test = λ (found : Found). is_watched found.fault && due found.line (line_at lines found.line) in
+    let test = λ (found : Found). is_watched found.fault && due found.place (line_at lines found.place) in
     λ k d lt.
     let found = slice_index_or (told_of margin due lines) k d in
     let there = All-filter test (Contains (faults_of c)) (faults_of c) (All-contains_itself (faults_of c)) k d lt in
     let is = filter_passes test (faults_of c) k d lt in
     subst (λ (all : List Found). Contains all found) (all_due margin lines)
-    (passing its_watched (faults_of c) found there (first_of (is_watched found.fault) (due found.line (line_at lines found.line)) is))
+    (passing its_watched (faults_of c) found there (first_of (is_watched found.fault) (due found.place (line_at lines found.place)) is))
   where
     first_of : (a b : Bool) → (a && b) ≡ true → a ≡ true
     first_of true b is = refl
@@ -177,7 +177,7 @@ module _ (margin : ℕ) (lines : List Line) (keys : List (Option ℕ)) (as_many 
   -- all that there is to tell of a key's lines is found
   key_there : (q : Option ℕ) (found : Found) → Contains (told_all margin (lines_of_one lines keys q)) found → Contains all (placed_found (places_of keys q) found)
   key_there q found told =
-      passed (λ (one : Found). option_eq ◌==◌ (key_at keys one.line) q) all (placed_found (places_of keys q) found)
+      passed (λ (one : Found). option_eq ◌==◌ (key_at keys one.place) q) all (placed_found (places_of keys q) found)
       (subst (λ (list : List Found). Contains list (placed_found (places_of keys q) found)) (sym (audited_of margin lines keys q as_many))
       (mapped (placed_found (places_of keys q)) (told_all margin (lines_of_one lines keys q)) found told))
 
@@ -259,7 +259,7 @@ module _ (margin : ℕ) (lines : List Line) (keys : List (Option ℕ)) (as_many 
           ∙ sym (fewer_are lines (places_of keys q) kept kept_within))
 
       -- each is told where it stands in the whole log
-      same_place : (found : Found) → found.line < length kept → placed_found (places_of keys q) (placed_found kept found) ≡ placed_found places (placed_found (there keys places q) found)
+      same_place : (found : Found) → found.place < length kept → placed_found (places_of keys q) (placed_found kept found) ≡ placed_found places (placed_found (there keys places q) found)
       same_place found lt =
           let are = kept_are keys places q low in
           let size = ap length (there_are keys places q) in
@@ -276,14 +276,14 @@ module _ (margin : ℕ) (lines : List Line) (keys : List (Option ℕ)) (as_many 
           (λ k d lt.
           let found = slice_index_or (told_all margin (lines_in mine kept)) k d in
           let near = told_there margin (is_due 0 0 0 None) (lines_in mine kept) k d lt in
-          let less : found.line < length kept = (let size = length-map kept (line_at mine) in omega (arith, near, size)) in
+          let less : found.place < length kept = (let size = length-map kept (line_at mine) in omega (arith, near, size)) in
           subst (Contains all) (same_place found less) (key_there q (placed_found kept found) (part_true margin mine kept kept_within kept_rises k d lt)))))
 
     pub some_true : All IsTrue (audited margin some some_keys)
     some_true = λ k d lt.
         let found = slice_index_or (audited margin some some_keys) k d in
-        let q = key_at some_keys found.line in
-        let is_its = λ (one : Found). option_eq ◌==◌ (key_at some_keys one.line) q in
+        let q = key_at some_keys found.place in
+        let is_its = λ (one : Found). option_eq ◌==◌ (key_at some_keys one.place) q in
         holds IsTrue (at_key some_keys q (audited margin some some_keys)) found (of_key_true q)
         (passing is_its (audited margin some some_keys) found (All-contains_itself (audited margin some some_keys) k d lt) (same_self q))
 
@@ -385,4 +385,4 @@ module _ (margin : ℕ) (lines more : List Line) (keys more_keys : List (Option 
       λ k d lt.
       let found = slice_index_or (audited margin lines keys) k d in
       let low = audited_there margin lines keys k d lt in
-      subst (Contains all) (ap (λ line. record { line = line; fault = found.fault }) (first_is found.line (omega (arith, low, size)))) (true k d lt)
+      subst (Contains all) (ap (λ line. record { place = line; fault = found.fault }) (first_is found.place (omega (arith, low, size)))) (true k d lt)

@@ -26,16 +26,16 @@ use Rattle.fdb_lines.proofs.Windows.{told_after}
 
 -- ---- of what an audit finds, that of a key from a moment on
 
-pub audited_there : (margin : ℕ) (lines : List Line) (keys : List (Option ℕ)) → All (λ (found : Found). found.line < length lines) (audited margin lines keys)
+pub audited_there : (margin : ℕ) (lines : List Line) (keys : List (Option ℕ)) → All (λ (found : Found). found.place < length lines) (audited margin lines keys)
 audited_there margin lines keys =
-    All-filter (λ (found : Found). is_watched found.fault) (λ (found : Found). found.line < length lines) (faults_by_key (with_times lines) keys (opts_of margin))
+    All-filter (λ (found : Found). is_watched found.fault) (λ (found : Found). found.place < length lines) (faults_by_key (with_times lines) keys (opts_of margin))
     (at_lines (with_times lines) keys (opts_of margin) (length lines))
 
 pub audited_from_of : (margin from : ℕ) (lines : List Line) (keys : List (Option ℕ)) (q : Option ℕ) → length keys ≡ length lines
     → at_key keys q (audited_from margin from lines keys) ≡ map (placed_found (places_of keys q)) (told_of margin (is_due from from 0 None) (lines_of_one lines keys q))
 audited_from_of margin from lines keys q as_many =
-    let its = λ (found : Found). option_eq ◌==◌ (key_at keys found.line) q in
-    let later = λ (found : Found). not (begins_before (Some from) (line_at lines found.line)) in
+    let its = λ (found : Found). option_eq ◌==◌ (key_at keys found.place) q in
+    let later = λ (found : Found). not (begins_before (Some from) (line_at lines found.place)) in
     let places = places_of keys q in
     let mine = lines_of_one lines keys q in
     let place = placed_found places in
@@ -44,7 +44,7 @@ audited_from_of margin from lines keys q as_many =
     filters_swap its later (audited margin lines keys)
     ∙ (ap (filter later) (audited_of margin lines keys q as_many)
     ∙ (filter_mapped later place found
-    ∙ (ap (map place) (filter_same (λ (one : Found). later (place one)) (λ (one : Found). not (begins_before (Some from) (line_at mine one.line))) found (λ k d lt.
+    ∙ (ap (map place) (filter_same (λ (one : Found). later (place one)) (λ (one : Found). not (begins_before (Some from) (line_at mine one.place))) found (λ k d lt.
     let there = told_there margin (is_due 0 0 0 None) mine k d lt in
     ap (λ line. not (begins_before (Some from) line)) (sym (at_part lines places _ (omega (arith, there, size))))))
     ∙ ap (map place) (sym (told_after margin 0 0 0 from from None mine (omega arith))
@@ -101,7 +101,7 @@ module _ (keys : List (Option ℕ)) (places : List ℕ) (q : Option ℕ) where
 
 -- ---- what they tell, told at the places of all
 
-pub placed_on : (mine numbers : List ℕ) (found : List Found) → All (λ (one : Found). one.line < length numbers) found
+pub placed_on : (mine numbers : List ℕ) (found : List Found) → All (λ (one : Found). one.place < length numbers) found
     → map (placed_found mine) (map (placed_found numbers) found) ≡ map (placed_found (map (slice_index mine) numbers)) found
 placed_on mine numbers found within =
     map-map (placed_found mine) (placed_found numbers) found
@@ -133,12 +133,12 @@ module _ (margin at from : ℕ) (lines : List Line) (keys : List (Option ℕ)) (
         ∙ (ap (lines_in lines) (there_are keys places q ∙ sym (kept_are keys places q low))
         ∙ sym (fewer_are lines (places_of keys q) kept (stand.each q).within))
 
-    told_kept : All (λ (one : Found). one.line < length kept) (told_of margin due (lines_of_one part part_keys q))
+    told_kept : All (λ (one : Found). one.place < length kept) (told_of margin due (lines_of_one part part_keys q))
     told_kept = λ k d lt.
         let is = told_there margin due (lines_of_one part part_keys q) k d lt in
         omega (arith, is, ap length same_lines, length-map kept (line_at (lines_of_one lines keys q)))
 
-    told_part : All (λ (one : Found). one.line < length (there keys places q)) (told_of margin due (lines_of_one part part_keys q))
+    told_part : All (λ (one : Found). one.place < length (there keys places q)) (told_of margin due (lines_of_one part part_keys q))
     told_part = λ k d lt.
         let is = told_there margin due (lines_of_one part part_keys q) k d lt in
         omega (arith, is, length-map (there keys places q) (line_at part))
@@ -154,10 +154,10 @@ module _ (margin at from : ℕ) (lines : List Line) (keys : List (Option ℕ)) (
     by_them : at_key keys q (map (placed_found places) (audited_from margin from part part_keys)) ≡ map (placed_found (its keys places q)) (told_of margin due (lines_of_one part part_keys q))
     by_them =
         let found = audited_from margin from part part_keys in
-        filter_mapped (λ (one : Found). option_eq ◌==◌ (key_at keys one.line) q) (placed_found places) found
-        ∙ (ap (map (placed_found places)) (filter_same (λ (one : Found). option_eq ◌==◌ (key_at keys (slice_index places one.line)) q) (λ (one : Found). option_eq ◌==◌ (key_at part_keys one.line) q) found
+        filter_mapped (λ (one : Found). option_eq ◌==◌ (key_at keys one.place) q) (placed_found places) found
+        ∙ (ap (map (placed_found places)) (filter_same (λ (one : Found). option_eq ◌==◌ (key_at keys (slice_index places one.place)) q) (λ (one : Found). option_eq ◌==◌ (key_at part_keys one.place) q) found
         (λ k d lt.
-        let is = All-filter (λ (found : Found). not (begins_before (Some from) (line_at part found.line))) (λ (found : Found). found.line < length part) (audited margin part part_keys) (audited_there margin part part_keys) k d lt in
+        let is = All-filter (λ (found : Found). not (begins_before (Some from) (line_at part found.place))) (λ (found : Found). found.place < length part) (audited margin part part_keys) (audited_there margin part part_keys) k d lt in
         ap (λ key. option_eq ◌==◌ key q) (sym (get_or-map (key_at keys) places _ 0 None (omega (arith, is, length-map places (line_at lines))))))
         ∙ audited_from_of margin from part part_keys q part_many)
         ∙ (placed_on places (there keys places q) (told_of margin due (lines_of_one part part_keys q)) told_part
@@ -167,5 +167,5 @@ module _ (margin at from : ℕ) (lines : List Line) (keys : List (Option ℕ)) (
   told_by_key =
       let all = audited_from margin from lines keys in
       let them = map (placed_found places) (audited_from margin from part part_keys) in
-      permuted_by_key (λ (found : Found). key_at keys found.line) (length all) all them (omega arith) (λ q.
+      permuted_by_key (λ (found : Found). key_at keys found.place) (length all) all them (omega arith) (λ q.
       subst (IsPermutation (at_key keys q all)) (by_all q ∙ sym (by_them q)) (IsPermutation-refl (at_key keys q all)))

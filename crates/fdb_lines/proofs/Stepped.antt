@@ -42,7 +42,7 @@ pub record IsOrderStepAt (slots kept : List Slot) (step : OrderStep) (m : ℕ) :
   pub slot : Slot
   pub there : Contains slots slot
   pub effect : slot.effect ≡ step.effect
-  pub line : slot.line ≡ step.line
+  pub place : slot.place ≡ step.place
   pub first : Slot
   pub at : slice_get kept m ≡ Some first
   pub one : is_one slot first ≡ true
@@ -58,19 +58,19 @@ kept_first x (s ∷ ss) = cond_both (is_one s x) _ _ (λ (kept : List Slot). sli
 further : (s : Slot) (ss kept : List Slot) (step : OrderStep) (m : ℕ) → IsOrderStepAt ss kept step m → IsOrderStepAt (s ∷ ss) kept step m
 further s ss kept step m is =
     let in_ss = is.there in
-    record { slot = is.slot; there = (suc in_ss.0, omega (arith, in_ss.1), in_ss.2); effect = is.effect; line = is.line; first = is.first; at = is.at; one = is.one }
+    record { slot = is.slot; there = (suc in_ss.0, omega (arith, in_ss.1), in_ss.2); effect = is.effect; place = is.place; first = is.first; at = is.at; one = is.one }
 
 beyond : (x s : Slot) (ss kept : List Slot) (step : OrderStep) (m : ℕ) → IsOrderStepAt ss kept step m → IsOrderStepAt (s ∷ ss) (x ∷ kept) step (suc m)
 beyond x s ss kept step m is =
     let more = further s ss kept step m is in
-    record { slot = more.slot; there = more.there; effect = more.effect; line = more.line; first = more.first; at = more.at; one = more.one }
+    record { slot = more.slot; there = more.there; effect = more.effect; place = more.place; first = more.first; at = more.at; one = more.one }
 
 -- the step of a slot itself
 here : (s first : Slot) (ss kept : List Slot) (b : Bool) (m : ℕ) → slice_get kept m ≡ Some first → is_one s first ≡ true
-    → (step : OrderStep) → Some (record { effect = s.effect; line = s.line; shared = b }) ≡ Some step → IsOrderStepAt (s ∷ ss) kept step m
+    → (step : OrderStep) → Some (record { effect = s.effect; place = s.place; shared = b }) ≡ Some step → IsOrderStepAt (s ∷ ss) kept step m
 here s first ss kept b m at one step e =
     subst (λ (t : OrderStep). IsOrderStepAt (s ∷ ss) kept t m) (same_Some _ step e)
-    (record { slot = s; there = (0, omega arith, refl); effect = refl; line = refl; first = first; at = at; one = one })
+    (record { slot = s; there = (0, omega arith, refl); effect = refl; place = refl; first = first; at = at; one = one })
 
 -- what is to be shown of the steps behind a slot
 abbrev After : List Slot → OrderStep → Slot → List OrderStep → ℕ → Type 0
@@ -78,12 +78,12 @@ After ss step x steps i = slice_get steps i ≡ Some step → IsOrderStepAt ss (
 
 -- the steps from a slot on, by whether it shares the effect above and has a line
 abbrev pub steps_by : Slot → List OrderStep → Bool → Bool → List OrderStep
-steps_by s steps b d = cond (b && not d) steps (record { effect = s.effect; line = s.line; shared = b } ∷ steps)
+steps_by s steps b d = cond (b && not d) steps (record { effect = s.effect; place = s.place; shared = b } ∷ steps)
 
 told_after : (x : Slot) (ss : List Slot) (i : ℕ) (step : OrderStep) → slice_get (steps_from (Some x.key) ss) i ≡ Some step
     → IsOrderStepAt ss (dedup_from is_one x ss) step (told (steps_from (Some x.key) ss) i)
 told_after x [] i step h = absurd (none-some step h)
-told_after x (s ∷ ss) i step h = by (is_one s x) (is_some s.line) refl i (λ x i h. told_after x ss i step h) h
+told_after x (s ∷ ss) i step h = by (is_one s x) (is_some s.place) refl i (λ x i h. told_after x ss i step h) h
   where
     by : (b d : Bool) → is_one s x ≡ b → (i : ℕ) → ((x : Slot) (i : ℕ) → After ss step x (steps_from (Some x.key) ss) i)
         → slice_get (steps_by s (steps_from (Some s.key) ss) b d) i ≡ Some step
@@ -103,15 +103,15 @@ stepped_at (s ∷ ss) (suc i) step h = (told (steps_from (Some s.key) ss) i, ref
 -- ---- the slot of a line has its step
 
 abbrev pub HasOrderStep : List OrderStep → ℕ → Effect → Type 0
-HasOrderStep steps k effect = (i : ℕ) × (step : OrderStep) × (slice_get steps i ≡ Some step) × (step.line ≡ Some k) × (step.effect ≡ effect)
+HasOrderStep steps k effect = (i : ℕ) × (step : OrderStep) × (slice_get steps i ≡ Some step) × (step.place ≡ Some k) × (step.effect ≡ effect)
 
-pub stepped_one : (above : Option Key) (ss : List Slot) (s : Slot) (k : ℕ) → Contains ss s → s.line ≡ Some k → HasOrderStep (steps_from above ss) k s.effect
+pub stepped_one : (above : Option Key) (ss : List Slot) (s : Slot) (k : ℕ) → Contains ss s → s.place ≡ Some k → HasOrderStep (steps_from above ss) k s.effect
 stepped_one above [] s k h e = absurd (omega (arith, h.1))
 stepped_one above (x ∷ ss) s k (zero, lt, is) e =
-    let own : x.line ≡ Some k = ap (λ z. z.line) is ∙ e in
+    let own : x.place ≡ Some k = ap (λ z. z.place) is ∙ e in
     let some = ap is_some own in
-    cond_both (shares above x && not (is_some x.line)) _ _ (λ ts. HasOrderStep ts k s.effect) (λ dropped. absurd (grind (arith, nat_tests)))
+    cond_both (shares above x && not (is_some x.place)) _ _ (λ ts. HasOrderStep ts k s.effect) (λ dropped. absurd (grind (arith, nat_tests)))
     (λ _. (0, _, refl, own, ap (λ z. z.effect) is))
 stepped_one above (x ∷ ss) s k (suc j, lt, is) e =
     let rest = stepped_one (Some x.key) ss s k (j, omega arith, is) e in
-    cond_both (shares above x && not (is_some x.line)) _ _ (λ ts. HasOrderStep ts k s.effect) (λ _. rest) (λ _. (suc rest.0, rest.1, rest.2, rest.3, rest.4))
+    cond_both (shares above x && not (is_some x.place)) _ _ (λ ts. HasOrderStep ts k s.effect) (λ _. rest) (λ _. (suc rest.0, rest.1, rest.2, rest.3, rest.4))

@@ -78,8 +78,8 @@ module _ (margin at : ℕ) (lines more : List Line) (from : (j : ℕ) → j < le
         let there = is.there in
         record {
           there = omega (arith, length-append lines more);
-          knew = sym (knew_same lets_know version by.line there) ∙ is.knew;
-          means = means_same by.line by.means there is.means;
+          knew = sym (knew_same lets_know version by.place there) ∙ is.knew;
+          means = means_same by.place by.means there is.means;
         }
 
     -- ---- each reason

@@ -46,7 +46,7 @@ numbered Twice = refl
 numbered Stray = refl
 
 code : Found → Option ℕ
-code found = Some (5 * found.line + number_of found.fault)
+code found = Some (5 * found.place + number_of found.fault)
 
 same_numbers : (l m f g : ℕ) → f < 5 → g < 5 → 5 * l + f ≡ 5 * m + g → (l ≡ m) × (f ≡ g)
 same_numbers l m f g lf lg same = (omega arith, omega arith)
@@ -54,9 +54,9 @@ same_numbers l m f g lf lg same = (omega arith, omega arith)
 same_found : (one other : Found) → code one ≡ code other → one ≡ other
 unfolding code
 same_found one other same =
-    let are = same_numbers one.line other.line (number_of one.fault) (number_of other.fault) (few one.fault) (few other.fault) (same_Some _ _ same) in
+    let are = same_numbers one.place other.place (number_of one.fault) (number_of other.fault) (few one.fault) (few other.fault) (same_Some _ _ same) in
     let faults : one.fault ≡ other.fault = sym (numbered one.fault) ∙ (ap fault_of are.1 ∙ numbered other.fault) in
-    λ i. record { line = are.0 i; fault = faults i }
+    λ i. record { place = are.0 i; fault = faults i }
 
 -- ---- as many of each
 

@@ -80,13 +80,13 @@ module _ (watch : Watch) (to : Option ℕ) (lines : List Line) (seen : HasSeen w
       (subst (All (IsToldAt test (case_of (with_times part) (opts_of watch.margin)) (length part))) (sym are.told)
       (all_told test (case_of (with_times part) (opts_of watch.margin)) (length part)) j (found_of d) (omega (arith, length-map found found_of)))
 
-  there : (it : Found) → IsToldAt test (case_of (with_times part) (opts_of watch.margin)) (length part) it → it.line < length numbers
+  there : (it : Found) → IsToldAt test (case_of (with_times part) (opts_of watch.margin)) (length part) it → it.place < length numbers
   there it told = let lt = told.there in omega (arith, length-map numbers (line_at lines))
 
-  begins : (it : Found) → IsToldAt test (case_of (with_times part) (opts_of watch.margin)) (length part) it → at ≤ began (line_at lines (slice_index numbers it.line))
+  begins : (it : Found) → IsToldAt test (case_of (with_times part) (opts_of watch.margin)) (length part) it → at ≤ began (line_at lines (slice_index numbers it.place))
   begins it told =
-      let from = since_judged watch to (slice_index numbers it.line) (line_at part it.line) told.due in
-      let same = ap began (at_part lines numbers it.line (there it told)) in
+      let from = since_judged watch to (slice_index numbers it.place) (line_at part it.place) told.due in
+      let same = ap began (at_part lines numbers it.place (there it told)) in
       omega arith
 
   stands_all : (fault : Fault) (i : ℕ) → i < length numbers → at ≤ began (line_at lines (slice_index numbers i)) → is_watched fault ≡ true
@@ -108,15 +108,15 @@ module _ (watch : Watch) (to : Option ℕ) (lines : List Line) (seen : HasSeen w
       reasons = λ j d lt.
           let finding = slice_index_or found j d in
           let it = each_told j d lt in
-          reason_same watch.margin at lines numbers seen.stand finding.found.line (there finding.found it) (begins finding.found it) finding.found.fault finding.reason it.is_of
+          reason_same watch.margin at lines numbers seen.stand finding.found.place (there finding.found it) (begins finding.found it) finding.found.fault finding.reason it.is_of
           (are.reasons j d lt);
       late = λ j d lt.
           let finding = slice_index_or found j d in
           let it = each_told j d lt in
           let li = there finding.found it in
           let from = begins finding.found it in
-          late_same watch.margin at lines numbers seen.stand finding.found.line li from finding.found.fault it.is_of
-          (stands_all finding.found.fault finding.found.line li from it.is_of it.stand) finding.late (are.late j d lt);
+          late_same watch.margin at lines numbers seen.stand finding.found.place li from finding.found.fault it.is_of
+          (stands_all finding.found.fault finding.found.place li from it.is_of it.stand) finding.late (are.late j d lt);
       within = λ j d lt. let finding = slice_index_or found j d in there finding.found (each_told j d lt);
     };
     kept = kept;

@@ -21,7 +21,7 @@ use Rattle.fdb_lines.proofs.Carried.{at_part, new_line, settled, stand_for_all}
 -- ---- among the faults of all lines
 
 abbrev passes : (ℕ → Bool) → Found → Bool
-passes test found = is_watched found.fault && test found.line
+passes test found = is_watched found.fault && test found.place
 
 pub one_by : (p : Found → Bool) (b q : Bool) (x : Found) → p x ≡ q → filter p (cond b (x ∷ []) []) ≡ cond q (cond b (x ∷ []) []) []
 one_by p true true x e = rw e refl
@@ -31,7 +31,7 @@ one_by p false false x e = refl
 
 of_fault : (test : ℕ → Bool) (c : Case) (k : ℕ) (fault : Fault) (q : Bool) → (is_watched fault && test k) ≡ q
     → filter (passes test) (found_if c fault k) ≡ cond q (found_if c fault k) []
-of_fault test c k fault q e = one_by (passes test) (stands c fault k) q (record { line = k; fault = fault }) e
+of_fault test c k fault q e = one_by (passes test) (stands c fault k) q (record { place = k; fault = fault }) e
 
 of_five : (p : Found → Bool) (v w x y z : List Found) → filter p (v ++ w ++ x ++ y ++ z) ≡ filter p v ++ filter p w ++ filter p x ++ filter p y ++ filter p z
 of_five p v w x y z =
@@ -61,13 +61,13 @@ filtered test c (suc n) =
 -- ---- each of them stands at a line that is due
 
 pub record IsToldAt (test : ℕ → Bool) (c : Case) (n : ℕ) (found : Found) : Type 0 where
-  pub there : found.line < n
+  pub there : found.place < n
   pub is_of : is_watched found.fault ≡ true
-  pub due : test found.line ≡ true
-  pub stand : stands c found.fault found.line ≡ true
+  pub due : test found.place ≡ true
+  pub stand : stands c found.fault found.place ≡ true
 
 one_told : (test : ℕ → Bool) (c : Case) (k : ℕ) (fault : Fault) (b : Bool) → is_watched fault ≡ true → test k ≡ true → stands c fault k ≡ b
-    → All (IsToldAt test c (suc k)) (cond b (record { line = k; fault = fault } ∷ []) [])
+    → All (IsToldAt test c (suc k)) (cond b (record { place = k; fault = fault } ∷ []) [])
 one_told test c k fault true is due stand =
     All-cons (IsToldAt test c (suc k)) _ [] (record { there = omega arith; is_of = is; due = due; stand = stand }) (All-nil (IsToldAt test c (suc k)))
 one_told test c k fault false is due stand = All-nil (IsToldAt test c (suc k))
@@ -97,8 +97,8 @@ placed_one places false x = refl
 placed_at : (one other : Case) (places : List ℕ) (i : ℕ) (fault : Fault) → stands one fault i ≡ stands other fault (slice_index places i)
     → placed_all places (found_if one fault i) ≡ found_if other fault (slice_index places i)
 placed_at one other places i fault same =
-    placed_one places (stands one fault i) (record { line = i; fault = fault })
-    ∙ ap (λ b. cond {A = List Found} b (record { line = slice_index places i; fault = fault } ∷ []) []) same
+    placed_one places (stands one fault i) (record { place = i; fault = fault })
+    ∙ ap (λ b. cond {A = List Found} b (record { place = slice_index places i; fault = fault } ∷ []) []) same
 
 told_same : (one other : Case) (places : List ℕ) (i : ℕ)
     → (stands one Order i ≡ stands other Order (slice_index places i)) × (stands one NotAbove i ≡ stands other NotAbove (slice_index places i))
@@ -218,8 +218,8 @@ module _ (margin to : ℕ) (lines more : List Line) (later : (j : ℕ) → j < l
   at_both : (k : ℕ) → (stands (watched margin both) Order k ≡ stands (watched margin lines) Order k) × (stands (watched margin both) NotAbove k ≡ stands (watched margin lines) NotAbove k)
       → told_at (watched margin both) k ≡ told_at (watched margin lines) k
   at_both k same =
-      ap (λ b. cond {A = List Found} b (record { line = k; fault = Order } ∷ []) [] ++ found_if (watched margin both) NotAbove k) same.0
-      ∙ ap (λ b. found_if (watched margin lines) Order k ++ cond {A = List Found} b (record { line = k; fault = NotAbove } ∷ []) []) same.1
+      ap (λ b. cond {A = List Found} b (record { place = k; fault = Order } ∷ []) [] ++ found_if (watched margin both) NotAbove k) same.0
+      ∙ ap (λ b. found_if (watched margin lines) Order k ++ cond {A = List Found} b (record { place = k; fault = NotAbove } ∷ []) []) same.1
 
   same_first : (k : ℕ) → k < length lines → of_both k ≡ of_first k
   same_first k lk =

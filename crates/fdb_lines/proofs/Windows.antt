@@ -17,7 +17,7 @@ use Rattle.fdb_lines.proofs.Watched.{filtered, one_by}
 -- ---- of what is told, that of the lines which pass a test
 
 abbrev passes_at : (ℕ → Bool) → Found → Bool
-passes_at at found = at found.line
+passes_at at found = at found.place
 
 both_if : (b : Bool) (xs ys : List Found) → cond b xs [] ++ cond b ys [] ≡ cond b (xs ++ ys) []
 both_if true xs ys = refl
@@ -26,8 +26,8 @@ both_if false xs ys = refl
 at_line : (at : ℕ → Bool) (c : Case) (k : ℕ) (b : Bool) → at k ≡ b → filter (passes_at at) (told_at c k) ≡ cond b (told_at c k) []
 at_line at c k b e =
     filter-append (passes_at at) (found_if c Order k) (found_if c NotAbove k)
-    ∙ (ap (λ (xs : List Found). xs ++ filter (passes_at at) (found_if c NotAbove k)) (one_by (passes_at at) (stands c Order k) b (record { line = k; fault = Order }) e)
-    ∙ (ap (λ (xs : List Found). cond b (found_if c Order k) [] ++ xs) (one_by (passes_at at) (stands c NotAbove k) b (record { line = k; fault = NotAbove }) e)
+    ∙ (ap (λ (xs : List Found). xs ++ filter (passes_at at) (found_if c NotAbove k)) (one_by (passes_at at) (stands c Order k) b (record { place = k; fault = Order }) e)
+    ∙ (ap (λ (xs : List Found). cond b (found_if c Order k) [] ++ xs) (one_by (passes_at at) (stands c NotAbove k) b (record { place = k; fault = NotAbove }) e)
     ∙ both_if b (found_if c Order k) (found_if c NotAbove k)))
 
 of_line : (at : ℕ → Bool) (c : Case) (k : ℕ) (t b : Bool) → (t && at k) ≡ b → filter (passes_at at) (cond t (told_at c k) []) ≡ cond b (told_at c k) []
@@ -46,7 +46,7 @@ of_each test lines k = test k (line_at lines k)
 
 parted : (margin : ℕ) (lines : List Line) (due other : ℕ → Line → Bool) (at : Line → Bool)
     → ((k : ℕ) → k < length lines → (due k (line_at lines k) && at (line_at lines k)) ≡ other k (line_at lines k))
-    → told_of margin other lines ≡ filter (λ (found : Found). at (line_at lines found.line)) (told_of margin due lines)
+    → told_of margin other lines ≡ filter (λ (found : Found). at (line_at lines found.place)) (told_of margin due lines)
 parted margin lines due other at same =
     let c = watched margin lines in
     let n = length lines in
@@ -68,14 +68,14 @@ is_after false from early since to early_on many k began on lt = refl
 
 pub told_before : (margin from early since to : ℕ) (later : Option ℕ) (lines : List Line) → IfSome later (λ last. to ≤ last)
     → told_of margin (is_due from early since (Some to)) lines
-    ≡ filter (λ (found : Found). begins_before (Some to) (line_at lines found.line)) (told_of margin (is_due from early since later) lines)
+    ≡ filter (λ (found : Found). begins_before (Some to) (line_at lines found.place)) (told_of margin (is_due from early since later) lines)
 told_before margin from early since to later lines after =
     parted margin lines (is_due from early since later) (is_due from early since (Some to)) (begins_before (Some to)) (λ k lk.
     is_before from early since to later after k (line_at lines k))
 
 pub told_after : (margin from early since to early_on : ℕ) (later : Option ℕ) (lines : List Line) → from ≤ to
     → told_of margin (is_due to early_on (length lines) later) lines
-    ≡ filter (λ (found : Found). not (begins_before (Some to) (line_at lines found.line))) (told_of margin (is_due from early since later) lines)
+    ≡ filter (λ (found : Found). not (begins_before (Some to) (line_at lines found.place))) (told_of margin (is_due from early since later) lines)
 told_after margin from early since to early_on later lines on =
     parted margin lines (is_due from early since later) (is_due to early_on (length lines) later) (λ line. not (begins_before (Some to) line)) (λ k lk.
     is_after (begins_before later (line_at lines k)) from early since to early_on (length lines) k (began (line_at lines k)) on lk)

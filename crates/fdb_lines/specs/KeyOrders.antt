@@ -9,7 +9,7 @@ use Rattle.fdb_lines.specs.OrderSteps.{IsOrderOf}
 
 -- a step among the lines at some places, with its line told of the whole log
 abbrev pub placed_step : List ℕ → OrderStep → OrderStep
-placed_step places step = record { effect = step.effect; line = option_map (slice_index places) step.line; shared = step.shared }
+placed_step places step = record { effect = step.effect; place = option_map (slice_index places) step.place; shared = step.shared }
 
 -- the steps of a key are an order of its lines, which are told at their places in the whole log
 abbrev pub IsOrderOfKey : Lines → List (Option ℕ) → AuditOpts → KeyOrder → Type 0

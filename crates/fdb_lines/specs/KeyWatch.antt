@@ -1,5 +1,5 @@
 -- What an audit that watches by key has seen, and what it tells: of each key what a watch of its lines does. (this product's own)
-use Rattle.std.specs.Prelude.{◌≡◌, ◌≢◌, ◌⊎◌, ℕ, ◌+◌, ◌<◌, ◌≤◌, All, List, [], Option, None, Some, length, map, slice_index, slice_index_or}
+use Rattle.std.specs.Prelude.{◌≡◌, ◌≢◌, ◌⊎◌, ℕ, ◌+◌, ◌<◌, ◌≤◌, All, List, [], Option, Some, length, map, slice_index, slice_index_or}
 use Rattle.std.specs.List.{AllPairs, Contains, flat_map}
 use Rattle.fdb_lines.specs.declared.key_part.KeptLine.{KeptLine}
 use Rattle.fdb_lines.specs.declared.key_part.KeyPart.{KeyPart}

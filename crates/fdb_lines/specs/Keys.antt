@@ -56,7 +56,7 @@ AreExplainedByKey log keys opts = (key : Option ℕ) → AreExplained (case_of_k
 -- ---- their faults, told at the places of the whole log, line by line
 
 abbrev pub told_at : ℕ → Found → Found
-told_at k found = record { line = k; fault = found.fault }
+told_at k found = record { place = k; fault = found.fault }
 
 -- The faults at a line: those that stand there among the lines of its key.
 abbrev pub faults_at_by_key : Lines → List (Option ℕ) → AuditOpts → ℕ → List Found
@@ -71,7 +71,7 @@ faults_by_key log keys opts = faults_below_by_key log keys opts (length log.line
 
 -- a fault among the lines of a key, told at its place in the whole log
 abbrev pub placed_found : List ℕ → Found → Found
-placed_found places found = record { line = slice_index places found.line; fault = found.fault }
+placed_found places found = record { place = slice_index places found.place; fault = found.fault }
 
 -- ---- why they stand: the lines that a reason names are those at their places in the whole log
 
@@ -82,7 +82,7 @@ placed_means places (Learnt j) = Learnt (slice_index places j)
 
 abbrev pub placed_by : List ℕ → Option Witness → Option Witness
 placed_by places None = None
-placed_by places (Some by) = Some (record { line = slice_index places by.line; means = placed_means places by.means })
+placed_by places (Some by) = Some (record { place = slice_index places by.place; means = placed_means places by.means })
 
 abbrev pub placed_reason : List ℕ → Reason → Reason
 placed_reason places (Known version by) = Known version (placed_by places by)
@@ -93,7 +93,7 @@ placed_reason places Undrawn = Undrawn
 
 abbrev pub placed_late : List ℕ → Option Late → Option Late
 placed_late places None = None
-placed_late places (Some late) = Some (record { line = slice_index places late.line; by = late.by })
+placed_late places (Some late) = Some (record { place = slice_index places late.place; by = late.by })
 
 -- a finding among the lines at some places, told of the whole log
 abbrev pub placed_finding : List ℕ → Finding → Finding
@@ -106,13 +106,13 @@ placed_finding places finding = record {
 -- A finding has a reason of its fault among the lines of its key, told of the whole log.
 abbrev pub HasReasonByKey : Lines → List (Option ℕ) → AuditOpts → Finding → Type 0
 HasReasonByKey log keys opts finding =
-    let k = finding.found.line in
+    let k = finding.found.place in
     (reason : Reason) × IsReason (lines_of_key log keys (key_at keys k)) opts (place_among keys k) finding.found.fault reason
     × (finding.reason ≡ placed_reason (places_of keys (key_at keys k)) reason)
 
 -- and it is said by how much it is late among them
 abbrev pub HasLateByKey : Lines → List (Option ℕ) → AuditOpts → Finding → Type 0
 HasLateByKey log keys opts finding =
-    let k = finding.found.line in
+    let k = finding.found.place in
     (late : Option Late) × IsLateAt (lines_of_key log keys (key_at keys k)) opts (place_among keys k) finding.found.fault late
     × (finding.late ≡ placed_late (places_of keys (key_at keys k)) late)

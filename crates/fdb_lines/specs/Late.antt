@@ -59,7 +59,7 @@ IsLate fault log opts k None =
     ⊎ ((end : ℕ) × IsFirstThat (outdates fault log.lines k) log.lines k end))
     × IsLateBy fault log opts k 0
 IsLate fault log opts k (Some late) =
-    (end : ℕ) × IsFirstThat (outdates fault log.lines k) log.lines late.line end × (late.line ≢ k)
+    (end : ℕ) × IsFirstThat (outdates fault log.lines k) log.lines late.place end × (late.place ≢ k)
     × (late.by ≡ began (line_at log.lines k) - end) × IsLateBy fault log opts k late.by
 
 -- of a stale read and of a version that is not above others it is said by how much they are late, and of no other fault
@@ -71,17 +71,17 @@ IsLateAt log opts k Twice late = late ≡ None
 IsLateAt log opts k Stray late = late ≡ None
 
 abbrev pub HasLate : Lines → AuditOpts → Finding → Type 0
-HasLate log opts finding = IsLateAt log opts finding.found.line finding.found.fault finding.late
+HasLate log opts finding = IsLateAt log opts finding.found.place finding.found.fault finding.late
 
 -- A call is late at least by so much: by a line that outdates it and had ended before a moment, from whose end that is; and
 -- the fault stands under each lesser margin.
 abbrev pub IsLateAtLeast : ℕ → Fault → Lines → AuditOpts → ℕ → Option Late → Type 0
 IsLateAtLeast at fault log opts k None = ⊥
 IsLateAtLeast at fault log opts k (Some late) =
-    (end : ℕ) × (late.line < length log.lines) × IsTrue (outdates fault log.lines k late.line)
-    × (ended (line_at log.lines late.line) ≡ Some end) × (end < at) × (late.by ≡ began (line_at log.lines k) - end)
+    (end : ℕ) × (late.place < length log.lines) × IsTrue (outdates fault log.lines k late.place)
+    × (ended (line_at log.lines late.place) ≡ Some end) × (end < at) × (late.by ≡ began (line_at log.lines k) - end)
     × ((margin : ℕ) → margin < late.by → IsTrue (stands_under fault log opts k margin))
 
 -- it is said how late a call is: exactly, or, by a line that had ended before a moment, at least
 abbrev pub HasLateSince : ℕ → Lines → AuditOpts → Finding → Type 0
-HasLateSince at log opts finding = HasLate log opts finding ⊎ IsLateAtLeast at finding.found.fault log opts finding.found.line finding.late
+HasLateSince at log opts finding = HasLate log opts finding ⊎ IsLateAtLeast at finding.found.fault log opts finding.found.place finding.late

@@ -7,7 +7,7 @@ use Rattle.fdb_lines.specs.Lines.{Case}
 use Rattle.fdb_lines.specs.Faults.{stands}
 
 abbrev pub found_if : Case → Fault → ℕ → List Found
-found_if c fault k = cond (stands c fault k) (record { line = k; fault = fault } ∷ []) []
+found_if c fault k = cond (stands c fault k) (record { place = k; fault = fault } ∷ []) []
 
 abbrev pub faults_at : Case → ℕ → List Found
 faults_at c k = found_if c Order k ++ found_if c Wrong k ++ found_if c NotAbove k ++ found_if c Twice k ++ found_if c Stray k

@@ -20,10 +20,10 @@ pub record IsOrderOf (c : Case) (steps : List OrderStep) : Type 0 where
   -- a step has the effect of the moment at which it stands, and that is one of its line, where it is of one
   pub each : (i : ℕ) (step : OrderStep) → slice_get steps i ≡ Some step
       → (m : ℕ) × IsStepAt steps i m × Happens (effects_of steps) m step.effect
-      × IfSome step.line (λ k. (k < length c.lines) × IsMoment c explains.asked explains.took k m)
+      × IfSome step.place (λ k. (k < length c.lines) × IsMoment c explains.asked explains.took k m)
   -- at each moment of a line stands a step of it
   pub all : (k m : ℕ) → k < length c.lines → IsMoment c explains.asked explains.took k m
-      → (i : ℕ) × (step : OrderStep) × (slice_get steps i ≡ Some step) × (step.line ≡ Some k) × IsStepAt steps i m
+      → (i : ℕ) × (step : OrderStep) × (slice_get steps i ≡ Some step) × (step.place ≡ Some k) × IsStepAt steps i m
   -- and steps that share an effect are of lines, in their order
   pub shared : (i : ℕ) (above step : OrderStep) → slice_get steps i ≡ Some above → slice_get steps (suc i) ≡ Some step → IsTrue step.shared
-      → (a b : ℕ) × (above.line ≡ Some a) × (step.line ≡ Some b) × (a < b)
+      → (a b : ℕ) × (above.place ≡ Some a) × (step.place ≡ Some b) × (a < b)

@@ -35,9 +35,9 @@ knew_by log opts lets_know k version j =
 
 -- A line of which the call at a place knew, that lets this version be known, and how it knew.
 pub record IsWitness (log : Lines) (opts : AuditOpts) (lets_know : Kind → Bool) (k version : ℕ) (by : Witness) : Type 0 where
-  pub there : by.line < length log.lines
-  pub knew : IsTrue (knew_by log opts lets_know k version by.line)
-  pub means : IsMeans opts.margin log.lines by.line k by.means
+  pub there : by.place < length log.lines
+  pub knew : IsTrue (knew_by log opts lets_know k version by.place)
+  pub means : IsMeans opts.margin log.lines by.place k by.means
 
 -- A version was known to the call at a place: by a line, or, where no line lets it be known, since all began with it.
 abbrev pub IsKnown : Lines → AuditOpts → (Kind → Bool) → ℕ → ℕ → Option Witness → Type 0
@@ -84,4 +84,4 @@ abbrev pub found_of : Finding → Found
 found_of finding = finding.found
 
 abbrev pub HasReason : Lines → AuditOpts → Finding → Type 0
-HasReason log opts finding = IsReason log opts finding.found.line finding.found.fault finding.reason
+HasReason log opts finding = IsReason log opts finding.found.place finding.found.fault finding.reason

@@ -27,4 +27,4 @@ pub record StandForByKey (margin at : ℕ) (lines : List Line) (keys : List (Opt
 
 -- What an audit of all lines finds, each key by itself, of that what stands at lines that began from a moment on.
 abbrev pub audited_from : ℕ → ℕ → List Line → List (Option ℕ) → List Found
-audited_from margin from lines keys = filter (λ (found : Found). not (begins_before (Some from) (line_at lines found.line))) (audited margin lines keys)
+audited_from margin from lines keys = filter (λ (found : Found). not (begins_before (Some from) (line_at lines found.place))) (audited margin lines keys)

@@ -17,7 +17,7 @@ fault_name Stray = codes "Stray"
 
 -- a fault, by its name and its line, counted from 1
 abbrev pub found_text : Found → List ℕ
-found_text found = fault_name found.fault ++ codes " " ++ decimal (found.line + 1)
+found_text found = fault_name found.fault ++ codes " " ++ decimal (found.place + 1)
 
 abbrev pub line_error_text : LineError → List ℕ
 line_error_text TooMany = codes "too many lines"

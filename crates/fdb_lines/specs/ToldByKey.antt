@@ -24,7 +24,7 @@ told_by_all entries = flat_map told_by entries
 
 -- of what is told, that of the lines of a key
 abbrev pub at_key : List (Option ℕ) → Option ℕ → List Found → List Found
-at_key keys key told = filter (λ (found : Found). option_eq ◌==◌ (key_at keys found.line) key) told
+at_key keys key told = filter (λ (found : Found). option_eq ◌==◌ (key_at keys found.place) key) told
 
 -- what there is to tell of the lines of a key that began before a moment, or of all, at their places among all lines that came
 abbrev pub to_tell : ℕ → Option ℕ → List Line → List (Option ℕ) → Option ℕ → List Found
@@ -40,7 +40,7 @@ pub record HasToldOne (lines : List Line) (keys : List (Option ℕ)) (told : Lis
 -- Of each key this has been told, and nothing but that; and all that there is to tell up to where all have settled.
 pub record HasTold (watch : KeyWatch) (lines : List Line) (keys : List (Option ℕ)) (told : List Found) : Type 0 where
   pub each : All (HasToldOne lines keys told) watch.parts.items
-  pub came : All (λ (found : Found). found.line < length lines) told
+  pub came : All (λ (found : Found). found.place < length lines) told
   pub all : (key : Option ℕ) → IsPermutation (at_key keys key told) (to_tell watch.margin (Some watch.from) lines keys key)
 
 -- What an audit of all lines finds, each key by itself: the stale reads, and the versions drawn that are not above.
@@ -49,4 +49,4 @@ audited margin lines keys = filter (λ (found : Found). is_watched found.fault) 
 
 -- and of that what stands at lines that began before a moment
 abbrev pub audited_to : ℕ → ℕ → List Line → List (Option ℕ) → List Found
-audited_to margin to lines keys = filter (λ (found : Found). begins_before (Some to) (line_at lines found.line)) (audited margin lines keys)
+audited_to margin to lines keys = filter (λ (found : Found). begins_before (Some to) (line_at lines found.place)) (audited margin lines keys)

@@ -49,16 +49,16 @@ pub record IsUnchanged (old new : Watch) : Type 0 where
 abbrev pub due : Watch → Option ℕ → ℕ → Line → Bool
 due watch = is_due watch.from (judged_from watch) watch.settled
 
--- What is told of all lines, by some that have these numbers among all: of each line that is due, each fault with a reason that
+-- What is told of all lines, by some that have these numbers among all: of each line that passes a test, each fault with a reason that
 -- is true of all, and with how late it is: exactly, or at least, by a line that had ended before what is judged.
-pub record AreToldOf (margin : ℕ) (due : ℕ → Line → Bool) (judged : ℕ) (lines : List Line) (numbers : List ℕ) (found : List Finding) : Type 0 where
-  pub told : map (λ finding. placed_found numbers (found_of finding)) found ≡ told_of margin due lines
+pub record AreFindingsDue (margin : ℕ) (test : ℕ → Line → Bool) (judged : ℕ) (lines : List Line) (numbers : List ℕ) (found : List Finding) : Type 0 where
+  pub told : map (λ finding. placed_found numbers (found_of finding)) found ≡ told_of margin test lines
   pub reasons : All (λ finding. HasReason (with_times lines) (opts_of margin) (placed_finding numbers finding)) found
   pub late : All (λ finding. HasLateSince judged (with_times lines) (opts_of margin) (placed_finding numbers finding)) found
-  pub within : All (λ finding. finding.found.line < length numbers) found
+  pub within : All (λ finding. finding.found.place < length numbers) found
 
 -- What a watch tells of all lines when it settles up to a moment, or for good, by the lines that it keeps. Of these the faults are
 -- as `findings` would have them.
 pub record IsTold (watch : Watch) (to : Option ℕ) (lines : List Line) (numbers : List ℕ) (found : List Finding) : Type 0 where
-  pub tells : AreToldOf watch.margin (due watch to) (judged_from watch) lines numbers found
+  pub tells : AreFindingsDue watch.margin (due watch to) (judged_from watch) lines numbers found
   pub kept : All (λ finding. HasReason (lines_of watch.log) (opts_of watch.margin) finding × HasLate (lines_of watch.log) (opts_of watch.margin) finding) found

@@ -39,4 +39,4 @@ is_due from early since to number line = begins_before to line && (nat_le from (
 
 -- What is told of all lines: the faults of these kinds at the lines that are due, in their order.
 abbrev pub told_of : ℕ → (ℕ → Line → Bool) → List Line → List Found
-told_of margin due lines = filter (λ (found : Found). is_watched found.fault && due found.line (line_at lines found.line)) (faults_of (watched margin lines))
+told_of margin due lines = filter (λ (found : Found). is_watched found.fault && due found.place (line_at lines found.place)) (faults_of (watched margin lines))

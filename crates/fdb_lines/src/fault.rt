@@ -51,10 +51,11 @@ impl fmt::Display for Fault {
     }
 }
 
-/// A fault, and the line at which it stands, counted from 0. What is printed counts from 1.
+/// A fault, and the place of the line at which it stands. What is printed counts from 1.
 #[derive(Clone, Copy, Debug, PartialEq, Eq)]
 pub struct Found {
-    pub line: u32,
+    /// Counted from 0.
+    pub place: u32,
     pub fault: Fault,
 }
 
@@ -65,20 +66,20 @@ impl fmt::Display for Found {
     ghost output = { λ found. Some (found_text found) };
 
     fn fmt<W: fmt::Write>(&self, f: &mut fmt::Formatter<W>) -> fmt::Result {
-        write!(f, "{} {}", self.fault, self.line as u64 + 1)
+        write!(f, "{} {}", self.fault, self.place as u64 + 1)
     }
 }
 
 /// By how much a call is late, and by which line.
 #[derive(Clone, Copy, Debug, PartialEq, Eq)]
 pub struct Late {
-    /// The first line to end, counted from 0, of those that outdate the call: such a line shows a
-    /// newer version than the call read, or shows or draws one that the version drawn by the call
-    /// is not above.
-    pub line: u32,
-    /// The time from the end of `line` to where the call began, in the unit of the log's times: the
-    /// fault stands under each lesser margin. It is 0 where `line` had not ended when the call
-    /// began.
+    /// The place, counted from 0, of the first line to end of those that outdate the call: such a
+    /// line shows a newer version than the call read, or shows or draws one that the version drawn
+    /// by the call is not above.
+    pub place: u32,
+    /// The time from the end of that line to where the call began, in the unit of the log's times:
+    /// the fault stands under each lesser margin. It is 0 where that line had not ended when the
+    /// call began.
     pub by: u64,
 }
 
@@ -101,7 +102,7 @@ pub(crate) fn late_by(
         return None;
     }
     Some(Late {
-        line: first.place,
+        place: first.place,
         by: log.lines()[place].began().saturating_sub(first.time),
     })
 }
@@ -117,14 +118,14 @@ pub enum Means {
     Learnt(u32),
 }
 
-/// A line of which a call knew, counted from 0, and how.
+/// A line of which a call knew, by its place, counted from 0, and how.
 #[derive(Clone, Copy, Debug, PartialEq, Eq)]
 pub struct Witness {
-    pub line: u32,
+    pub place: u32,
     pub means: Means,
 }
 
-/// Why a fault stands. Lines are counted from 0.
+/// Why a fault stands. Places are counted from 0.
 #[derive(Clone, Copy, Debug, PartialEq, Eq)]
 pub enum Reason {
     /// `Order` and `NotAbove`: a version was known, by a line, or since all began with it.
@@ -138,16 +139,16 @@ pub enum Reason {
     Unreported,
     /// `Wrong`: the first line that reports the version knew it before, or a newer one.
     Reported {
-        line: u32,
-        /// The greatest version that the caller of the line `line` knew.
+        place: u32,
+        /// The greatest version that the caller of that line knew.
         version: u64,
         /// A line that let it be known; none where no line did and all began with it.
         by: Option<Witness>,
     },
     /// `Twice` and `Stray`: another line drew the version.
     Drawn {
-        /// The first such line, counted from 0.
-        line: u32,
+        /// Of the first such line.
+        place: u32,
     },
     /// `Stray`: no line drew the version, and nobody else can have.
     Undrawn,
@@ -251,10 +252,14 @@ fn of_wrong(tables: &Tables<'_>, place: usize) -> Reason
     ensures { IsReason (lines_of tables.now.log) tables.now.opts place Wrong result }
 {
     match tables.first_report(place) {
-        Some(line) => {
-            let version = tables.knows(line as usize);
-            let by = tables.shown(line as usize, version);
-            Reason::Reported { line, version, by }
+        Some(reporter) => {
+            let version = tables.knows(reporter as usize);
+            let by = tables.shown(reporter as usize, version);
+            Reason::Reported {
+                place: reporter,
+                version,
+                by,
+            }
         }
         None => Reason::Unreported,
     }
@@ -276,11 +281,11 @@ fn of_not_above(tables: &Tables<'_>, place: usize) -> Reason
 }
 
 /// That a line drew the version, or that none did.
-fn drawn_by(line: Option<u32>) -> Reason
-    ensures { result ≡ drawn_by line }
+fn drawn_by(place: Option<u32>) -> Reason
+    ensures { result ≡ drawn_by place }
 {
-    match line {
-        Some(line) => Reason::Drawn { line },
+    match place {
+        Some(place) => Reason::Drawn { place },
         None => Reason::Undrawn,
     }
 }

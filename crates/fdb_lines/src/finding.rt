@@ -198,8 +198,10 @@ pub(crate) fn add_finding(
         findings.old.items findings.new.items (found_if (case_in tables.now) fault place)) }
 {
     if let Some(reason) = reason_of(tables, place, fault) {
-        let line = place as u32;
-        let found = Found { line, fault };
+        let found = Found {
+            place: place as u32,
+            fault,
+        };
         let late = late_of(tables, place, fault);
         findings.push(Finding {
             found,
@@ -254,7 +256,7 @@ pub(crate) fn add_placed(
 pub(crate) fn sort_by_line(found: &mut Vec<Finding>) -> Result<(), AllocError>
     ensures { OnOk result (AreByLine found.old.items found.new.items) }
 {
-    found.sort_by_key(|finding| finding.found.line)?;
+    found.sort_by_key(|finding| finding.found.place)?;
     Ok(())
 }
 
@@ -264,7 +266,7 @@ fn placed_finding(places: &[u32], finding: Finding) -> Finding
 {
     Finding {
         found: Found {
-            line: place_in(places, finding.found.line),
+            place: place_in(places, finding.found.place),
             fault: finding.found.fault,
         },
         reason: placed_reason(places, finding.reason),
@@ -282,13 +284,13 @@ fn placed_reason(places: &[u32], reason: Reason) -> Reason
             by: placed_by(places, by),
         },
         Reason::Unreported => Reason::Unreported,
-        Reason::Reported { line, version, by } => Reason::Reported {
-            line: place_in(places, line),
+        Reason::Reported { place, version, by } => Reason::Reported {
+            place: place_in(places, place),
             version,
             by: placed_by(places, by),
         },
-        Reason::Drawn { line } => Reason::Drawn {
-            line: place_in(places, line),
+        Reason::Drawn { place } => Reason::Drawn {
+            place: place_in(places, place),
         },
         Reason::Undrawn => Reason::Undrawn,
     }
@@ -299,7 +301,7 @@ fn placed_by(places: &[u32], by: Option<Witness>) -> Option<Witness>
 {
     let by = by?;
     Some(Witness {
-        line: place_in(places, by.line),
+        place: place_in(places, by.place),
         means: placed_means(places, by.means),
     })
 }
@@ -310,7 +312,7 @@ fn placed_means(places: &[u32], means: Means) -> Means
     match means {
         Means::Ended => Means::Ended,
         Means::Own => Means::Own,
-        Means::Learnt(line) => Means::Learnt(place_in(places, line)),
+        Means::Learnt(place) => Means::Learnt(place_in(places, place)),
     }
 }
 
@@ -319,17 +321,17 @@ fn placed_late(places: &[u32], late: Option<Late>) -> Option<Late>
 {
     let late = late?;
     Some(Late {
-        line: place_in(places, late.line),
+        place: place_in(places, late.place),
         by: late.by,
     })
 }
 
 /// Where a line of some stands in the whole log; 0 where there is none.
-pub(crate) fn place_in(places: &[u32], line: u32) -> u32
-    ensures { result ≡ slice_index places.now line }
+pub(crate) fn place_in(places: &[u32], place: u32) -> u32
+    ensures { result ≡ slice_index places.now place }
 {
-    match places.get(line as usize) {
-        Some(place) => *place,
+    match places.get(place as usize) {
+        Some(whole) => *whole,
         None => 0,
     }
 }

@@ -56,8 +56,8 @@ pub(crate) struct NextPart {
 
 impl KeyPart {
     ghost use Rattle.fdb_lines.specs.KeyParts.{HasStayed};
-    ghost use Rattle.fdb_lines.specs.private.KeyParts.{kept_of, HasNoMore, HasOneMore, IsAlike};
-    ghost use Rattle.fdb_lines.specs.private.KeyParts.{IsNext};
+    ghost use Rattle.fdb_lines.specs.private.KeyParts.{kept_in_part, HasNoMore, HasOneMore};
+    ghost use Rattle.fdb_lines.specs.private.KeyParts.{IsAlike, IsNext};
 
     /// The part of a key without lines.
     pub(crate) fn new(alloc: Global, key: Option<u32>, margin: u64, horizon: u64) -> Self
@@ -96,7 +96,7 @@ impl KeyPart {
 
     /// Adds the lines that it keeps.
     pub(crate) fn add_kept(&self, kept: &mut Vec<KeptLine>) -> Result<(), AllocError>
-        ensures { OnOk result (kept.new.items ≡ kept.old.items ++ kept_of self.now) }
+        ensures { OnOk result (kept.new.items ≡ kept.old.items ++ kept_in_part self.now) }
     {
         let lines = self.watch.log.lines();
         for (place, number) in self.numbers.iter().enumerate() {

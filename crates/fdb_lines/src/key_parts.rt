@@ -4,9 +4,9 @@
 ghost use Rattle.std.specs.Prelude.{◌≡◌, ◌≢◌, ◌<◌, All, IfErr, IfOk, OnErr, OnOk};
 ghost use Rattle.std.specs.Prelude.{None, [], false, length};
 ghost use Rattle.std.specs.List.{AllPairs, filter, flat_map};
-ghost use Rattle.fdb_lines.specs.private.KeyParts.{flag_at, flags_of, AreEntries, AreNext, AreOpen};
-ghost use Rattle.fdb_lines.specs.private.KeyParts.{ArePut, HasNoMoreAt, HasOneMoreAt};
-ghost use Rattle.fdb_lines.specs.private.KeyParts.{kept_of, StaysAt};
+ghost use Rattle.fdb_lines.specs.private.KeyParts.{flag_at, flags_of, AreEntriesOf, AreNext};
+ghost use Rattle.fdb_lines.specs.private.KeyParts.{AreOpen, ArePut, HasNoMoreAt, HasOneMoreAt};
+ghost use Rattle.fdb_lines.specs.private.KeyParts.{kept_in_part, StaysAt};
 
 use crate::key_part::{KeptLine, KeyPart, SettledKey};
 use crate::line::Line;
@@ -106,7 +106,7 @@ pub(crate) fn finish_parts(
 ) -> Result<Vec<SettledKey>, AllocError>
     requires within { All (λ i. i < length parts.items) places.now }
     requires once { AllPairs (λ i j. i ≢ j) places.now }
-    ensures entries { IfOk result (λ told. AreEntries None parts.items places.now told.items) }
+    ensures entries { IfOk result (λ told. AreEntriesOf None parts.items places.now told.items) }
     ensures kept { IfOk result (λ told.
         All (λ entry. entry.settled.kept.items ≡ []) told.items) }
 {
@@ -120,7 +120,7 @@ pub(crate) fn finish_parts(
 
 /// The lines that some parts keep.
 pub(crate) fn kept_lines(alloc: Global, parts: &[KeyPart]) -> Result<Vec<KeptLine>, AllocError>
-    ensures { IfOk result (λ kept. kept.items ≡ flat_map kept_of parts.now) }
+    ensures { IfOk result (λ kept. kept.items ≡ flat_map kept_in_part parts.now) }
 {
     let mut kept = Vec::new(alloc);
     for part in parts {

@@ -11,7 +11,7 @@ ghost use Rattle.fdb_lines.specs.private.Entries.{IsNewest};
 ghost use Rattle.fdb_lines.specs.private.Known.{by_at, newer, of_all, of_own, version_by};
 ghost use Rattle.fdb_lines.specs.private.Known.{version_in, witness, AreEnds, AreKnown, AreKnownOf};
 ghost use Rattle.fdb_lines.specs.private.Known.{IsEndOf};
-ghost use Rattle.fdb_lines.specs.private.Telling.{gained, heard_by, learnt_by};
+ghost use Rattle.fdb_lines.specs.private.Telling.{gained, heard_of, learnt_by};
 ghost use Rattle.fdb_lines.specs.declared.line.Line.{Line};
 ghost use Rattle.fdb_lines.specs.declared.known.Exposure.{Exposure};
 
@@ -133,7 +133,7 @@ fn witness(place: Option<u32>, means: Means) -> Option<Witness>
     ensures { result ≡ witness place means }
 {
     match place {
-        Some(line) => Some(Witness { line, means }),
+        Some(place) => Some(Witness { place, means }),
         None => None,
     }
 }
@@ -144,8 +144,8 @@ pub(crate) fn newer(lines: &[Line], one: Option<Witness>, other: Option<Witness>
 {
     match (one, other) {
         (Some(one), Some(other)) => {
-            let is_newer = version_in(lines, one.line as usize)
-                < version_in(lines, other.line as usize);
+            let is_newer = version_in(lines, one.place as usize)
+                < version_in(lines, other.place as usize);
             Some(if is_newer { other } else { one })
         }
         (Some(one), None) => Some(one),
@@ -178,7 +178,7 @@ pub(crate) fn version_by(lines: &[Line], by: Option<Witness>) -> u64
     ensures { result ≡ version_by lines.now by }
 {
     match by {
-        Some(by) => version_in(lines, by.line as usize),
+        Some(by) => version_in(lines, by.place as usize),
         None => 0,
     }
 }
@@ -197,15 +197,15 @@ pub(crate) fn known_by_telling(
     let mut newest = BTreeMap::new(alloc);
     let mut known = Vec::with_capacity(alloc, lines.len())?;
     for (place, line) in lines.iter().enumerate() {
-        known.push(heard_by(&newest, line.client))?;
+        known.push(heard_of(&newest, line.client))?;
         learn(&mut newest, lines, line, place as u32, seen)?;
     }
     Ok(known)
 }
 
 /// What a client has heard of; nothing where it is not known who it is.
-fn heard_by(newest: &BTreeMap<u32, Witness>, client: Option<u32>) -> Option<Witness>
-    ensures { result ≡ heard_by (λ q. get nat_cmp newest.now q) client }
+fn heard_of(newest: &BTreeMap<u32, Witness>, client: Option<u32>) -> Option<Witness>
+    ensures { result ≡ heard_of (λ q. get nat_cmp newest.now q) client }
 {
     match client {
         Some(client) => newest.get(&client).copied(),
@@ -248,7 +248,7 @@ fn gained(
     match call {
         Operation::Learn(teller) => learnt_by(newest.get(&teller).copied(), place),
         _ if counts(seen, call) => Some(Witness {
-            line: place,
+            place,
             means: Means::Own,
         }),
         _ => None,
@@ -261,7 +261,7 @@ fn learnt_by(heard: Option<Witness>, place: u32) -> Option<Witness>
 {
     let by = heard?;
     Some(Witness {
-        line: by.line,
+        place: by.place,
         means: Means::Learnt(place),
     })
 }

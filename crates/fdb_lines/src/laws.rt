@@ -145,8 +145,8 @@ pub fn what_was_told_stays()
         told_of margin due (lines ++ more) ≡ told_of margin due lines }
     ensures reasons { (margin to : ℕ) (lines more : List Line) (finding : Finding)
         → ((j : ℕ) → j < length more → to ≤ began (line_at more j))
-        → let found = finding.found in found.line < length lines
-        → began (line_at lines found.line) < to → is_watched found.fault ≡ true
+        → let found = finding.found in found.place < length lines
+        → began (line_at lines found.place) < to → is_watched found.fault ≡ true
         → HasReason (with_times lines) (opts_of margin) finding
         → HasReason (with_times (lines ++ more)) (opts_of margin) finding }
 {}
@@ -158,12 +158,12 @@ pub fn windows_add_up()
     ensures before { (margin from early since to : ℕ) (later : Option ℕ) (lines : List Line)
         → IfSome later (λ last. to ≤ last)
         → told_of margin (is_due from early since (Some to)) lines
-        ≡ filter (λ (found : Found). begins_before (Some to) (line_at lines found.line))
+        ≡ filter (λ (found : Found). begins_before (Some to) (line_at lines found.place))
         (told_of margin (is_due from early since later) lines) }
     ensures after { (margin from early since to early_on : ℕ) (later : Option ℕ) (lines : List Line)
         → from ≤ to
         → told_of margin (is_due to early_on (length lines) later) lines
-        ≡ filter (λ (found : Found). not (begins_before (Some to) (line_at lines found.line)))
+        ≡ filter (λ (found : Found). not (begins_before (Some to) (line_at lines found.place)))
         (told_of margin (is_due from early since later) lines) }
 {}
 
@@ -172,7 +172,7 @@ pub fn windows_add_up()
 pub fn faults_by_key_are_those_of_each_key()
     ensures { (log : Lines) (keys : List (Option ℕ)) (opts : AuditOpts) (key : Option ℕ)
         → length keys ≡ length log.lines
-        → filter (λ (found : Found). option_eq ◌==◌ (key_at keys found.line) key) (faults_by_key log keys opts)
+        → filter (λ (found : Found). option_eq ◌==◌ (key_at keys found.place) key) (faults_by_key log keys opts)
         ≡ map (placed_found (places_of keys key)) (faults_of (case_of_key log keys opts key)) }
 {}
 

@@ -94,7 +94,7 @@ pub(crate) fn order_of(
     }
     let mut slots = slots_of(alloc, &tables)?;
     // Others come after the lines that share their effect.
-    slots.sort_unstable_by_key(|slot| (slot.key, slot.line.is_none(), slot.line));
+    slots.sort_unstable_by_key(|slot| (slot.key, slot.place.is_none(), slot.place));
     let steps = steps_in(alloc, &slots)?;
     Ok(Ok(steps))
 }
@@ -135,12 +135,12 @@ fn steps_in(alloc: Global, slots: &[Slot]) -> Result<Vec<OrderStep>, AllocError>
     for slot in slots {
         let shared = Some(slot.key) == above;
         above = Some(slot.key);
-        if shared && slot.line.is_none() {
+        if shared && slot.place.is_none() {
             continue;
         }
         steps.push(OrderStep {
             effect: slot.effect,
-            line: slot.line,
+            place: slot.place,
             shared,
         })?;
     }
@@ -206,13 +206,13 @@ fn placed_steps(
 fn placed_step(places: &[u32], step: OrderStep) -> OrderStep
     ensures { result ≡ placed_step places.now step }
 {
-    let line = match step.line {
-        Some(line) => Some(place_in(places, line)),
+    let place = match step.place {
+        Some(place) => Some(place_in(places, place)),
         None => None,
     };
     OrderStep {
         effect: step.effect,
-        line,
+        place,
         shared: step.shared,
     }
 }

@@ -20,8 +20,9 @@ pub enum Effect {
 #[derive(Clone, Copy, Debug, PartialEq, Eq)]
 pub struct OrderStep {
     pub effect: Effect,
-    /// The line, counted from 0. There is none where others did this, who logged nothing.
-    pub line: Option<u32>,
+    /// The place of the line, counted from 0. There is none where others did this, who logged
+    /// nothing.
+    pub place: Option<u32>,
     /// Whether this is the effect of the step above once more: commits may share a version.
     pub shared: bool,
 }
@@ -55,7 +56,7 @@ pub(crate) struct Key {
 pub(crate) struct Slot {
     pub(crate) key: Key,
     pub(crate) effect: Effect,
-    pub(crate) line: Option<u32>,
+    pub(crate) place: Option<u32>,
 }
 
 impl Slot {
@@ -63,11 +64,11 @@ impl Slot {
     ghost use Rattle.fdb_lines.specs.private.Slots.{report_entry};
 
     /// An effect that may be of several lines, or of none.
-    fn sharing(level: u64, stage: Stage, effect: Effect, line: Option<u32>) -> Self
-        ensures { entry_of result ≡ (item_by level stage 0 0 effect, line) }
+    fn sharing(level: u64, stage: Stage, effect: Effect, place: Option<u32>) -> Self
+        ensures { entry_of result ≡ (item_by level stage 0 0 effect, place) }
     {
         Slot {
-            line,
+            place,
             ..Slot::single(level, stage, 0, 0, effect)
         }
     }
@@ -82,8 +83,8 @@ impl Slot {
             began,
             place,
         };
-        let line = Some(place);
-        Slot { key, effect, line }
+        let place = Some(place);
+        Slot { key, effect, place }
     }
 
     /// The ask of a line, if it needs one.

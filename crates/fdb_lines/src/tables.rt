@@ -9,7 +9,7 @@ ghost use Rattle.fdb_lines.specs.Log.{lines_of};
 ghost use Rattle.fdb_lines.specs.private.Entries.{other, IsFirstFrom};
 ghost use Rattle.fdb_lines.specs.private.Known.{of_version};
 ghost use Rattle.fdb_lines.specs.private.Late.{IsFirstEnd};
-ghost use Rattle.fdb_lines.specs.private.Tables.{asked_of, case_in, AreTables, IsFirstDrawn};
+ghost use Rattle.fdb_lines.specs.private.Tables.{subject_of, case_in, AreTables, IsFirstDrawn};
 ghost use Rattle.fdb_lines.specs.private.Tables.{IsFoundIn};
 ghost use Rattle.fdb_lines.specs.declared.known.Exposure.TheVariants.{Drawn, Shown};
 
@@ -57,13 +57,13 @@ impl<'a> Model for Tables<'a> {
     ghost use Rattle.std.specs.Coded.{codes};
     ghost use Rattle.fdb_lines.specs.Log.{lines_of};
     ghost use Rattle.fdb_lines.specs.contracts.log.Log as of_log;
-    ghost use Rattle.fdb_lines.specs.private.Tables.{asked_of, AreTables, Asked};
+    ghost use Rattle.fdb_lines.specs.private.Tables.{subject_of, AreTables, Subject};
 
-    ghost Value = { Asked };
+    ghost Value = { Subject };
 
     ghost coded = { Prim.hlevel (codes, of_log.the_row.coded) };
 
-    ghost view = { λ it. asked_of it.log.now it.opts.now };
+    ghost view = { λ it. subject_of it.log.now it.opts.now };
 
     ghost invariant = { λ it. AreTables (lines_of it.log.now) it.opts.now it.made.now };
 }
@@ -72,7 +72,7 @@ impl<'a> Tables<'a> {
     /// The tables that were made of a log. These borrow what was made, as threads share it.
     pub(crate) fn new(log: &'a Log, opts: &'a AuditOpts, made: &'a LogTables) -> Self
         requires { AreTables (lines_of log.now) opts.now made.now }
-        ensures { result ≡ asked_of log.now opts.now }
+        ensures { result ≡ subject_of log.now opts.now }
     {
         Tables { log, opts, made }
     }
@@ -275,7 +275,7 @@ fn of_version(lines: &[Line], version: u64, by: Option<Witness>) -> Option<Witne
     ensures { result ≡ of_version lines.now version by }
 {
     let by = by?;
-    if version_in(lines, by.line as usize) == version {
+    if version_in(lines, by.place as usize) == version {
         Some(by)
     } else {
         None

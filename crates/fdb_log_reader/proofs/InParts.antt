@@ -1,4 +1,4 @@
--- Each line of a log that is cut is of one part, under its number.
+-- Each line of a log that is cut is of one part, which says which line of its log it is.
 use Rattle.std.proofs.Common.{◌≡◌, ◌∙◌, ℕ, ◌+◌, ◌<◌, nat_le, nat_lt, Bool, true, false, List, [], ◌∷◌, length, map, Option, None, Some, option_map, Result, Ok, Err, refl, ap, sym, subst, arith, if◌then◌else◌}
 use Rattle.std.specs.List.{All, range_with_len}
 use Rattle.std.proofs.lemmas.List.Elements.{All-cons, All-nil}
@@ -12,14 +12,14 @@ use Rattle.fdb_log_reader.specs.Members.{and_then, member_of}
 use Rattle.fdb_log_reader.specs.Parts.{SaidParts, parts_said}
 use Rattle.fdb_log_reader.specs.Reading.{value_of}
 use Rattle.fdb_log_reader.specs.ReadLine.{unless}
-use Rattle.fdb_log_reader.specs.Split.{AllPlaced, Placed, hash_of, in_front, key_of_line, key_said_in, keyed, keyed_line, last_number, line_placed, next_above, part_by, part_of_key, placed_lines, refusal_below, refused_below, said_alone}
+use Rattle.fdb_log_reader.specs.Split.{AllPlaced, Placed, hash_of, in_front, key_of_line, key_said_in, keyed, keyed_line, greatest_line, line_placed, next_above, part_by, part_of_key, placed_lines, refusal_below, refused_below, said_alone}
 
 -- ---- a line
 
 -- a line is placed as what is kept of it says
 record IsOne (member : List ℕ) (parts : ℕ) (above : Above) (line : List ℕ) (one : Placed) (next : Above) : Type 0 where
-  its_line : one.line ≡ line
-  its_number : one.number ≡ above.count + 1
+  its_bytes : one.bytes ≡ line
+  its_line : one.line ≡ above.count + 1
   its_part : one.part ≡ part_of_key parts (key_of_line member line)
   more : next.count ≡ above.count + 1
 
@@ -40,17 +40,17 @@ one_is : (member : List ℕ) (parts : ℕ) (above : Above) (line : List ℕ) (on
 one_is member parts above line one next is = long (nat_lt MAX_LINE_BYTES (length line)) is
   where
     placed : KeyedLine → Result (Placed × Above) Why
-    placed it = Ok (record { part = part_by parts it.hash; number = above.count + 1; line = line }, next_above above it.is_timed)
+    placed it = Ok (record { part = part_by parts it.hash; line = above.count + 1; bytes = line }, next_above above it.is_timed)
 
     read : (kept : Result KeyedLine Why) → keyed_line member above line ≡ kept → and_then kept placed ≡ Ok (one, next) → IsOne member parts above line one next
     read (Err why) kept is = absurd (cc)
     read (Ok it) kept is =
-        let same : (record { part = part_by parts it.hash; number = above.count + 1; line = line }, next_above above it.is_timed) ≡ (one, next) = cc in
+        let same : (record { part = part_by parts it.hash; line = above.count + 1; bytes = line }, next_above above it.is_timed) ≡ (one, next) = cc in
         let is_one = ap (λ (p : Placed × Above). p.0) (sym same) in
         let key = key_kept above (said_alone member line) it (sym (flat (value_of line) (λ value. parts_said [] (Some member) (member_of value) (λ name. get name value)) (λ parts. unless (refusal_below above parts) (keyed parts))) ∙ kept) in
         record {
+          its_bytes = ap (λ (p : Placed). p.bytes) is_one;
           its_line = ap (λ (p : Placed). p.line) is_one;
-          its_number = ap (λ (p : Placed). p.number) is_one;
           its_part = ap (λ (p : Placed). p.part) is_one ∙ ap (part_by parts) key;
           more = ap (λ (p : Placed × Above). p.1.count) (sym same);
         }
@@ -59,10 +59,10 @@ one_is member parts above line one next is = long (nat_lt MAX_LINE_BYTES (length
     many true is = absurd (cc)
     many false is = read (keyed_line member above line) refl is
 
-    long : (b : Bool) → (if b then Err TooLong else (if nat_le last_number above.count then Err TooMany else and_then (keyed_line member above line) placed)) ≡ Ok (one, next)
+    long : (b : Bool) → (if b then Err TooLong else (if nat_le greatest_line above.count then Err TooMany else and_then (keyed_line member above line) placed)) ≡ Ok (one, next)
         → IsOne member parts above line one next
     long true is = absurd (cc)
-    long false is = many (nat_le last_number above.count) is
+    long false is = many (nat_le greatest_line above.count) is
 
 -- ---- all lines
 
@@ -100,20 +100,20 @@ split_first member parts above after line lines placed is = read (line_placed me
 none_placed : (above after : Above) (placed : List Placed) → (let none : AllPlaced = Ok ([], above) in none) ≡ Ok (placed, after) → placed ≡ []
 none_placed above after placed is = let same : ([], above) ≡ (placed, after) = cc in ap (λ (p : List Placed × Above). p.0) (sym same)
 
+pub each_bytes : (member : List ℕ) (parts : ℕ) (above after : Above) (lines : List (List ℕ)) (placed : List Placed) → placed_lines member parts above lines ≡ Ok (placed, after)
+    → map (λ (it : Placed). it.bytes) placed ≡ lines
+each_bytes member parts above after [] placed is = ap (map (λ (it : Placed). it.bytes)) (none_placed above after placed is)
+each_bytes member parts above after (line ∷ lines) placed is =
+    let split = split_first member parts above after line lines placed is in
+    ap (map (λ (it : Placed). it.bytes)) split.all ∙ (λ i. split.first.its_bytes i ∷ each_bytes member parts split.next after lines split.rest split.others i)
+
 pub each_line : (member : List ℕ) (parts : ℕ) (above after : Above) (lines : List (List ℕ)) (placed : List Placed) → placed_lines member parts above lines ≡ Ok (placed, after)
-    → map (λ (it : Placed). it.line) placed ≡ lines
+    → map (λ (it : Placed). it.line) placed ≡ range_with_len (above.count + 1) (length lines)
 each_line member parts above after [] placed is = ap (map (λ (it : Placed). it.line)) (none_placed above after placed is)
 each_line member parts above after (line ∷ lines) placed is =
     let split = split_first member parts above after line lines placed is in
-    ap (map (λ (it : Placed). it.line)) split.all ∙ (λ i. split.first.its_line i ∷ each_line member parts split.next after lines split.rest split.others i)
-
-pub each_number : (member : List ℕ) (parts : ℕ) (above after : Above) (lines : List (List ℕ)) (placed : List Placed) → placed_lines member parts above lines ≡ Ok (placed, after)
-    → map (λ (it : Placed). it.number) placed ≡ range_with_len (above.count + 1) (length lines)
-each_number member parts above after [] placed is = ap (map (λ (it : Placed). it.number)) (none_placed above after placed is)
-each_number member parts above after (line ∷ lines) placed is =
-    let split = split_first member parts above after line lines placed is in
-    ap (map (λ (it : Placed). it.number)) split.all
-    ∙ (λ i. split.first.its_number i ∷ (each_number member parts split.next after lines split.rest split.others ∙ ap (λ n. range_with_len (n + 1) (length lines)) split.first.more) i)
+    ap (map (λ (it : Placed). it.line)) split.all
+    ∙ (λ i. split.first.its_line i ∷ (each_line member parts split.next after lines split.rest split.others ∙ ap (λ n. range_with_len (n + 1) (length lines)) split.first.more) i)
 
 below_parts : (parts : ℕ) (hash : Option ℕ) → 0 < parts → part_by parts hash < parts
 below_parts parts None some = some
@@ -130,12 +130,12 @@ in_parts member parts above after (line ∷ lines) placed some is =
     (All-cons (λ (it : Placed). it.part < parts) split.one split.rest (subst (λ n. n < parts) (sym split.first.its_part) below) (in_parts member parts split.next after lines split.rest some split.others))
 
 pub of_keys : (member : List ℕ) (parts : ℕ) (above after : Above) (lines : List (List ℕ)) (placed : List Placed) → placed_lines member parts above lines ≡ Ok (placed, after)
-    → All (λ (it : Placed). it.part ≡ part_of_key parts (key_of_line member it.line)) placed
+    → All (λ (it : Placed). it.part ≡ part_of_key parts (key_of_line member it.bytes)) placed
 of_keys member parts above after [] placed is =
-    subst (All (λ (it : Placed). it.part ≡ part_of_key parts (key_of_line member it.line))) (sym (none_placed above after placed is))
-    (All-nil (λ (it : Placed). it.part ≡ part_of_key parts (key_of_line member it.line)))
+    subst (All (λ (it : Placed). it.part ≡ part_of_key parts (key_of_line member it.bytes))) (sym (none_placed above after placed is))
+    (All-nil (λ (it : Placed). it.part ≡ part_of_key parts (key_of_line member it.bytes)))
 of_keys member parts above after (line ∷ lines) placed is =
     let split = split_first member parts above after line lines placed is in
-    subst (All (λ (it : Placed). it.part ≡ part_of_key parts (key_of_line member it.line))) (sym split.all)
-    (All-cons (λ (it : Placed). it.part ≡ part_of_key parts (key_of_line member it.line)) split.one split.rest
-    (split.first.its_part ∙ ap (λ (l : List ℕ). part_of_key parts (key_of_line member l)) (sym split.first.its_line)) (of_keys member parts split.next after lines split.rest split.others))
+    subst (All (λ (it : Placed). it.part ≡ part_of_key parts (key_of_line member it.bytes))) (sym split.all)
+    (All-cons (λ (it : Placed). it.part ≡ part_of_key parts (key_of_line member it.bytes)) split.one split.rest
+    (split.first.its_part ∙ ap (λ (l : List ℕ). part_of_key parts (key_of_line member l)) (sym split.first.its_bytes)) (of_keys member parts split.next after lines split.rest split.others))

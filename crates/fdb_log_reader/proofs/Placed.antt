@@ -14,7 +14,7 @@ use Rattle.fdb_log_reader.specs.declared.splitter.Placer.{Placer}
 use Rattle.fdb_log_reader.specs.declared.reader.TheConstants.{MAX_LINE_BYTES}
 use Rattle.fdb_log_reader.specs.declared.splitter.Splitter.{Splitter}
 use Rattle.fdb_log_reader.specs.Reading.{is_line_feed, lines_in, without_empty_end}
-use Rattle.fdb_log_reader.specs.Split.{AllPlaced, Placed, in_front, line_placed, number_below, of_part, placed_lines, placed_text, refused_below, text_of_part, with_number}
+use Rattle.fdb_log_reader.specs.Split.{AllPlaced, Placed, in_front, line_placed, line_below, of_part, placed_lines, placed_text, refused_below, text_of_part, with_split_line}
 use Rattle.fdb_log_reader.specs.Splitter.{HasPlaced, HasPlacedAll, HaveCome, counts_in, lines_placed, placed_on, texts_in}
 use Rattle.fdb_log_reader.specs.private.{IsOneLine}
 use Rattle.fdb_log_reader.specs.private.Placing.{Goes, KeepsBytes, PlacesLine, PlacesOne}
@@ -59,10 +59,10 @@ come_on placed more old mid new first next = record {
       omega arith;
 }
 
-pub one_come : (parts : List PartText) (part number : ℕ) (line : List ℕ) (was new : PartText) → part < length parts → was ≡ get_or parts part was
-    → new.text.items ≡ was.text.items ++ (with_number line number ++ 10 ∷ []) → new.lines ≡ was.lines + 1
-    → HaveCome (record { part = part; number = number; line = line } ∷ []) parts (set parts part new)
-one_come parts part number line was new lt is text lines = record {
+pub one_come : (parts : List PartText) (part split_line : ℕ) (line : List ℕ) (was new : PartText) → part < length parts → was ≡ get_or parts part was
+    → new.text.items ≡ was.text.items ++ (with_split_line line split_line ++ 10 ∷ []) → new.lines ≡ was.lines + 1
+    → HaveCome (record { part = part; line = split_line; bytes = line } ∷ []) parts (set parts part new)
+one_come parts part split_line line was new lt is text lines = record {
   as_many = length-set parts part new;
   texts = λ p less. elim (cases_eq p part) [
     | inl here ↦ subst (λ q. slice_index_or (texts_in (set parts part new)) q [] ≡ slice_index_or (texts_in parts) q [] ++ text_of_part q (one ∷ [])) (sym here) mine
@@ -84,7 +84,7 @@ one_come parts part number line was new lt is text lines = record {
 }
   where
     one : Placed
-    one = record { part = part; number = number; line = line }
+    one = record { part = part; line = split_line; bytes = line }
 
     text_in : PartText → List ℕ
     text_in it = it.text.items
@@ -106,7 +106,7 @@ one_come parts part number line was new lt is text lines = record {
         ap (λ (texts : List (List ℕ)). slice_index_or texts part []) (map-set text_in parts part new)
         ∙ (get_or-set_same (texts_in parts) part new.text.items [] inside
         ∙ (text
-        ∙ (ap (λ (text : List ℕ). text ++ (with_number line number ++ 10 ∷ [])) (ap text_in is ∙ sym (get_or-map text_in parts part was [] lt))
+        ∙ (ap (λ (text : List ℕ). text ++ (with_split_line line split_line ++ 10 ∷ [])) (ap text_in is ∙ sym (get_or-map text_in parts part was [] lt))
         ∙ (ap (λ (text : List ℕ). slice_index_or (texts_in parts) part [] ++ text) (sym (append-nil (placed_text one)))
         ∙ ap (λ b. slice_index_or (texts_in parts) part [] ++ flat_map placed_text (cond {A = List Placed} b (one ∷ []) [])) (sym self)))))
 
@@ -127,7 +127,7 @@ placed_behind old new line one lines is =
     ∙ (λ i. in_front (one ∷ []) (placed_lines (sym is.member i) (sym is.come.as_many i) new.above lines))
 
 refused_first : (old : Placer) (line : List ℕ) (lines : List (List ℕ)) (why : Why) → line_placed (string_bytes old.member) (length old.parts.items) old.above line ≡ Err why
-    → lines_placed old (line ∷ lines) ≡ Err (record { line = number_below old.above.count; why = why })
+    → lines_placed old (line ∷ lines) ≡ Err (record { line = line_below old.above.count; why = why })
 refused_first old line lines why is =
     ap (λ read. refused_below old.above read (λ it. in_front (it.0 ∷ []) (placed_lines (string_bytes old.member) (length old.parts.items) it.1 lines))) is
 
@@ -163,14 +163,14 @@ whole_placed old placer front line one empty single is none = (
 
 pub ended_refused : (old : Splitter) (why : Why) (error : ReadError)
     → (why ≡ Memory) ⊎ (line_placed (string_bytes old.placer.member) (length old.placer.parts.items) old.placer.above old.front.items ≡ Err why)
-    → error ≡ record { line = number_below old.placer.above.count; why = why } → PlacesLine old [] (Err error)
+    → error ≡ record { line = line_below old.placer.above.count; why = why } → PlacesLine old [] (Err error)
 ended_refused old why error (inl memory) is = inl (ap (λ (error : ReadError). error.why) is ∙ memory)
 ended_refused old why error (inr refused) is = inr (λ rest.
     ended old rest ∙ (refused_first old.placer old.front.items (lines_in rest) why refused ∙ ap (λ (e : ReadError). let it : AllPlaced = Err e in it) (sym is)))
 
 pub whole_refused : (old : Splitter) (line : List ℕ) (why : Why) (error : ReadError) → old.front.items ≡ [] → IsOneLine line
     → (why ≡ Memory) ⊎ (line_placed (string_bytes old.placer.member) (length old.placer.parts.items) old.placer.above line ≡ Err why)
-    → error ≡ record { line = number_below old.placer.above.count; why = why } → PlacesLine old line (Err error)
+    → error ≡ record { line = line_below old.placer.above.count; why = why } → PlacesLine old line (Err error)
 whole_refused old line why error empty single (inl memory) is = inl (ap (λ (error : ReadError). error.why) is ∙ memory)
 whole_refused old line why error empty single (inr refused) is = inr (λ rest.
     whole old line rest empty single ∙ (refused_first old.placer line (lines_in rest) why refused ∙ ap (λ (e : ReadError). let it : AllPlaced = Err e in it) (sym is)))
@@ -178,7 +178,7 @@ whole_refused old line why error empty single (inr refused) is = inr (λ rest.
 -- ---- what is kept of a line
 
 long_first : (placer : Placer) (line : List ℕ) (more : List (List ℕ)) → MAX_LINE_BYTES < length line
-    → lines_placed placer (without_empty_end (line ∷ more)) ≡ Err (record { line = number_below placer.above.count; why = TooLong })
+    → lines_placed placer (without_empty_end (line ∷ more)) ≡ Err (record { line = line_below placer.above.count; why = TooLong })
 long_first placer line [] long =
     let some : (length line == 0) ≡ false = grind (arith, nat_tests) in
     let is : nat_lt MAX_LINE_BYTES (length line) ≡ true = grind (arith, nat_tests) in
@@ -189,7 +189,7 @@ long_first placer line (next ∷ more) long =
 
 -- a line that is too long is refused before it has ended
 pub too_long : (old : Splitter) (bytes rest : List ℕ) → IsOneLine bytes → MAX_LINE_BYTES < length old.front.items + length bytes
-    → placed_on old (bytes ++ rest) ≡ Err (record { line = number_below old.placer.above.count; why = TooLong })
+    → placed_on old (bytes ++ rest) ≡ Err (record { line = line_below old.placer.above.count; why = TooLong })
 too_long old bytes rest one long =
     let front = old.front.items ++ bytes in
     let first = (parts rest).0 in

@@ -81,7 +81,7 @@ IsText said (Some text) = (value : Data) × (said ≡ Some value) × (read text 
 
 -- the text of the line at a place, if it has one
 abbrev pub text_at : List (List ℕ) → List (Option ℕ) → ℕ → Option (List ℕ)
-text_at texts numbers line = option_and_then (slice_get texts) (option_flatten (slice_get numbers line))
+text_at texts numbers place = option_and_then (slice_get texts) (option_flatten (slice_get numbers place))
 
 -- What lines say, as it is printed, by the number that each has: JSON texts, each once, in which is escaped what steers a
 -- terminal, parts the line or turns text round.
@@ -90,7 +90,7 @@ pub record ArePrinted (values : List (Option Data)) (texts : List (List ℕ)) (n
   pub printed : texts ≡ map shown_text json
   pub distinct : AreDistinct json
   pub within : AreWithin json numbers
-  pub says : (line : ℕ) → IsText (option_flatten (slice_get values line)) (text_at json numbers line)
+  pub says : (place : ℕ) → IsText (option_flatten (slice_get values place)) (text_at json numbers place)
 
 -- ---- the own numbers of lines
 

@@ -1,4 +1,4 @@
--- A log that is cut into parts by its keys: each line is one of a part, under its number. (this product's own)
+-- A log that is cut into parts by its keys: each line is one of a part, and says there where it stood. (this product's own)
 use Rattle.std.specs.Prelude.{ℕ, ◌+◌, ◌*◌, ◌%◌, ◌^◌, ◌==◌, ◌&&◌, ◌||◌, not, min, bit_xor, Bool, nat_le, nat_lt, List, [], ◌∷◌, ◌++◌, codes, decimal, fold, length, Option, None, Some, is_some, option_map, Result, Ok, Err, if◌then◌else◌}
 use Rattle.std.specs.List.{filter, flat_map, list_any}
 use Rattle.std.specs.Option.{option_or}
@@ -62,7 +62,7 @@ keyed_said member above says beside =
 abbrev pub keyed_line : List ℕ → Above → List ℕ → Result KeyedLine Why
 keyed_line member above bytes = and_then (value_of bytes) (λ value. keyed_said member above (member_of value) (λ name. get name value))
 
--- ---- a line with its number
+-- ---- a line that says where it stood in its log
 
 abbrev pub is_brace : ℕ → Bool
 is_brace byte = byte == 125
@@ -73,25 +73,25 @@ with_behind text [] = []
 with_behind text (byte ∷ bytes) =
     if is_brace byte && not (list_any is_brace bytes) then text ++ byte ∷ bytes else byte ∷ with_behind text bytes
 
--- a member for the number of a line
-abbrev pub number_member : ℕ → List ℕ
-number_member number = codes ",\"split_line\":" ++ decimal number
+-- a member that says where a line stood, counted from 1
+abbrev pub split_line_member : ℕ → List ℕ
+split_line_member split_line = codes ",\"split_line\":" ++ decimal split_line
 
 -- the line with that behind its last member, byte by byte as it was else
-abbrev pub with_number : List ℕ → ℕ → List ℕ
-with_number line number = with_behind (number_member number) line
+abbrev pub with_split_line : List ℕ → ℕ → List ℕ
+with_split_line bytes split_line = with_behind (split_line_member split_line) bytes
 
 -- ---- the lines of the parts
 
--- A line, its number, and of which part it is.
+-- The bytes of a line, where it stood, counted from 1, and of which part it is.
 pub record Placed : Type 0 where
   pub part : ℕ
-  pub number : ℕ
-  pub line : List ℕ
+  pub line : ℕ
+  pub bytes : List ℕ
 
 -- it as one of its part, which ends with a line feed
 abbrev pub placed_text : Placed → List ℕ
-placed_text it = with_number it.line it.number ++ 10 ∷ []
+placed_text it = with_split_line it.bytes it.line ++ 10 ∷ []
 
 -- the lines of a part, in the order in which they stood
 abbrev pub of_part : ℕ → List Placed → List Placed
@@ -100,48 +100,48 @@ of_part part placed = filter (λ (it : Placed). it.part == part) placed
 abbrev pub text_of_part : ℕ → List Placed → List ℕ
 text_of_part part placed = flat_map placed_text (of_part part placed)
 
--- the last number that a line may have
-abbrev pub last_number : ℕ
-last_number = 18446744073709551615
+-- the last line that there may be
+abbrev pub greatest_line : ℕ
+greatest_line = 18446744073709551615
 
 -- what stands above the next line: one line more, with times or without
 abbrev pub next_above : Above → Bool → Above
 next_above above timed =
-    let number = above.count + 1 in
+    let line = above.count + 1 in
     record {
-      count = number;
-      timed = if timed then option_or above.timed (Some number) else above.timed;
-      untimed = if timed then above.untimed else option_or above.untimed (Some number);
+      count = line;
+      timed = if timed then option_or above.timed (Some line) else above.timed;
+      untimed = if timed then above.untimed else option_or above.untimed (Some line);
     }
 
 -- what becomes of a line: where it is placed, and what stands above the next one
 abbrev pub line_placed : List ℕ → ℕ → Above → List ℕ → Result (Placed × Above) Why
 line_placed member parts above line =
     if nat_lt MAX_LINE_BYTES (length line) then Err TooLong
-    else (if nat_le last_number above.count then Err TooMany
+    else (if nat_le greatest_line above.count then Err TooMany
     else and_then (keyed_line member above line) (λ it.
-    Ok (record { part = part_by parts it.hash; number = above.count + 1; line = line }, next_above above it.is_timed)))
+    Ok (record { part = part_by parts it.hash; line = above.count + 1; bytes = line }, next_above above it.is_timed)))
 
--- the number of the line below so many, but at most the last
-abbrev pub number_below : ℕ → ℕ
-number_below count = min (count + 1) last_number
+-- the line below so many, but at most the last
+abbrev pub line_below : ℕ → ℕ
+line_below count = min (count + 1) greatest_line
 
 -- What becomes of all lines of a log: where each is placed, in order, and what stands above a line behind them; or which is the
 -- first that is refused.
 abbrev pub AllPlaced : Type 0
 AllPlaced = Result (List Placed × Above) ReadError
 
--- why a line is refused, under its number
+-- which line is refused, and why
 abbrev pub refused_below : {T : Type 0} → Above → Result T Why → (T → AllPlaced) → AllPlaced
 refused_below above (Ok read) next = next read
-refused_below above (Err why) next = Err (record { line = number_below above.count; why = why })
+refused_below above (Err why) next = Err (record { line = line_below above.count; why = why })
 
 -- some lines placed in front of others, which may be refused
 abbrev pub in_front : List Placed → AllPlaced → AllPlaced
 in_front placed (Ok more) = Ok (placed ++ more.0, more.1)
 in_front placed (Err error) = Err error
 
--- Each line of a log once, in order, under numbers that count on from those above.
+-- Each line of a log once, in order, counted on from those above.
 abbrev pub placed_lines : List ℕ → ℕ → Above → List (List ℕ) → AllPlaced
 placed_lines member parts above [] = Ok ([], above)
 placed_lines member parts above (line ∷ lines) =

@@ -71,15 +71,15 @@ pub fn digits_are_read_as_their_number()
         → option_and_then whole (text_says (Some text)) ≡ Some number }
 {}
 
-/// A log that is cut into parts has each of its lines once, in order, under numbers that rise by
-/// one, and each is in one of the parts. All lines of a key are in the same part.
+/// A log that is cut into parts has each of its lines once, in order, each with where it stood, and
+/// each is in one of the parts. All lines of a key are in the same part.
 pub fn each_line_is_of_one_part()
+    ensures bytes { (member : List ℕ) (parts : ℕ) (above after : Above) (lines : List (List ℕ))
+        (placed : List Placed) → placed_lines member parts above lines ≡ Ok (placed, after)
+        → map (λ (it : Placed). it.bytes) placed ≡ lines }
     ensures lines { (member : List ℕ) (parts : ℕ) (above after : Above) (lines : List (List ℕ))
         (placed : List Placed) → placed_lines member parts above lines ≡ Ok (placed, after)
-        → map (λ (it : Placed). it.line) placed ≡ lines }
-    ensures numbers { (member : List ℕ) (parts : ℕ) (above after : Above) (lines : List (List ℕ))
-        (placed : List Placed) → placed_lines member parts above lines ≡ Ok (placed, after)
-        → map (λ (it : Placed). it.number) placed
+        → map (λ (it : Placed). it.line) placed
         ≡ range_with_len (above.count + 1) (length lines) }
     ensures parts { (member : List ℕ) (parts : ℕ) (above after : Above) (lines : List (List ℕ))
         (placed : List Placed) → 0 < parts
@@ -87,7 +87,7 @@ pub fn each_line_is_of_one_part()
         → All (λ (it : Placed). it.part < parts) placed }
     ensures keys { (member : List ℕ) (parts : ℕ) (above after : Above) (lines : List (List ℕ))
         (placed : List Placed) → placed_lines member parts above lines ≡ Ok (placed, after)
-        → All (λ (it : Placed). it.part ≡ part_of_key parts (key_of_line member it.line)) placed }
+        → All (λ (it : Placed). it.part ≡ part_of_key parts (key_of_line member it.bytes)) placed }
 {}
 
 /// A log that is read with the keys of its lines has at least one line. Its clients and keys are

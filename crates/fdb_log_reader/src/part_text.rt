@@ -7,7 +7,7 @@ ghost use Rattle.std.specs.Prelude.{MatchResult, Ok, option_map};
 ghost use Rattle.std.specs.List.{list_any};
 ghost use Rattle.serde_json.specs.Find.{get};
 ghost use Rattle.serde_json.specs.View.{view};
-ghost use Rattle.fdb_log_reader.specs.Split.{is_brace, number_member, with_number, hash_of};
+ghost use Rattle.fdb_log_reader.specs.Split.{is_brace, split_line_member, with_split_line, hash_of};
 ghost use Rattle.fdb_log_reader.specs.Split.{keyed_line, keyed_said, refusal_below};
 ghost use Rattle.fdb_log_reader.specs.Splitter.{HaveCome, counts_in, texts_in};
 ghost use Rattle.fdb_log_reader.specs.private.Counting.{AreBelow};
@@ -25,8 +25,8 @@ use itoa::Buffer;
 use memchr::memrchr;
 use std::alloc::{AllocError, Global};
 
-/// What stands behind the last member of a line of a part, in front of its number.
-const NUMBER_MEMBER: &[u8] = b",\"split_line\":";
+/// What stands behind the last member of a line of a part, in front of where it stood in its log.
+const SPLIT_LINE_MEMBER: &[u8] = b",\"split_line\":";
 
 /// The lines of a part that have come since it was released, and how many have come in all.
 #[derive(Drop)]
@@ -47,48 +47,48 @@ impl PartText {
         }
     }
 
-    /// Adds a line under its number.
-    fn add(&mut self, line: &[u8], number: u64) -> Result<(), AllocError>
-        requires { self.old.lines < number }
+    /// Adds a line with where it stood in its log, counted from 1.
+    fn add(&mut self, line: &[u8], split_line: u64) -> Result<(), AllocError>
+        requires { self.old.lines < split_line }
         ensures text { OnOk result (self.new.text.items
-            ≡ self.old.text.items ++ (with_number line.now number ++ 10 ∷ [])) }
+            ≡ self.old.text.items ++ (with_split_line line.now split_line ++ 10 ∷ [])) }
         ensures lines { OnOk result (self.new.lines ≡ self.old.lines + 1) }
     {
-        add_numbered(&mut self.text, line, number)?;
+        add_with_split_line(&mut self.text, line, split_line)?;
         self.text.push(b'\n')?;
         self.lines += 1;
         Ok(())
     }
 }
 
-/// Adds a line to the text of its part, under its number.
+/// Adds a line to the text of its part, with where it stood in its log.
 pub(crate) fn add_line(
     parts: &mut Vec<PartText>,
     part: usize,
     line: &[u8],
-    number: u64,
+    split_line: u64,
 ) -> Result<(), AllocError>
     requires there { part < length parts.old.items }
-    requires few { AreBelow number parts.old.items }
+    requires few { AreBelow split_line parts.old.items }
     ensures come { OnOk result (HaveCome
-        (record { part = part; number = number; line = line.now } ∷ [])
+        (record { part = part; line = split_line; bytes = line.now } ∷ [])
         parts.old.items parts.new.items) }
-    ensures few { OnOk result (AreBelow (number + 1) parts.new.items) }
+    ensures few { OnOk result (AreBelow (split_line + 1) parts.new.items) }
 {
     let its = &mut parts[part];
-    its.add(line, number)?;
+    its.add(line, split_line)?;
     Ok(())
 }
 
-/// Adds a line with a member for its number behind its last one.
-fn add_numbered(text: &mut Vec<u8>, line: &[u8], number: u64) -> Result<(), AllocError>
+/// Adds a line with a member behind its last one, which says where it stood in its log.
+fn add_with_split_line(text: &mut Vec<u8>, line: &[u8], split_line: u64) -> Result<(), AllocError>
     ensures { OnOk result
-        (text.new.items ≡ text.old.items ++ with_number line.now number) }
+        (text.new.items ≡ text.old.items ++ with_split_line line.now split_line) }
 {
     match split_brace(line) {
         Some((front, behind)) => {
             text.extend_from_slice(front)?;
-            add_number(text, number)?;
+            add_split_line(text, split_line)?;
             text.extend_from_slice(behind)?;
         }
         None => text.extend_from_slice(line)?,
@@ -96,13 +96,13 @@ fn add_numbered(text: &mut Vec<u8>, line: &[u8], number: u64) -> Result<(), Allo
     Ok(())
 }
 
-/// Adds the member for a number.
-fn add_number(text: &mut Vec<u8>, number: u64) -> Result<(), AllocError>
-    ensures { OnOk result (text.new.items ≡ text.old.items ++ number_member number) }
+/// Adds that member.
+fn add_split_line(text: &mut Vec<u8>, split_line: u64) -> Result<(), AllocError>
+    ensures { OnOk result (text.new.items ≡ text.old.items ++ split_line_member split_line) }
 {
-    text.extend_from_slice(NUMBER_MEMBER)?;
+    text.extend_from_slice(SPLIT_LINE_MEMBER)?;
     let mut digits = Buffer::new();
-    text.extend_from_slice(digits.format(number).as_bytes())?;
+    text.extend_from_slice(digits.format(split_line).as_bytes())?;
     Ok(())
 }
 
@@ -210,8 +210,8 @@ fn hash_of(key: &str) -> u64
     hash
 }
 
-/// What stands above a line of a log: how many lines, and the numbers, counted from 1, of the first
-/// of these lines that has times and of the first that has none.
+/// What stands above a line of a log: how many lines, and which of them, counted from 1, is the first
+/// that has times, and which the first that has none.
 #[derive(Clone, Copy, Debug, PartialEq, Eq)]
 pub struct Above {
     pub count: u64,
@@ -220,7 +220,7 @@ pub struct Above {
 }
 
 impl Above {
-    ghost use Rattle.fdb_log_reader.specs.Split.{below, is_other, last_number, next_above};
+    ghost use Rattle.fdb_log_reader.specs.Split.{below, is_other, greatest_line, next_above};
 
     /// So many lines, of which nothing is known.
     pub(crate) fn of(count: u64) -> Self
@@ -235,16 +235,16 @@ impl Above {
 
     /// With a line more.
     pub(crate) fn next(self, is_timed: bool) -> Self
-        requires { self.count < last_number }
+        requires { self.count < greatest_line }
         ensures { result ≡ next_above self is_timed }
     {
-        let number = Some(self.count + 1);
+        let line = Some(self.count + 1);
         let mut next = self;
         next.count += 1;
         if is_timed {
-            next.timed = self.timed.or(number);
+            next.timed = self.timed.or(line);
         } else {
-            next.untimed = self.untimed.or(number);
+            next.untimed = self.untimed.or(line);
         }
         next
     }

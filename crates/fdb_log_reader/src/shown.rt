@@ -52,18 +52,18 @@ impl Shown {
 
     /// The JSON text of what the line at a place says, counted from 0; none where it has no such
     /// member, or there is no such line. `serde_json` writes it, without white space.
-    pub fn text(&self, line: usize) -> Option<&str>
-        ensures { IsText (option_flatten (slice_get (shown_of self.now).values line))
+    pub fn text(&self, place: usize) -> Option<&str>
+        ensures { IsText (option_flatten (slice_get (shown_of self.now).values place))
             (option_map (λ text. text.now) result) }
     {
-        self.kept(line)
+        self.kept(place)
     }
 
-    fn kept(&self, line: usize) -> Option<&str>
+    fn kept(&self, place: usize) -> Option<&str>
         ensures { option_map (λ text. text.now) result
-            ≡ text_at (names_of self.now.texts) self.now.numbers.items line }
+            ≡ text_at (names_of self.now.texts) self.now.numbers.items place }
     {
-        let number = (*self.numbers.get(line)?)?;
+        let number = (*self.numbers.get(place)?)?;
         self.texts.name(number)
     }
 

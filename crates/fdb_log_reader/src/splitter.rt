@@ -25,7 +25,7 @@ pub struct Splitter {
 }
 
 impl Splitter {
-    ghost use Rattle.fdb_log_reader.specs.Split.{below, number_below, placed_lines, Placed};
+    ghost use Rattle.fdb_log_reader.specs.Split.{below, line_below, placed_lines, Placed};
     ghost use Rattle.fdb_log_reader.specs.Splitter.{above_of, counts_of, placed_on, texts_of};
     ghost use Rattle.fdb_log_reader.specs.Splitter.{HasPlaced, HasPlacedAll};
     ghost use Rattle.fdb_log_reader.specs.private.Placing.{KeepsBytes, PlacesLine};
@@ -91,7 +91,7 @@ impl Splitter {
     }
 
     /// Takes the next bytes of the log, cut anywhere. An error names the first line that is
-    /// refused, by its number, or says that memory was refused.
+    /// refused, or says that memory was refused.
     pub fn feed(mut self, bytes: &[u8]) -> Result<Self, ReadError>
         ensures { MatchResult result
             (λ it. (placed : List Placed) × HasPlaced self bytes.now placed it)
@@ -174,10 +174,10 @@ impl Splitter {
         }
     }
 
-    /// What is wrong with the line that has been begun, by its number.
+    /// What is wrong with the line that has been begun.
     fn error(&self, why: Why) -> ReadError
         ensures { result ≡ record
-            { line = number_below (above_of self.now).count; why = why } }
+            { line = line_below (above_of self.now).count; why = why } }
     {
         let line = self.placer.above.count.saturating_add(1);
         ReadError { line, why }

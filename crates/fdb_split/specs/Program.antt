@@ -83,7 +83,7 @@ pub record Prints (asked : SplitArguments) (bytes text : List ℕ) : Type 0 wher
 -- why they are refused: for their first line that is
 abbrev pub RefusesLog : SplitArguments → List ℕ → LogsRefused → Type 0
 RefusesLog asked bytes (Log error) = (error.why ≢ Memory) × (cut asked bytes ≡ Err error)
-RefusesLog asked bytes (Early number) = ⊥
+RefusesLog asked bytes (Early line) = ⊥
 RefusesLog asked bytes (Kept refused) = ⊥
 
 -- It prints how many lines each part has. It refuses a log whole, tells nothing while it reads, but progress, and finds nothing.

@@ -16,8 +16,8 @@
 //! - `add` has a key or `none`, a kind, a version, and when the call began and ended, which a watch of
 //! all lines takes, and one by key;
 //! - `settle` has a moment, up to which the one of all lines settles, and `settle_keys` the other:
-//! what is told, by the fault, its line, by how much that is late, and behind which line; `finish`
-//! says what the other tells at the end;
+//! what is told, by the fault, the number of its line, by how much that is late, and the number of
+//! the line behind which it is; `finish` says what the other tells at the end;
 //! - `kept` says of each line that is kept by key the number, the key and the version;
 //! - `clear` begins anew.
 
@@ -314,10 +314,10 @@ fn say_by_key(line: &mut TableLine<'_>, told: Result<Vec<SettledKey>, AllocError
 
 fn say_told(line: &mut TableLine<'_>, told: &Settled) {
     for finding in &told.found {
-        let number = told.number(finding.found.line);
+        let number = told.number(finding.found.place);
         line.say(format_args!("{:?} {number}", finding.found.fault));
         if let Some(late) = finding.late {
-            line.say(format_args!("{} {}", late.by, told.number(late.line)));
+            line.say(format_args!("{} {}", late.by, told.number(late.place)));
         }
     }
 }

@@ -340,11 +340,11 @@ pub fn is_fine(settled: &Settled) -> bool
 pub fn first_faulty(settled: &Settled) -> Option<u64>
     ensures { (watch : Watch) (to : Option ℕ) (lines : List Line)
         → IsTold watch to lines settled.now.numbers.items settled.now.found.items
-        → result ≡ option_map (λ (found : Found). found.line)
+        → result ≡ option_map (λ (found : Found). found.place)
         (slice_get (told_of watch.margin (due watch to) lines) 0) }
 {
     let first = settled.found.first()?;
-    Some(settled.number(first.found.line))
+    Some(settled.number(first.found.place))
 }
 
 /// Adds a line and settles up to a moment: what is told is told of all lines, with this one.

@@ -151,7 +151,7 @@ class RawFault(Structure):
     _fields_ = [
         ("known", c_uint64),
         ("late", c_uint64),
-        ("line", c_uint32),
+        ("place", c_uint32),
         ("other", c_uint32),
         ("by", c_uint32),
         ("learnt", c_uint32),

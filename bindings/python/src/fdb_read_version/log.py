@@ -107,18 +107,18 @@ class Call:
 class Known:
     """A version that a call knew, and how: by which line, and by which line it had learnt of that.
 
-    Lines are counted from 0; what `means` does not name is None.
+    Lines are told by their places, counted from 0; what `means` does not name is None.
     """
 
     version: int
     means: Means
-    line: Optional[int] = None
+    place: Optional[int] = None
     learnt: Optional[int] = None
 
 
 @dataclass(frozen=True)
 class Late:
-    """By how much a call was late, and by which line, counted from 0.
+    """By how much a call was late, and by which line: its place, counted from 0.
 
     Of the lines that outdate the call, with a newer version than a read's, or one as new as was
     drawn, it was the first to end; where that is the call itself, there is none. `by` is from its
@@ -126,20 +126,20 @@ class Late:
     ended by then.
     """
 
-    line: int
+    place: int
     by: int
 
 
 @dataclass(frozen=True)
 class Fault:
-    """A fault, the line at which it stands, and why it stands. Lines are counted from 0.
+    """A fault, the place of the line at which it stands, counted from 0, and why it stands.
 
     `other` is the line that reported the version (REPORTED) or drew it (DRAWN), `known` what was
     known (KNOWN, REPORTED), and `late` how late the call was (ORDER and NOT_ABOVE, in a log with
     times, where a line of another call outdates it); else each is None.
     """
 
-    line: int
+    place: int
     kind: FaultKind
     reason: Reason
     other: Optional[int] = None
@@ -374,7 +374,7 @@ def _fault(raw: RawFault) -> Fault:
     reason = Reason(raw.reason)
     has_other = reason in (Reason.REPORTED, Reason.DRAWN)
     return Fault(
-        raw.line,
+        raw.place,
         FaultKind(raw.kind),
         reason,
         raw.other if has_other else None,
@@ -385,5 +385,5 @@ def _fault(raw: RawFault) -> Fault:
 
 def _known(raw: RawFault) -> Known:
     means = Means(raw.means)
-    line = raw.by if means != Means.START else None
-    return Known(raw.known, means, line, raw.learnt if means == Means.LEARNT else None)
+    place = raw.by if means != Means.START else None
+    return Known(raw.known, means, place, raw.learnt if means == Means.LEARNT else None)

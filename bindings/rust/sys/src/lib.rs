@@ -210,7 +210,7 @@ pub struct fdb_refused {
 pub struct fdb_fault {
     pub known: u64,
     pub late: u64,
-    pub line: u32,
+    pub place: u32,
     pub other: u32,
     pub by: u32,
     pub learnt: u32,

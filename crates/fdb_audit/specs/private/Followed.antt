@@ -21,8 +21,8 @@ use Rattle.fdb_audit.specs.declared.refusal.Warning.{Warning}
 use Rattle.fdb_audit.specs.declared.refusal.Warning.TheVariants.{Ahead, Early}
 use Rattle.fdb_audit.specs.private.Clocks.{Hears, ahead_of}
 use Rattle.fdb_audit.specs.Warned.{AreEarly, warning_line}
-use Rattle.fdb_audit.specs.GoingOn.{GoesOn}
-use Rattle.fdb_audit.specs.Following.{AreWindows, FollowArguments, KeptNumbers, Start, Window, counted_on, faults_told, first_told, told_in_all}
+use Rattle.fdb_audit.specs.GoingOn.{GoesOnBy}
+use Rattle.fdb_audit.specs.Following.{AreWindows, FollowArguments, KeptBefore, Start, Window, counted_on, faults_told, first_told, told_in_all}
 use Rattle.fdb_audit.specs.ToldFaults.{ToldFault}
 use Rattle.fdb_audit.specs.Watched.{HasFollowed, IsTellerOf, lines_asked, names_asked}
 
@@ -54,7 +54,7 @@ pub record TakesPlace (old next new : Follower) : Type 0 where
 -- It has gone on from these bytes, of which that was told.
 abbrev pub HasGoneOn : AuditArguments → Start → Follower → (bytes told : List ℕ) → Type 0
 HasGoneOn asked start follower bytes told =
-    (kept : List ℕ) × (next : Start) × GoesOn asked start bytes told kept next × HasFollowed asked next follower kept []
+    (kept : List ℕ) × (next : Start) × GoesOnBy asked start bytes told kept next × HasFollowed asked next follower kept []
 
 -- what stays while a teller tells
 pub record IsSameTeller (old new : Teller) : Type 0 where
@@ -67,7 +67,7 @@ abbrev pub CountsOn : Teller → Teller → List ToldFault → Type 0
 CountsOn old new more = (members : List (List ℕ)) (told : List ToldFault) → HasTotals members old told → HasTotals members new (told ++ more)
 
 -- What is told more, once these lines have been read, whose clients have these names: these faults.
-pub record TellsOn (kept : KeptNumbers) (old new : Teller) (margin : ℕ) (read : List (Result SaidLine Why)) (names : List (List ℕ)) (faults : List Found) : Type 0 where
+pub record TellsOn (kept : KeptBefore) (old new : Teller) (margin : ℕ) (read : List (Result SaidLine Why)) (names : List (List ℕ)) (faults : List Found) : Type 0 where
   pub windows : List Window
   pub at : All (λ (window : Window). window.read ≡ length read) windows
   pub text : List ℕ
@@ -87,7 +87,7 @@ one_more false count = count
 pub record CameMore (is_early : Bool) (came : Came) (old new : Counts) : Type 0 where
   pub early : new.early ≡ one_more is_early old.early
   pub judged : new.judged ≡ one_more (is_early && came.is_judged) old.judged
-  pub last : new.last_early ≡ (if is_early then Some came.number else old.last_early)
+  pub last : new.last_early ≡ (if is_early then Some came.line else old.last_early)
 
 abbrev pub counted_line : (line by count : ℕ) → CountedLine
 counted_line line by count = record { line = line; by = by; count = count }
@@ -102,7 +102,7 @@ odd_text early ahead text = (text ++ doubled_text early (Early early)) ++ double
 
 -- A line more was taken, which is noted, where all was settled up to a moment.
 pub record NotesLine (from : ℕ) (old new : Taking) (line : Line) : Type 0 where
-  pub number : ℕ
+  pub its_line : ℕ
   pub judged : Bool
   pub numbering : new.numbering ≡ old.numbering
   pub count : new.taken ≡ old.taken + 1
@@ -110,11 +110,11 @@ pub record NotesLine (from : ℕ) (old new : Taking) (line : Line) : Type 0 wher
   pub settled : new.settled ≡ old.settled
   pub hears : Hears old.clocks new.clocks line
   pub counted : (lines : List Line) → length lines + 1 < 2 ^ 64 → AreCounted old.counts lines → AreCounted new.counts (lines ++ line ∷ [])
-  pub its_number : number ≡ min (new.taken + new.numbering.more + length new.numbering.above.items) (2 ^ 64 - 1)
-  pub came : CameMore (nat_lt (began line) from) (record { number = number; is_judged = judged }) old.counts new.counts
+  pub is_its : its_line ≡ min (new.taken + new.numbering.more + length new.numbering.above.items) (2 ^ 64 - 1)
+  pub came : CameMore (nat_lt (began line) from) (record { line = its_line; is_judged = judged }) old.counts new.counts
   pub ahead : new.counts.ahead ≡ one_more (nat_lt 0 (ahead_of old.clocks line)) old.counts.ahead
-  pub warned : string_bytes new.warnings ≡ odd_text (counted_line number (from - began line) new.counts.early)
-      (counted_line number (ahead_of old.clocks line) new.counts.ahead) (string_bytes old.warnings)
+  pub warned : string_bytes new.warnings ≡ odd_text (counted_line its_line (from - began line) new.counts.early)
+      (counted_line its_line (ahead_of old.clocks line) new.counts.ahead) (string_bytes old.warnings)
 
 -- the same, once it is noted that it has settled
 abbrev pub noted : Taking → Taking
@@ -126,7 +126,7 @@ told_with behind teller members = record { behind = behind; margin = teller.marg
 
 -- how lines came, by the counts
 abbrev pub AreEarlyIn : Start → List (Result SaidLine Why) → Counts → Type 0
-AreEarlyIn start read counts = AreEarly start.numbers.more read counts.early counts.judged counts.last_early
+AreEarlyIn start read counts = AreEarly start.kept.more read counts.early counts.judged counts.last_early
 
 -- The lines that were taken have settled further; nothing was said of them.
 pub record SettlesOn (old new : Taking) : Type 0 where

@@ -18,7 +18,7 @@ MayFail file fault = (fault ≡ Memory) ⊎ KeepingFails file fault
 -- or the lines that it has are refused
 abbrev pub MayStop : Option Text → Failure LogsRefused LogFault → Type 0
 MayStop file (Refused (Log error)) = ⊥
-MayStop file (Refused (Early number)) = ⊥
+MayStop file (Refused (Early line)) = ⊥
 MayStop file (Refused (Kept refused)) = is_some file ≡ true
 MayStop file Arguments = ⊥
 MayStop file Memory = ⊤
@@ -29,6 +29,6 @@ MayStop file (OwnFile fault) = NamesFile file fault
 
 -- a line says that it is kept as this
 pub record IsKeptAs (kept : KeptAs) (said : SaidLine) : Type 0 where
-  pub number : number_kept 0 said ≡ Some kept.number
+  pub line : number_kept 0 said ≡ Some kept.line
   pub read : number_kept 1 said ≡ Some kept.read
   pub settled : number_kept 2 said ≡ kept.settled

@@ -6,5 +6,5 @@ use Rattle.fdb_lines.specs.KeyOrders.{IsOrderOfKey}
 use Rattle.fdb_lines.specs.Lines.{Lines}
 
 -- an order for each of some keys, in their order
-abbrev pub AreOrders : Lines → List (Option ℕ) → AuditOpts → List (Option ℕ) → List KeyOrder → Type 0
-AreOrders log keys opts names orders = (map (λ (order : KeyOrder). order.key) orders ≡ names) × All (IsOrderOfKey log keys opts) orders
+abbrev pub AreOrdersOf : Lines → List (Option ℕ) → AuditOpts → List (Option ℕ) → List KeyOrder → Type 0
+AreOrdersOf log keys opts names orders = (map (λ (order : KeyOrder). order.key) orders ≡ names) × All (IsOrderOfKey log keys opts) orders

@@ -38,8 +38,8 @@ abbrev pub kept_below : KeyPart → ℕ → List KeptLine
 kept_below part zero = []
 kept_below part (suc n) = kept_below part n ++ kept_at part n ∷ []
 
-abbrev pub kept_of : KeyPart → List KeptLine
-kept_of part = kept_below part (length part.numbers.items)
+abbrev pub kept_in_part : KeyPart → List KeptLine
+kept_in_part part = kept_below part (length part.numbers.items)
 
 -- it has seen one line more, which has this number among all
 pub record HasOneMore (line : Line) (number : ℕ) (old new : KeyPart) : Type 0 where
@@ -126,12 +126,12 @@ pub record ArePut (old : List KeyPart) (places : List ℕ) (nexts : List KeyPart
 
 -- ---- what is told of those at some places, up to a moment or for good
 
-pub record IsEntry (to : Option ℕ) (part : KeyPart) (entry : SettledKey) : Type 0 where
+pub record IsEntryOf (to : Option ℕ) (part : KeyPart) (entry : SettledKey) : Type 0 where
   pub key : entry.key ≡ part.key
   pub told : (lines : List Line) → HasSeen part.watch lines → IsTold part.watch to lines part.watch.numbers.items entry.settled.found.items
   pub log : entry.settled.log ≡ part.watch.log
   pub numbers : entry.settled.numbers ≡ part.numbers
 
-pub record AreEntries (to : Option ℕ) (parts : List KeyPart) (places : List ℕ) (entries : List SettledKey) : Type 0 where
+pub record AreEntriesOf (to : Option ℕ) (parts : List KeyPart) (places : List ℕ) (entries : List SettledKey) : Type 0 where
   pub as_many : length entries ≡ length places
-  pub each : (j : ℕ) (d : KeyPart) (e : SettledKey) → j < length places → IsEntry to (slice_index_or parts (slice_index places j) d) (slice_index_or entries j e)
+  pub each : (j : ℕ) (d : KeyPart) (e : SettledKey) → j < length places → IsEntryOf to (slice_index_or parts (slice_index places j) d) (slice_index_or entries j e)

@@ -57,10 +57,10 @@ abbrev pub faults_of_keys : Lines → List (Option ℕ) → AuditOpts → List (
 faults_of_keys log keys opts names = flat_map (faults_of_key log keys opts) names
 
 abbrev pub stands_at : ℕ → Found → Bool
-stands_at k found = found.line == k
+stands_at k found = found.place == k
 
 -- the same findings, line by line, and at each line in the order that they had
 pub record AreByLine (old new : List Finding) : Type 0 where
   pub same : IsPermutation old new
-  pub rise : IsNonDecreasingBy (λ (found : Found). found.line) (map found_of new)
+  pub rise : IsNonDecreasingBy (λ (found : Found). found.place) (map found_of new)
   pub stay : (k : ℕ) → filter (stands_at k) (map found_of new) ≡ filter (stands_at k) (map found_of old)

@@ -30,26 +30,26 @@ newest_known before seen lines k = greatest_of (λ j. before j k && counts_at se
 abbrev pub IsKnownBy : (ℕ → Bool) → (Witness → Type 0) → List Line → Option Witness → Type 0
 IsKnownBy test Is lines None = (j : ℕ) → j < length lines → test j ≡ false
 IsKnownBy test Is lines (Some by) =
-    (by.line < length lines) × (test by.line ≡ true) × Is by
-    × ((j : ℕ) → j < length lines → test j ≡ true → version_in lines j ≤ version_in lines by.line)
+    (by.place < length lines) × (test by.place ≡ true) × Is by
+    × ((j : ℕ) → j < length lines → test j ≡ true → version_in lines j ≤ version_in lines by.place)
 
 -- the version that it lets be known, and 0
 abbrev pub version_by : List Line → Option Witness → ℕ
 version_by lines None = 0
-version_by lines (Some by) = version_in lines by.line
+version_by lines (Some by) = version_in lines by.place
 
 -- the newer of two, and the first where none is
 abbrev pub newer : List Line → Option Witness → Option Witness → Option Witness
 newer lines None other = other
 newer lines (Some one) None = Some one
-newer lines (Some one) (Some other) = Some (cond (nat_lt (version_in lines one.line) (version_in lines other.line)) other one)
+newer lines (Some one) (Some other) = Some (cond (nat_lt (version_in lines one.place) (version_in lines other.place)) other one)
 
 abbrev pub by_at : List (Option Witness) → ℕ → Option Witness
 by_at known k = slice_index_or known k None
 
 -- what the call at a place knows, of lines that pass a test for it
 abbrev pub KnowsOf : (ℕ → ℕ → Bool) → ℕ → List Line → ℕ → Option Witness → Type 0
-KnowsOf test margin lines k = IsKnownBy (test k) (λ (by : Witness). IsMeans margin lines by.line k by.means) lines
+KnowsOf test margin lines k = IsKnownBy (test k) (λ (by : Witness). IsMeans margin lines by.place k by.means) lines
 
 -- what the calls of the first n lines know
 abbrev pub AreKnownOf : (ℕ → ℕ → Bool) → ℕ → List Line → ℕ → List (Option Witness) → Type 0
@@ -71,12 +71,12 @@ tells before seen lines k version j = before j k && (counts_at seen lines j && v
 abbrev pub IsFound : (ℕ → ℕ → Bool) → ℕ → Exposure → List Line → ℕ → ℕ → Option Witness → Type 0
 IsFound before margin seen lines k version None = (j : ℕ) → j < length lines → tells before seen lines k version j ≡ false
 IsFound before margin seen lines k version (Some by) =
-    (by.line < length lines) × (tells before seen lines k version by.line ≡ true) × IsMeans margin lines by.line k by.means
+    (by.place < length lines) × (tells before seen lines k version by.place ≡ true) × IsMeans margin lines by.place k by.means
 
 -- the witness, if its line has the version
 abbrev pub of_version : List Line → ℕ → Option Witness → Option Witness
 of_version lines version None = None
-of_version lines version (Some by) = cond (version_in lines by.line == version) (Some by) None
+of_version lines version (Some by) = cond (version_in lines by.place == version) (Some by) None
 
 -- ---- by time: the tables of ends, of all clients or by client
 
@@ -119,4 +119,4 @@ of_own seen lines k j =
 -- the line at a place, as what was known so
 abbrev pub witness : Option ℕ → Means → Option Witness
 witness None means = None
-witness (Some place) means = Some (record { line = place; means = means })
+witness (Some place) means = Some (record { place = place; means = means })

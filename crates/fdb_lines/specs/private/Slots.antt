@@ -32,7 +32,7 @@ slot_rank lines k = began (line_at lines k) * 2 ^ 33 + k
 
 -- an item of the order by version, and the line whose effect it is, where there is one
 abbrev pub entry_of : Slot → Item × Option ℕ
-entry_of slot = (item_of slot, slot.line)
+entry_of slot = (item_of slot, slot.place)
 
 -- ---- what a line needs: an ask, its read or report, and a report by others
 
@@ -69,5 +69,5 @@ shares above slot = option_eq eq-value.it (Some slot.key) above
 abbrev pub steps_from : Option Key → List Slot → List OrderStep
 steps_from above [] = []
 steps_from above (slot ∷ slots) =
-    cond (shares above slot && not (is_some slot.line)) (steps_from (Some slot.key) slots)
-    (record { effect = slot.effect; line = slot.line; shared = shares above slot } ∷ steps_from (Some slot.key) slots)
+    cond (shares above slot && not (is_some slot.place)) (steps_from (Some slot.key) slots)
+    (record { effect = slot.effect; place = slot.place; shared = shares above slot } ∷ steps_from (Some slot.key) slots)

@@ -58,15 +58,15 @@ IsFirstDrawn lines version first =
     IsFirstEnd (outdates_by NotAbove Drawn lines version) lines first ⊎ ((has_ask lines ≡ false) × (first ≡ None))
 
 -- what tables answer of: a log, and the options of its audit
-pub record Asked : Type 0 where
+pub record Subject : Type 0 where
   pub log : Log
   pub opts : AuditOpts
 
-abbrev pub asked_of : Log → AuditOpts → Asked
-asked_of log opts = record { log = log; opts = opts }
+abbrev pub subject_of : Log → AuditOpts → Subject
+subject_of log opts = record { log = log; opts = opts }
 
-abbrev pub case_in : Asked → Case
-case_in asked = case_of (lines_of asked.log) asked.opts
+abbrev pub case_in : Subject → Case
+case_in subject = case_of (lines_of subject.log) subject.opts
 
 pub record AreTables (log : Lines) (opts : AuditOpts) (made : LogTables) : Type 0 where
   pub shown : AreKnownIn log opts Shown made.shown.items
@@ -85,7 +85,7 @@ IsFoundIn log opts seen = IsFound (comes_before log.timed opts.margin log.lines)
 
 abbrev pub drawn_by : Option ℕ → Reason
 drawn_by None = Undrawn
-drawn_by (Some line) = DrawnBy line
+drawn_by (Some place) = DrawnBy place
 
 -- why a fault stands at a line; none where it does not
 abbrev pub IsAnswer : Lines → AuditOpts → ℕ → Fault → Option Reason → Type 0

@@ -13,19 +13,19 @@ use Rattle.fdb_lines.specs.private.Exposure.{counts}
 
 -- ---- what the code computes from one line to the next
 
-abbrev pub heard_by : (ℕ → Option Witness) → Option ℕ → Option Witness
-heard_by newest None = None
-heard_by newest (Some a) = newest a
+abbrev pub heard_of : (ℕ → Option Witness) → Option ℕ → Option Witness
+heard_of newest None = None
+heard_of newest (Some a) = newest a
 
 abbrev pub learnt_by : ℕ → Option Witness → Option Witness
 learnt_by place None = None
-learnt_by place (Some by) = Some (record { line = by.line; means = Learnt place })
+learnt_by place (Some by) = Some (record { place = by.place; means = Learnt place })
 
 -- what a line lets its client learn of
 abbrev pub gained : Exposure → (ℕ → Option Witness) → ℕ → Operation → Option Witness
 gained seen newest place call =
     cond (is_learn (kind_of call)) (learnt_by place (newest (teller_of call)))
-    (cond (counts seen (kind_of call)) (Some (record { line = place; means = Own })) None)
+    (cond (counts seen (kind_of call)) (Some (record { place = place; means = Own })) None)
 
 -- ---- what it means: of all lines that were heard of, one whose version is newest
 
@@ -39,4 +39,4 @@ IsHeardAs lines n a j (Learnt m) =
 
 abbrev pub IsHeard : Exposure → List Line → ℕ → ℕ → Option Witness → Type 0
 IsHeard seen lines n a =
-    IsKnownBy (λ j. has_heard lines n a j && counts_at seen lines j) (λ (by : Witness). IsHeardAs lines n a by.line by.means) lines
+    IsKnownBy (λ j. has_heard lines n a j && counts_at seen lines j) (λ (by : Witness). IsHeardAs lines n a by.place by.means) lines

@@ -3,4 +3,4 @@ use Rattle.std.specs.Prelude.{ℕ, ◌<◌, List, All}
 use Rattle.fdb_log_reader.specs.declared.part_text.PartText.{PartText}
 
 abbrev pub AreBelow : ℕ → List PartText → Type 0
-AreBelow number parts = All (λ (part : PartText). part.lines < number) parts
+AreBelow line parts = All (λ (part : PartText). part.lines < line) parts

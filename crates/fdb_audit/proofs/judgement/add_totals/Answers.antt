@@ -16,18 +16,18 @@ of_not false e = sym e
 
 pub returns : goal.returns
 returns c =
-    let asked = c.args.asked in
+    let subject = c.args.subject in
     let json = c.args.wanted.json in
-    let it = shown_in asked.printer in
+    let it = shown_in subject.printer in
     let counts = c.in_ok-counts.counts in
-    let found = faults_in (log_in asked) (keys_in asked) asked.opts.now in
+    let found = faults_in (log_in subject) (keys_in subject) subject.opts.now in
     let kinds : List Found → List Fault = λ those. map (λ (it : Found). it.fault) those in
     let Most : List Found → Type 0 = λ those. (groups : List ℕ) × AreMostOfEach json (groupings it) those groups
     × (string_bytes c.push_totals.new.out ≡ string_bytes c.push_total_line.new.out ++ line (faults_line json (kinds those)) ++ groups) in
     let listed : c.deref.result.now ≡ found = c.deref.ensures.value ∙ (c.in_ok-faults.ensures ∙ c.requires.all.listed) in
     rw (of_not c.args.wanted.totals c.if-not-wanted.false) (on_ok_weaker c.push_totals.result
     (λ (most : Most found). (
-      line (total_line json it (keys_in asked) asked.opts.now counts) ++ line (faults_line json (kinds found)) ++ most.0,
+      line (total_line json it (keys_in subject) subject.opts.now counts) ++ line (faults_line json (kinds found)) ++ most.0,
       (counts, c.in_ok-counts.ensures, most.0, most.1, refl),
       most.2 ∙ (ap (λ text. text ++ line (faults_line json (kinds found)) ++ most.0) c.in_ok-push_total_line.ensures ∙ simp append_assoc),
     ))

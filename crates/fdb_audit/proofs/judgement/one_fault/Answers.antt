@@ -5,7 +5,7 @@ use Rattle.fdb_audit.proofs.judgement.one_fault.Goals as goal
 
 pub returns-clause-text : goal.returns-clause-text
 returns-clause-text c =
-    let text = list_text c.args.wanted.json (shown_in c.args.asked.printer) (c.args.first ∷ []) in
+    let text = list_text c.args.wanted.json (shown_in c.args.subject.printer) (c.args.first ∷ []) in
     rw (c.requires.alone.0, c.requires.alone.1) (
       text,
       (c.args.first, refl, c.requires.reason, c.requires.late, refl),

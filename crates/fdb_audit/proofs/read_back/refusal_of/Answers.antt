@@ -30,7 +30,7 @@ returns-then-are_said-clause-said c = λ _ start read told are each.
     let within : All (λ place. place < length (taken read)) c.deref.result.now =
     subst (λ (list : List ℕ). All (λ place. place < length (taken read)) list) (sym places) (subst (λ n. All (λ place. place < n) (map number_of kept)) size came) in
     sym said ∙ (c.in_ok-is_kept.ensures c.if-is_kept.true start read told are within
-    ∙ ap (λ (list : List ℕ). kept_at start.numbers read list taking.settled taking.watch.from) places)
+    ∙ ap (λ (list : List ℕ). kept_at start.kept read list taking.settled taking.watch.from) places)
 
 pub returns-then-are_said-clause-rise : goal.returns-then-are_said-clause-rise
 returns-then-are_said-clause-rise c = λ _.
@@ -39,7 +39,7 @@ returns-then-are_said-clause-rise c = λ _.
     let said : said_of read.said ≡ kept_said (lines_kept (member_in (line_names c.args.reader.now)) text) =
     subst (λ it. IfOk it (λ read. said_of read.said ≡ kept_said (lines_kept (option_map (λ key. key.now) c.key_member.result) text))) c.in-Ok.is c.in_ok-read.ensures.said
     ∙ ap (λ key. kept_said (lines_kept key text)) c.key_member.ensures in
-    subst (λ (said : KeptSaid). Rise said.numbers.numbers) said read.said.rise
+    subst (λ (said : KeptSaid). Rise said.front.lines) said read.said.rise
 
 pub returns-then-are_said-clause-many : goal.returns-then-are_said-clause-many
 returns-then-are_said-clause-many c = λ _.

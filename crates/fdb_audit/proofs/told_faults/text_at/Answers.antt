@@ -12,7 +12,7 @@ pub returns : goal.returns
 returns c =
     let columns = c.args.printer.beside.now in
     let member = c.args.member in
-    let text : Beside → Option (List ℕ) = λ it. text_at it.texts it.numbers c.args.found.line in
+    let text : Beside → Option (List ℕ) = λ it. text_at it.texts it.numbers c.args.found.place in
     let is : IsGetResult columns member member (Some c.in_ok-get.field-0) = c.in_ok-get.ensures.lookup in
     let at : slice_get columns member ≡ Some c.in_ok-get.field-0.now = at_place columns member c.in_ok-get.field-0.now is.3.0 (sym is.1) in
     c.text.ensures

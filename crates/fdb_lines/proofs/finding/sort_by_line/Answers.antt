@@ -8,7 +8,7 @@ pub returns : goal.returns
 returns c =
     let old = c.args.found.now.items in
     let new = c.sort_by_key.new.self.items in
-    let line = λ (finding : Finding). finding.found.line in
+    let line = λ (finding : Finding). finding.found.place in
     let sorted = c.in_ok-sort_by_key.ensures.sorted line (answers_always _ _ _ (λ f a r g h. search rules)) in
     let stable = c.in_ok-sort_by_key.ensures.stable line (answers_always _ _ _ (λ f a r g h. search rules)) in
     record { same = c.in_ok-sort_by_key.ensures.permutation; rise = rise_all new (IsNonDecreasingBy-from_sort line new sorted); stay = stays old new stable }

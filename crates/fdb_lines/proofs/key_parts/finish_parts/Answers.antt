@@ -5,7 +5,7 @@ use Rattle.std.proofs.lemmas.List.{get_or_append_left, get_or_default, get_or_pu
 use Rattle.std.proofs.lemmas.List.Elements.{All-push}
 use Rattle.fdb_lines.specs.declared.key_part.KeyPart.{KeyPart}
 use Rattle.fdb_lines.specs.declared.key_part.SettledKey.{SettledKey}
-use Rattle.fdb_lines.specs.private.KeyParts.{IsEntry}
+use Rattle.fdb_lines.specs.private.KeyParts.{IsEntryOf}
 use Rattle.fdb_lines.proofs.key_parts.finish_parts.Goals as goal
 
 pub loop-place-preserved : goal.loop-place-preserved
@@ -23,7 +23,7 @@ loop-place-preserved c =
     let size = inv.size in
     let within = c.requires.within n 0 more in
     let pushed : c.push.new.self.items ≡ entries ++ entry ∷ [] = c.in_ok-push.ensures.items in
-    let its : IsEntry None part entry = record {
+    let its : IsEntryOf None part entry = record {
       key = c.in_ok-finish.ensures.key;
       told = c.in_ok-finish.ensures.told;
       log = c.in_ok-finish.ensures.log;
@@ -37,12 +37,12 @@ loop-place-preserved c =
       size = length-set parts place c.replace-part.new.dest ∙ inv.size;
       each = λ j d e lt.
           let many = inv.as_many in
-          subst (λ (xs : List SettledKey). IsEntry None (get_or old (slice_index places j) d) (get_or xs j e)) (sym pushed) (elim (cases_lt j n) [
-            | inl less ↦ subst (IsEntry None (get_or old (slice_index places j) d)) (sym (get_or_append_left entries (entry ∷ []) e j (omega arith))) (inv.each j d e less)
+          subst (λ (xs : List SettledKey). IsEntryOf None (get_or old (slice_index places j) d) (get_or xs j e)) (sym pushed) (elim (cases_lt j n) [
+            | inl less ↦ subst (IsEntryOf None (get_or old (slice_index places j) d)) (sym (get_or_append_left entries (entry ∷ []) e j (omega arith))) (inv.each j d e less)
             | inr ge ↦
                 let is : n ≡ j = omega arith in
-                subst (IsEntry None (get_or old (slice_index places j) d)) (sym (get_or_push entries entry e j (omega arith)))
-                (subst (λ (x : KeyPart). IsEntry None x entry) (part_is d ∙ ap (λ m. get_or old (slice_index places m) d) is) its)
+                subst (IsEntryOf None (get_or old (slice_index places j) d)) (sym (get_or_push entries entry e j (omega arith)))
+                (subst (λ (x : KeyPart). IsEntryOf None x entry) (part_is d ∙ ap (λ m. get_or old (slice_index places m) d) is) its)
           ]);
       kept = subst (All (λ (entry : SettledKey). entry.settled.kept.items ≡ [])) (sym pushed)
           (All-push (λ (entry : SettledKey). entry.settled.kept.items ≡ []) entries entry inv.kept c.in_ok-finish.ensures.kept);

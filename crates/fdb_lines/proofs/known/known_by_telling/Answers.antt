@@ -22,7 +22,7 @@ loop-place-preserved c =
     let test = lets_know (by_telling lines) seen lines in
     record {
       known = λ margin.
-          rw (c.in_ok-push.ensures.items, c.heard_by.ensures, line)
+          rw (c.in_ok-push.ensures.items, c.heard_of.ensures, line)
           (known_more test margin lines k c.loop-place.known.items _ (inv.known margin) (knows_is margin seen lines newest k inv.newest));
       newest = λ q. rw (c.in_ok-learn.ensures q, line, add-one) (heard_more seen lines newest k q c.loop-place-test.true inv.newest);
     }

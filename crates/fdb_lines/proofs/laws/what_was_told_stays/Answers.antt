@@ -14,4 +14,4 @@ returns-clause-told c = λ margin from early since to lines more later.
 
 pub returns-clause-reasons : goal.returns-clause-reasons
 returns-clause-reasons c = λ margin to lines more finding later there before of.
-    reason_stays margin to lines more later finding.found.line there (omega arith) finding.found.fault finding.reason of
+    reason_stays margin to lines more later finding.found.place there (omega arith) finding.found.fault finding.reason of

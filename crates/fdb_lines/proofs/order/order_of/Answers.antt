@@ -18,6 +18,6 @@ returns c =
     let none = (law (lines_of log) opts).1 ((rw c.new-tables.ensures at c.in_ok-found.ensures.explained).0 (grind (arith, common_steps))) in
     let slots = c.sort_unstable_by_key.new.self.items in
     let are = subst (λ l. IsPermutation l (map entry_of slots)) (rw c.new-tables.ensures at c.in_ok-slots.ensures) (IsPermutation-map entry_of _ slots c.sort_unstable_by_key.ensures.permutation) in
-    let sorted = c.sort_unstable_by_key.ensures.sorted (λ s. (s.key, is_none s.line, s.line)) (answers_always _ _ _ (λ f a r g h. search rules)) in
+    let sorted = c.sort_unstable_by_key.ensures.sorted (λ s. (s.key, is_none s.place, s.place)) (answers_always _ _ _ (λ f a r g h. search rules)) in
     let all = arranged it (slot_ranked log opts) none slots are (λ k d lt. sorted k d (omega arith) lt) _ (c.in_ok-steps.ensures ∙ ap (steps_from None) c.deref.ensures.value) in
     record { explains = all; unexplained = tt; all = tt; some = tt }

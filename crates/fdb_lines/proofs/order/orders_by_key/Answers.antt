@@ -13,7 +13,7 @@ use Rattle.fdb_lines.specs.Keys.{key_at, keys_of, placed_finding}
 use Rattle.fdb_lines.specs.Judged.{AreAll}
 use Rattle.fdb_lines.specs.Log.{lines_of}
 use Rattle.fdb_lines.specs.OrderSteps.{effects_of, IsOrderOf}
-use Rattle.fdb_lines.specs.private.KeyOrders.{AreOrders}
+use Rattle.fdb_lines.specs.private.KeyOrders.{AreOrdersOf}
 use Rattle.fdb_lines.proofs.Gathered.{gathered_all, gathered_more, gathered_same}
 use Rattle.fdb_lines.proofs.Keyed.{of_key}
 use Rattle.fdb_lines.proofs.Parted.{part_at}
@@ -82,7 +82,7 @@ returns-then-is_empty-clause-explained c =
     let test = c.loop-part-test.false in
     let orders = c.loop-part.orders.items in
     let none : length c.loop-part.found.items ≡ 0 = grind (arith, common_steps) in
-    all_explained log keys opts orders (subst (λ names. AreOrders log keys opts names orders) (take_all c.loop-part.part (keys_of keys) (omega arith)) (c.loop-part.invariant.orders none))
+    all_explained log keys opts orders (subst (λ names. AreOrdersOf log keys opts names orders) (take_all c.loop-part.part (keys_of keys) (omega arith)) (c.loop-part.invariant.orders none))
 
 pub returns : goal.returns
 returns c =

@@ -27,7 +27,7 @@ returns-clause-read c = λ asked behind kept told_is settled_is ends is.
     let (took_so, said_so) : Took (lines_asked asked bytes) asked.opts.margin =
     subst (λ (read : List (Result SaidLine Why)). Took read asked.opts.margin) whole (subst (Took lines) is.margin took) in
     let (has, none_told) =
-    fed_first (start_with behind kept.numbers) start asked c.args.self.now _ bytes lines is refl refl refl
+    fed_first (start_with behind kept.front) start asked c.args.self.now _ bytes lines is refl refl refl
     c.in_ok-lines.ensures.read c.in_ok-lines.ensures.behind
     (believes_else start c.take_kept.new.self _ lines start.told refl took_so refl refl refl refl refl refl)
     c.take_kept.ensures.margin refl refl refl in (
@@ -58,7 +58,7 @@ returns-clause-none_told c = λ asked behind kept told_is settled_is ends is.
     let start = start_from behind margin kept read in AreTaken start c.take_kept.new.self lines start.told × HasWarned start c.take_kept.new.self lines [] in
     let (took_so, said_so) : Took (lines_asked asked bytes) asked.opts.margin =
     subst (λ (read : List (Result SaidLine Why)). Took read asked.opts.margin) whole (subst (Took lines) is.margin took) in
-    fed_first (start_with behind kept.numbers) start asked c.args.self.now _ bytes lines is refl refl refl
+    fed_first (start_with behind kept.front) start asked c.args.self.now _ bytes lines is refl refl refl
     c.in_ok-lines.ensures.read c.in_ok-lines.ensures.behind
     (believes_else start c.take_kept.new.self _ lines start.told refl took_so refl refl refl refl refl refl)
     c.take_kept.ensures.margin refl refl refl

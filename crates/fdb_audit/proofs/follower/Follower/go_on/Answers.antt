@@ -28,12 +28,12 @@ returns-clause-gone_on c = λ _ asked start bytes told same has.
     let stays = is_staying old.taking.times given.forget old.taking.clocks.believed in
     let lines = c.in_ok-kept.kept.items in
     let (same_places, each) = c.in_ok-kept.ensures.kept has.read has.telling.taken.seen in
-    let says : KeepsLines (map number_of lines) (member_in names) names start.numbers old.taking has.read kept =
-    subst (λ (lines : List KeptLine). KeepsLines (map number_of lines) (member_in names) names start.numbers old.taking has.read kept) c.deref.ensures.value
+    let says : KeepsLines (map number_of lines) (member_in names) names start.kept old.taking has.read kept =
+    subst (λ (lines : List KeptLine). KeepsLines (map number_of lines) (member_in names) names start.kept old.taking has.read kept) c.deref.ensures.value
     (subst
     (λ it. IfOk it (λ text. (start : Start) (read : List (Result SaidLine Why)) (told : List Found) → AreTaken start old.taking read told
     → All (IsKept (lines_taken read) (keys_taken read)) c.deref.result.now
-    → KeepsLines (map number_of c.deref.result.now) (member_in names) names start.numbers old.taking read (string_bytes text))) c.in-Ok.is c.in_ok-text.ensures
+    → KeepsLines (map number_of c.deref.result.now) (member_in names) names start.kept old.taking read (string_bytes text))) c.in-Ok.is c.in_ok-text.ensures
     start has.read (start.told ++ told_in_all has.read has.telling.windows) has.telling.taken
     (subst (λ (list : List KeptLine). All (IsKept (lines_taken has.read) (keys_taken has.read)) list) (sym c.deref.ensures.value) each)) in
     let Restored = λ (text : List ℕ). (has : HasFollowed given (start_of given old.behind text) next text []) × (has.telling.windows ≡ []) in

@@ -1,5 +1,5 @@
 use Rattle.std.proofs.Common.{◌≡◌, ◌∙◌, List, ap, subst, ℕ}
-use Rattle.fdb_audit.specs.Following.{KeptNumbers, fresh, none_kept, start_with}
+use Rattle.fdb_audit.specs.Following.{KeptBefore, fresh, none_kept, start_with}
 use Rattle.fdb_audit.specs.Taken.{kept_by}
 use Rattle.fdb_audit.specs.private.Followed.{IsUnread}
 use Rattle.fdb_audit.proofs.SaidOn.{unsaid}
@@ -9,13 +9,13 @@ use Rattle.fdb_audit.proofs.follower.Follower.new.Goals as goal
 pub returns-clause-followed : goal.returns-clause-followed
 returns-clause-followed c =
     let none : kept_by c.new-none.result ≡ none_kept =
-    c.new-none.ensures.kept ∙ ap (λ (items : List ℕ). let it : KeptNumbers = record { numbers = items; more = 0 } in it) c.new.ensures.items in
+    c.new-none.ensures.kept ∙ ap (λ (items : List ℕ). let it : KeptBefore = record { lines = items; more = 0 } in it) c.new.ensures.items in
     unread c.args.asked.now (fresh c.args.behind) c.in_ok-follower.follower
-    (subst (λ (numbers : KeptNumbers). IsUnread c.args.asked.now (start_with c.args.behind numbers) c.in_ok-follower.follower) none c.in_ok-follower.ensures.unread)
+    (subst (λ (numbers : KeptBefore). IsUnread c.args.asked.now (start_with c.args.behind numbers) c.in_ok-follower.follower) none c.in_ok-follower.ensures.unread)
 
 pub returns-clause-said : goal.returns-clause-said
 returns-clause-said c =
     let none : kept_by c.new-none.result ≡ none_kept =
-    c.new-none.ensures.kept ∙ ap (λ (items : List ℕ). let it : KeptNumbers = record { numbers = items; more = 0 } in it) c.new.ensures.items in
+    c.new-none.ensures.kept ∙ ap (λ (items : List ℕ). let it : KeptBefore = record { lines = items; more = 0 } in it) c.new.ensures.items in
     unsaid c.args.asked.now (fresh c.args.behind) c.in_ok-follower.follower
-    (subst (λ (numbers : KeptNumbers). IsUnread c.args.asked.now (start_with c.args.behind numbers) c.in_ok-follower.follower) none c.in_ok-follower.ensures.unread)
+    (subst (λ (numbers : KeptBefore). IsUnread c.args.asked.now (start_with c.args.behind numbers) c.in_ok-follower.follower) none c.in_ok-follower.ensures.unread)

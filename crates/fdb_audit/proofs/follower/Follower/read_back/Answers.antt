@@ -21,4 +21,4 @@ returns c =
     let same = c.deref.ensures.value in
     let were : All (IsKept (lines_taken read) (keys_taken read)) c.deref.result.now = subst (λ (list : List KeptLine). All (IsKept (lines_taken read) (keys_taken read)) list) (sym same) each in
     keeps_all (map number_of kept) (subst (λ places. IsPermutation places (map number_of kept)) (all_stay (places_kept taking.watch)) all)
-    (subst (λ (list : List KeptLine). KeepsLines (map number_of list) (member_in names) names start.numbers taking read (string_bytes text)) same (says start read told are were))) is) c.read_back_of.ensures
+    (subst (λ (list : List KeptLine). KeepsLines (map number_of list) (member_in names) names start.kept taking read (string_bytes text)) same (says start read told are were))) is) c.read_back_of.ensures

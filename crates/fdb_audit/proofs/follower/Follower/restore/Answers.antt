@@ -19,7 +19,7 @@ said c =
 ends : (c : goal.In_ok-feed_kept) → EndsALine c.args.text.now
 ends c = subst (λ read. OnOk read (EndsALine c.args.text.now)) c.in-Ok.is c.in_ok-read.ensures.ends
 
-unread : (c : goal.In_ok-feed_kept) → IsUnread c.args.asked.now (start_with c.args.behind (kept c).numbers) c.in_ok-follower.follower
+unread : (c : goal.In_ok-feed_kept) → IsUnread c.args.asked.now (start_with c.args.behind (kept c).front) c.in_ok-follower.follower
 unread c = subst (λ numbers. IsUnread c.args.asked.now (start_with c.args.behind numbers) c.in_ok-follower.follower) c.new-numbering.ensures.kept c.in_ok-follower.ensures.unread
 
 pub returns-clause-followed : goal.returns-clause-followed

@@ -24,8 +24,8 @@ returns-clause-told c = λ asked start read told is.
     (c.settle.ensures.seen lines keys is.taken.seen) c.in_ok-told.ensures.settled
     (c.in_ok-told.ensures.once lines keys faults is.taken.seen) refl refl refl refl refl refl))
     (ap (λ (watch : KeyWatch). watch.margin) c.note_settled.ensures.watch ∙ c.settle.ensures.margin.0)
-    (subst (λ list. TellsOn start.numbers old.teller c.tell_all.new.self asked.opts.margin read (line_names old.reader).clients (told_by_all list)) c.deref.ensures.value
-    (c.in_ok-tell_all.ensures start.numbers read to watch.parts.items asked.opts.margin (record { above = is.taken.numbered.above; front = is.taken.numbered.front; few = is.taken.numbered.few })
+    (subst (λ list. TellsOn start.kept old.teller c.tell_all.new.self asked.opts.margin read (line_names old.reader).clients (told_by_all list)) c.deref.ensures.value
+    (c.in_ok-tell_all.ensures start.kept read to watch.parts.items asked.opts.margin (record { above = is.taken.numbered.above; front = is.taken.numbered.front; few = is.taken.numbered.few })
     (λ k d lt. (watch.alike k d lt).its_margin ∙ is.margin)
     (subst (AreTold to lines keys watch.parts.items) (sym c.deref.ensures.value) (c.in_ok-told.ensures.told lines keys is.taken.seen))))
     refl refl

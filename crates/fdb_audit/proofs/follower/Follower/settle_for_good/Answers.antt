@@ -20,8 +20,8 @@ returns-clause-told c = λ asked start read told is.
     let seen : HasSeenByKey c.replace-watch.result lines keys = subst (λ (w : KeyWatch). HasSeenByKey w lines keys) (sym same) is.taken.seen in
     let all : AreTold None lines keys watch.parts.items entries = subst (λ (w : KeyWatch). AreTold None lines keys w.parts.items entries) same (c.in_ok-told.ensures.told lines keys seen) in
     settled_all start asked true old _ read told (told_by_all entries) is refl
-    (subst (λ list. TellsOn start.numbers old.teller c.tell_all.new.self asked.opts.margin read (line_names old.reader).clients (told_by_all list)) c.deref.ensures.value
-    (c.in_ok-tell_all.ensures start.numbers read None watch.parts.items asked.opts.margin (record { above = is.taken.numbered.above; front = is.taken.numbered.front; few = is.taken.numbered.few })
+    (subst (λ list. TellsOn start.kept old.teller c.tell_all.new.self asked.opts.margin read (line_names old.reader).clients (told_by_all list)) c.deref.ensures.value
+    (c.in_ok-tell_all.ensures start.kept read None watch.parts.items asked.opts.margin (record { above = is.taken.numbered.above; front = is.taken.numbered.front; few = is.taken.numbered.few })
     (λ k d lt. (watch.alike k d lt).its_margin ∙ is.margin)
     (subst (AreTold None lines keys watch.parts.items) (sym c.deref.ensures.value) all)))
     refl refl refl refl

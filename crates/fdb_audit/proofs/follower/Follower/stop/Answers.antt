@@ -40,8 +40,8 @@ returns-clause-kept c =
       margin = is.margin;
       early = ap (λ (counts : Counted). counts.early) counts;
       taken = subst (λ (windows : List Window). AreTaken start taking read (start.told ++ told_in_all read windows)) (sym (as_all ∙ windows)) is.taken;
-      keeps = subst (λ key. Keeps key names start.numbers taking read (string_bytes text)) (member_asked asked bytes c.keys_stay_in_one_member.ensures)
-          (subst (λ (names : LineNames). Keeps (member_in names) names start.numbers taking read (string_bytes text)) (sym same)
+      keeps = subst (λ key. Keeps key names start.kept taking read (string_bytes text)) (member_asked asked bytes c.keys_stay_in_one_member.ensures)
+          (subst (λ (names : LineNames). Keeps (member_in names) names start.kept taking read (string_bytes text)) (sym same)
           (says start read (start.told ++ told_in_all read is.windows) is.taken));
     }) c.in_ok-kept.ensures
 

@@ -22,6 +22,6 @@ returns-clause-early c =
       early = last.early ∙ (ap (λ b. one_more b c.add_call.new.self.early) begins ∙ ap (one_more (nat_lt (began c.args.line.now) c.args.settled_to)) call.0);
       judged = last.judged ∙ (ap (λ b. one_more (b && came.is_judged) c.add_call.new.self.judged) begins
           ∙ ap (one_more (nat_lt (began c.args.line.now) c.args.settled_to && came.is_judged)) call.1);
-      last = last.last ∙ (ap (λ b. if b then Some came.number else c.add_call.new.self.last_early) begins
-          ∙ ap (λ last. if nat_lt (began c.args.line.now) c.args.settled_to then Some came.number else last) call.2);
+      last = last.last ∙ (ap (λ b. if b then Some came.line else c.add_call.new.self.last_early) begins
+          ∙ ap (λ last. if nat_lt (began c.args.line.now) c.args.settled_to then Some came.line else last) call.2);
     }

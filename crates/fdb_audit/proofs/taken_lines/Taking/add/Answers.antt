@@ -14,7 +14,7 @@ notes : (c : goal.In_ok-hear) → NotesLine c.args.self.now.watch.from c.args.se
 notes c =
     let its = c.in_ok-note.ensures.noted in
     subst (λ from. NotesLine from c.args.self.now c.note.new.self (said_by c.args.read).line) c.push.ensures.settled (record {
-      number = its.number;
+      its_line = its.its_line;
       judged = its.judged;
       numbering = its.numbering;
       count = its.count;
@@ -23,7 +23,7 @@ notes c =
       hears = record { newest = its.hears.newest; others = its.hears.others; believed = its.hears.believed; ahead = its.hears.ahead; behind = its.hears.behind };
       ahead = its.ahead;
       counted = its.counted;
-      its_number = its.its_number;
+      is_its = its.is_its;
       came = record { early = its.came.early; judged = its.came.judged; last = its.came.last };
       warned = its.warned;
     })

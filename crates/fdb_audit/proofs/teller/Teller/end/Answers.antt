@@ -4,7 +4,7 @@ use Rattle.std.proofs.lemmas.Result.{on_ok_weaker}
 use Rattle.fdb_audit.specs.Following.{Counted, FollowArguments, IsEnd, counted_figures, total_head, verdict_of}
 use Rattle.fdb_audit.specs.Figures.{Figure, figures_words}
 use Rattle.fdb_audit.specs.Text.{line}
-use Rattle.fdb_audit.specs.ToldFaults.{AreTotals, ToldFault}
+use Rattle.fdb_audit.specs.ToldFaults.{AreTotalsTold, ToldFault}
 use Rattle.fdb_audit.specs.private.{figure_of, members_of}
 use Rattle.fdb_audit.specs.private.Followed.{HasTotalsIn, counted_in, told_with}
 use Rattle.fdb_audit.proofs.teller.Teller.end.Goals.{else-is_none-via-then-is_none+else-not-self, else-is_none-via-else-is_none}
@@ -58,7 +58,7 @@ returns-clause-text c = λ members told has.
     let it = c.in_ok-push.ensures members told counted.1 in
     let head = total_head self.wanted.json counts (told_with c.args.behind self members) in
     let json : c.push_head.new.self.wanted.json ≡ self.wanted.json = ap (λ wanted. wanted.json) c.push_head.ensures.wanted in
-    let totals : AreTotals self.wanted.json members told it.0 = subst (λ (json : Bool). AreTotals json members told it.0) json it.1 in (
+    let totals : AreTotalsTold self.wanted.json members told it.0 = subst (λ (json : Bool). AreTotalsTold json members told it.0) json it.1 in (
       head ++ it.0,
       end_of (not (is_some self.first) && not self.wanted.json) false self.wanted.totals true self.wanted.json counts (told_with c.args.behind self members) told (head ++ it.0) loud counted.0
           (it.0, totals, refl),

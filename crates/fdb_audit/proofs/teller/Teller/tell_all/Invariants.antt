@@ -5,13 +5,13 @@ use Rattle.fdb_lines.specs.ToldByKey.{told_by_all}
 use Rattle.fdb_log_reader.specs.LineReader.{line_names}
 use Rattle.fdb_log_reader.specs.ReadLine.{SaidLine}
 use Rattle.fdb_log_reader.specs.declared.error.Why.{Why}
-use Rattle.fdb_audit.specs.Following.{KeptNumbers, keys_taken, lines_taken}
+use Rattle.fdb_audit.specs.Following.{KeptBefore, keys_taken, lines_taken}
 use Rattle.fdb_audit.specs.private.Followed.{AreNumbered, TellsOn}
 use Rattle.fdb_audit.proofs.teller.Teller.tell_all.Given as goal
 
 -- what is told so far
 abbrev pub invariant-loop-entry : goal.invariant-loop-entry
 invariant-loop-entry l =
-    (kept : KeptNumbers) (read : List (Result SaidLine Why)) (to : Option ℕ) (parts : List KeyPart) (margin : ℕ) → AreNumbered kept l.taking read
+    (kept : KeptBefore) (read : List (Result SaidLine Why)) (to : Option ℕ) (parts : List KeyPart) (margin : ℕ) → AreNumbered kept l.taking read
     → All (λ part. part.watch.margin ≡ margin) parts → AreTold to (lines_taken read) (keys_taken read) parts l.told
     → TellsOn kept l.fn.self l.self margin read (line_names l.reader).clients (told_by_all (take l.entry-index l.told))

@@ -4,12 +4,12 @@ use Rattle.fdb_lines.specs.declared.locators.LineKind.TheVariants.{Asks}
 use Rattle.fdb_lines.specs.Audit.{case_of}
 use Rattle.fdb_lines.specs.Lines.{nobody}
 use Rattle.fdb_lines.specs.Log.{lines_of}
-use Rattle.fdb_lines.proofs.Reasoning.{are_asked, beside_a_commit, beside_an_ask}
+use Rattle.fdb_lines.proofs.Reasoning.{are_of_subject, beside_a_commit, beside_an_ask}
 use Rattle.fdb_lines.proofs.tables.Tables.drawn_again.Goals as goal
 
 pub returns-then-is_commit : goal.returns-then-is_commit
 returns-then-is_commit c =
-    let are = are_asked c.self.view_is c.self.invariant in
+    let are = are_of_subject c.self.view_is c.self.invariant in
     let log = lines_of c.args.self.now.log in
     let commit = rw (c.lines.ensures, get_or_default log.lines c.args.place c.index-lines-place.result nobody c.requires.place) at c.if-is_commit.ensures in
     beside_a_commit (case_of log c.args.self.now.opts) c.args.place c.first.result (sym commit)

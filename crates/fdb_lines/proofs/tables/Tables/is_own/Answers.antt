@@ -5,12 +5,12 @@ use Rattle.fdb_lines.specs.declared.line.Line.{Line}
 use Rattle.fdb_lines.specs.declared.locators.LineKind.TheVariants.{Owned, Nameless}
 use Rattle.fdb_lines.specs.Lines.{line_at, nobody}
 use Rattle.fdb_lines.specs.Log.{lines_of}
-use Rattle.fdb_lines.proofs.Reasoning.{anybody_is, are_asked, owned_is}
+use Rattle.fdb_lines.proofs.Reasoning.{anybody_is, are_of_subject, owned_is}
 use Rattle.fdb_lines.proofs.tables.Tables.is_own.Goals as goal
 
 pub returns-then-is_some : goal.returns-then-is_some
 returns-then-is_some c =
-    let are = are_asked c.self.view_is c.self.invariant in
+    let are = are_of_subject c.self.view_is c.self.invariant in
     let log = lines_of c.args.self.now.log in
     let opts = c.args.self.now.opts in
     let k = c.args.place in
@@ -26,7 +26,7 @@ returns-then-is_some c =
 
 pub returns-else-is_some : goal.returns-else-is_some
 returns-else-is_some c =
-    let are = are_asked c.self.view_is c.self.invariant in
+    let are = are_of_subject c.self.view_is c.self.invariant in
     let log = lines_of c.args.self.now.log in
     let opts = c.args.self.now.opts in
     let k = c.args.place in

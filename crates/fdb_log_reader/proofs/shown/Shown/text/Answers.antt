@@ -6,4 +6,4 @@ use Rattle.fdb_log_reader.proofs.shown.Shown.text.Goals as goal
 pub returns : goal.returns
 returns c =
     let shown = c.args.self.now in
-    kept_says (names_of shown.texts) shown.numbers.items c.args.line (option_map (λ text. text.now) c.kept.result) shown.json shown.within c.kept.ensures
+    kept_says (names_of shown.texts) shown.numbers.items c.args.place (option_map (λ text. text.now) c.kept.result) shown.json shown.within c.kept.ensures

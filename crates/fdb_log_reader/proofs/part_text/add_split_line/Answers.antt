@@ -1,5 +1,5 @@
 use Rattle.std.proofs.Common.{◌∙◌, ◌++◌, List, ℕ, ap, append_assoc, codes}
-use Rattle.fdb_log_reader.proofs.part_text.add_number.Goals as goal
+use Rattle.fdb_log_reader.proofs.part_text.add_split_line.Goals as goal
 
 pub returns : goal.returns
 returns c =

@@ -1,7 +1,7 @@
 use Rattle.std.proofs.Common.{ℕ, arith, nat_le, rules}
 use Rattle.std.proofs.lemmas.List.Sorted.{IsPartitionPoint-from_clause, IsPartitionedBy-leb}
 use Rattle.fdb_audit.proofs.Following.{counted_by_search}
-use Rattle.fdb_audit.proofs.members.Numbering.number_behind.Goals as goal
+use Rattle.fdb_audit.proofs.members.Numbering.line_behind.Goals as goal
 
 pub returns : goal.returns
 returns c = λ few.

@@ -1,7 +1,0 @@
-use Rattle.std.proofs.Common.{take}
-use Rattle.fdb_audit.specs.private.Numbering.{AreNumbersOf, kept_by}
-use Rattle.fdb_audit.proofs.read_back.numbers_at.Given as goal
-
--- the numbers so far
-abbrev pub invariant-loop-taken : goal.invariant-loop-taken
-invariant-loop-taken l = AreNumbersOf (kept_by l.numbering) l.numbering.above.items (take l.taken-index l.places) l.numbers.items
