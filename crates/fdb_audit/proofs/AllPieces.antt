@@ -1,5 +1,5 @@
 -- A watch that goes on tells all that there is to tell.
-use Rattle.std.proofs.Common.{◌≡◌, ◌∙◌, ℕ, zero, suc, ◌++◌, List, IsPermutation, None, Option, ap, append_assoc, arith, map, subst, sym}
+use Rattle.std.proofs.Common.{◌≡◌, ◌∙◌, ℕ, zero, suc, ◌++◌, true, List, IsPermutation, None, Option, ap, append_assoc, arith, map, subst, sym}
 use Rattle.std.proofs.lemmas.List.Sorted.{IsPermutation-refl}
 use Rattle.fdb_lines.specs.declared.fault.Found.{Found}
 use Rattle.fdb_lines.specs.Keys.{placed_found}
@@ -21,8 +21,8 @@ abbrev IsAllTold : AuditArguments → List ℕ → List Found → Start → Type
 IsAllTold asked bytes told start = IsPermutation (start.told ++ told) (audited_in asked bytes) × (early_at start.from (lines_since start (lines_asked asked bytes)) ≡ 0)
 
 all_told : (known : Known) (asked : AuditArguments) (found : Option LogFault) (refused : Option ReadError) (last_early : Option ℕ) (times : ℕ) (start : Start) (bytes text : List ℕ)
-    → asked.forget ≡ None → start.early ≡ 0 → (pieces : Pieces asked found refused last_early times start bytes text) → AreInTime asked found refused last_early times start bytes text pieces
-    → IsAllTold asked bytes (told_of_pieces asked found refused last_early times start bytes text pieces) start
+    → asked.forget ≡ None → start.early ≡ 0 → (pieces : Pieces asked true found refused last_early times start bytes text) → AreInTime asked true found refused last_early times start bytes text pieces
+    → IsAllTold asked bytes (told_of_pieces asked true found refused last_early times start bytes text pieces) start
 all_told known asked found refused last_early zero start bytes text none start_early last early =
     let late = last.followed.late in
     (last.followed.whole start_early early, omega (arith, late, early))
@@ -32,7 +32,7 @@ all_told known asked found refused last_early (suc times) start bytes text none 
     subst (λ places. IsPermutation places wanted) (stay_all goes.stays (goes.forgets.all none) (keys_taken (lines_asked asked piece)) (places_kept goes.taking.watch)) (IsPermutation-refl wanted) in
     let next_early : next.early ≡ 0 =
     ap (λ (start : Start). start.early) goes.next_is ∙ none_early known.stand asked start start.behind piece kept goes.taking goes.taken (keeps_all wanted all_kept goes.keeps) start_early early in
-    let others = told_of_pieces asked found refused last_early times next (kept ++ rest) more left in
+    let others = told_of_pieces asked true found refused last_early times next (kept ++ rest) more left in
     let from : (start_of asked start.behind kept).from ≡ goes.taking.watch.from = sym (ap (λ (start : Start). start.from) goes.next_is) ∙ goes.from in
     let (all, late) = subst (IsAllTold asked (kept ++ rest) others) goes.next_is
     (all_told known asked found refused last_early times next (kept ++ rest) more none next_early left in_time) in
@@ -45,7 +45,7 @@ all_told known asked found refused last_early (suc times) start bytes text none 
     )
 
 pub all_pieces_told : (known : Known) (asked : AuditArguments) (found : Option LogFault) (refused : Option ReadError) (last_early : Option ℕ) (times : ℕ) (start : Start) (bytes text : List ℕ)
-    → asked.forget ≡ None → start.early ≡ 0 → (pieces : Pieces asked found refused last_early times start bytes text) → AreInTime asked found refused last_early times start bytes text pieces
-    → IsPermutation (start.told ++ told_of_pieces asked found refused last_early times start bytes text pieces) (audited_in asked bytes)
+    → asked.forget ≡ None → start.early ≡ 0 → (pieces : Pieces asked true found refused last_early times start bytes text) → AreInTime asked true found refused last_early times start bytes text pieces
+    → IsPermutation (start.told ++ told_of_pieces asked true found refused last_early times start bytes text pieces) (audited_in asked bytes)
 all_pieces_told known asked found refused last_early times start bytes text none start_early pieces in_time =
     (all_told known asked found refused last_early times start bytes text none start_early pieces in_time).0

@@ -1,10 +1,10 @@
 -- The lines that are taken, of those that were read, and as which of all they are printed.
-use Rattle.std.proofs.Common.{◌≡◌, ◌∙◌, ℕ, zero, suc, ◌+◌, ◌-◌, ◌^◌, ◌<◌, ◌≤◌, Bool, true, false, cond, List, [], ◌∷◌, ◌++◌, Option, None, Some, Result, Ok, Err, ap, arith, count_by, drop, get_or, length, length-drop, map, min, nat_le, nat_lt, refl, slice_get, subst, sym, take}
+use Rattle.std.proofs.Common.{◌≡◌, ◌∙◌, ℕ, zero, suc, ◌+◌, ◌-◌, ◌^◌, ◌<◌, ◌≤◌, Bool, true, false, cond, List, [], ◌∷◌, ◌++◌, Option, None, Some, Result, Ok, Err, ap, append_assoc, arith, count_by, drop, get_or, length, length-drop, map, min, nat_le, nat_lt, refl, slice_get, subst, sym, take}
 use Rattle.std.specs.Option.{option_or}
 use Rattle.std.specs.Prelude.{unwrap_or}
 use Rattle.std.specs.List.{All}
 use Rattle.std.specs.List.Sorted.{IsPartitionPoint}
-use Rattle.std.proofs.lemmas.List.{get_or_append_left, get_or_push, length-map, length_push, map_push, take_more}
+use Rattle.std.proofs.lemmas.List.{get_or_append_left, get_or_push, length-append, length-map, length_push, map-append, map_push, take-append-drop, take-append-le, take_more}
 use Rattle.std.proofs.lemmas.Bool.Decides.{nat_tests}
 use Rattle.std.proofs.lemmas.List.Sums.{count_by-le-length, sum_by-append, sum_by-cons}
 use Rattle.fdb_lines.specs.declared.fault.Found.{Found}
@@ -22,16 +22,17 @@ use Rattle.fdb_log_reader.specs.ReadLine.{SaidLine}
 use Rattle.fdb_audit.specs.declared.progress.Counts.{Counts}
 use Rattle.fdb_audit.specs.declared.members.Numbering.{Numbering}
 use Rattle.fdb_audit.specs.declared.taken_lines.Taking.{Taking}
-use Rattle.fdb_audit.specs.Following.{KeptBefore, Start, early_at, keys_taken, last_refused, left_out, lines_since, lines_taken, no_line, taken_line, taken, taken_above}
-use Rattle.fdb_audit.specs.Clocks.{believed_end, believed_with, out_of_reach}
+use Rattle.fdb_audit.specs.Following.{KeptBefore, Start, early_at, keys_taken, last_refused, left_out, lines_before, lines_since, lines_taken, no_line, taken_line, taken, taken_above}
+use Rattle.fdb_audit.specs.Clocks.{believed_end, believed_with, certain_to, out_of_reach}
 use Rattle.fdb_audit.specs.declared.clocks.Clocks.{Clocks}
 use Rattle.fdb_audit.specs.Taken.{AreCounted, AreTaken, HasHeard, HasSettled, IsInReach, kept_by}
+use Rattle.fdb_audit.proofs.KeptTexts.{taken_on}
 use Rattle.fdb_audit.specs.Warned.{AreEarly}
 use Rattle.fdb_audit.specs.private.Clocks.{ahead_of}
 use Rattle.fdb_audit.specs.private.Followed.{NotesLine, one_more}
 use Rattle.fdb_audit.specs.private.Numbering.{AreTakenLines}
 use Rattle.fdb_audit.proofs.Believed.{ahead_more, count_more, heard_more, hears_ahead, hears_believed}
-use Rattle.fdb_audit.proofs.Settled.{drop_on, early_push, far_in_all, far_more, far_still, late_more, settled_more, settled_still}
+use Rattle.fdb_audit.proofs.Settled.{drop_on, early_push, far_in_all, far_more, in_reach_still, late_more, settled_more, settled_still}
 
 -- ---- with one more line
 
@@ -91,6 +92,21 @@ since_few start read =
     let two = counted 0 part in
     let three = length-drop start.lines read in
     omega (arith, one, two, three)
+
+-- and of those before, which stay
+before_on : (start : Start) (read more : List (Result SaidLine Why)) → start.lines ≤ length read → lines_before start (read ++ more) ≡ lines_before start read
+before_on start read more le = ap lines_taken (take-append-le start.lines read more le)
+
+-- both are all
+pub lines_parted : (start : Start) (read : List (Result SaidLine Why)) → lines_before start read ++ lines_since start read ≡ lines_taken read
+lines_parted start read =
+    let line = λ (said : SaidLine). said.line in
+    let front = take start.lines read in
+    let back = drop start.lines read in
+    sym (ap (map line) (taken_on front back) ∙ map-append line (taken front) (taken back)) ∙ ap lines_taken (take-append-drop start.lines read)
+
+pub parted_count : (start : Start) (read : List (Result SaidLine Why)) → length (lines_before start read) + length (lines_since start read) ≡ length (lines_taken read)
+parted_count start read = sym (length-append (lines_before start read) (lines_since start read)) ∙ ap length (lines_parted start read)
 
 -- ---- the last that is refused
 
@@ -191,34 +207,37 @@ in_time : (began from : ℕ) → nat_lt began from ≡ false → from ≤ began
 in_time began from late = grind (arith, nat_tests)
 
 -- one more that came early began out of reach
-early_more : (behind newest from began count many : ℕ) → from ≤ newest - behind → count ≤ many
-    → one_more (nat_lt began from) count ≤ many + cond (nat_lt (began + behind) newest) 1 0
-early_more behind newest from began count many low le = by (nat_lt began from) refl
+early_more : (least behind newest from began count many : ℕ) → from ≤ certain_to least behind newest → count ≤ many
+    → one_more (nat_lt began from) count ≤ many + cond (nat_lt began (certain_to least behind newest)) 1 0
+early_more least behind newest from began count many low le = by (nat_lt began from) refl
   where
-    by : (b : Bool) → nat_lt began from ≡ b → one_more b count ≤ many + cond {A = ℕ} (nat_lt (began + behind) newest) 1 0
+    by : (b : Bool) → nat_lt began from ≡ b → one_more b count ≤ many + cond {A = ℕ} (nat_lt began (certain_to least behind newest)) 1 0
     by false is = omega (arith, le)
     by true is =
         let before : began < from = grind (arith, nat_tests) in
-        let out : nat_lt (began + behind) newest ≡ true = (let far : began + behind < newest = omega (arith, before, low) in grind (arith, nat_tests)) in
-        let one : cond {A = ℕ} (nat_lt (began + behind) newest) 1 0 ≡ 1 = ap (λ b. cond {A = ℕ} b 1 0) out in
+        let out : nat_lt began (certain_to least behind newest) ≡ true =
+        (let far : began < certain_to least behind newest = omega (arith, before, low) in grind (arith, nat_tests)) in
+        let one : cond {A = ℕ} (nat_lt began (certain_to least behind newest)) 1 0 ≡ 1 = ap (λ b. cond {A = ℕ} b 1 0) out in
         omega (arith, one, le)
 
-in_reach_more : (behind : ℕ) (old new : Taking) (lines : List Line) (line : Line) → IsInReach behind old lines → old.settled ≤ length lines → length lines + 1 < 2 ^ 64
-    → NotesLine old.watch.from old new line → new.watch.from ≡ old.watch.from → IsInReach behind new (lines ++ line ∷ [])
-in_reach_more behind old new lines line is come few notes from =
-    let low = far_in_all old behind lines is.from in
+in_reach_more : (start : Start) (old new : Taking) (above since : List Line) (line : Line) → IsInReach start old above since → old.settled ≤ length above + length since → length since + 1 < 2 ^ 64
+    → NotesLine old.watch.from old new line → new.watch.from ≡ old.watch.from → IsInReach start new above (since ++ line ∷ [])
+in_reach_more start old new above since line is come few notes from =
+    let before = start.clocks in
+    let behind = start.behind in
+    let low = far_in_all start old above since is.from in
     let le = is.early in
     let early = notes.came.early in
-    let more = early_more behind (believed_end behind lines) old.watch.from (began line) old.counts.early (out_of_reach behind lines) low le in
-    let out = count_more (believed_with behind) (λ (believed : ℕ) (above : List Line) (line : Line). nat_lt (began line + behind) believed) 0 [] lines line in
+    let more = early_more start.from behind (believed_end before behind above since) old.watch.from (began line) old.counts.early (out_of_reach before start.from behind above since) low le in
+    let out = count_more (believed_with before behind) (λ (believed : ℕ) (above : List Line) (line : Line). nat_lt (began line) (certain_to start.from behind believed)) before.believed above since line in
     record {
       behind_is = notes.hears.behind ∙ is.behind_is;
-      heard = heard_more old.clocks new.clocks lines line is.heard notes.hears;
-      believed = hears_believed behind old.clocks new.clocks lines line is.heard notes.hears is.behind_is is.believed;
-      from = far_more old new behind lines line come is.from notes.settled from;
+      heard = subst (HasHeard before new.clocks) (append_assoc above since (line ∷ [])) (heard_more before old.clocks new.clocks (above ++ since) line is.heard notes.hears);
+      believed = hears_believed before behind old.clocks new.clocks above since line is.heard notes.hears is.behind_is is.believed;
+      from = far_more start old new above since line come is.from notes.settled from;
       early = omega (arith, early, more, out);
-      ahead_to = hears_ahead behind old.clocks new.clocks lines line is.heard notes.hears is.behind_is is.ahead_to;
-      ahead = ahead_more behind old.counts.ahead new.counts.ahead old.clocks lines line is.heard is.behind_is is.ahead_to few is.ahead notes.ahead;
+      ahead_to = hears_ahead before behind old.clocks new.clocks above since line is.heard notes.hears is.behind_is is.ahead_to;
+      ahead = ahead_more before behind old.counts.ahead new.counts.ahead old.clocks above since line is.heard is.behind_is is.ahead_to few is.ahead notes.ahead;
     }
 
 -- which of all a line more is that is taken
@@ -293,8 +312,11 @@ takes start old new read said told are room seen notes from tells came =
       late = takes_late start old new read said are early;
       settled = subst (HasSettled start new) (sym (lines_more read said))
           (settled_more start old new (lines_taken read) said.line are.settled room_for notes.settled from early);
-      reach = λ anew. subst (IsInReach start.behind new) (sym (lines_more read said))
-          (in_reach_more start.behind old new (lines_taken read) said.line (are.reach anew) are.settled.come room_for notes from);
+      reach = subst (λ above. IsInReach start new above (lines_since start more)) (sym (before_on start read (Ok said ∷ []) are.few))
+          (subst (IsInReach start new (lines_before start read)) (sym (since_more start read said are.few))
+          (in_reach_more start old new (lines_before start read) (lines_since start read) said.line are.reach
+          (let come = are.settled.come in let parts = parted_count start read in omega (arith, come, parts))
+          (let least = since_few start read in omega (arith, least, few)) notes from));
       came = came;
       few_ahead = (let was = are.few_ahead in let ahead = notes.ahead in let one = one_at_most (nat_lt 0 (ahead_of old.clocks said.line)) old.counts.ahead in omega (arith, was, ahead, one, size));
       once = λ none_before none.
@@ -354,17 +376,9 @@ leaves_out start old new read why told number are room watch above same count co
           (settled_still start old new (lines_taken read) are.settled settled (ap (λ (watch : KeyWatch). watch.from) watch) (ap (λ (counts : Counts). counts.early) counts));
       came = came;
       few_ahead = (let was = are.few_ahead in let ahead = ap (λ (counts : Counts). counts.ahead) counts in omega (arith, was, ahead, size));
-      reach = λ anew.
-          let was = are.reach anew in
-          subst (IsInReach start.behind new) (sym (lines_same read why)) (record {
-            behind_is = ap (λ (clocks : Clocks). clocks.behind) clocks ∙ was.behind_is;
-            heard = subst (λ (clocks : Clocks). HasHeard clocks (lines_taken read)) (sym clocks) was.heard;
-            believed = ap (λ (clocks : Clocks). clocks.believed) clocks ∙ was.believed;
-            ahead_to = ap (λ (clocks : Clocks). clocks.ahead) clocks ∙ was.ahead_to;
-            ahead = ap (λ (counts : Counts). counts.ahead) counts ∙ was.ahead;
-            from = far_still old new start.behind (lines_taken read) was.from settled (ap (λ (watch : KeyWatch). watch.from) watch);
-            early = (let le = was.early in let early = ap (λ (counts : Counts). counts.early) counts in omega (arith, le, early));
-          });
+      reach = subst (λ above. IsInReach start new above (lines_since start more)) (sym (before_on start read (Err why ∷ []) are.few))
+          (subst (IsInReach start new (lines_before start read)) (sym (since_same start read why are.few))
+          (in_reach_still start old new (lines_before start read) (lines_since start read) are.reach clocks (ap (λ (watch : KeyWatch). watch.from) watch) settled counts));
       once = λ none_before none.
           subst (λ lines. HasTold new.watch lines (keys_taken more) told) (sym (lines_same read why))
           (subst (λ keys. HasTold new.watch (lines_taken read) keys told) (sym (keys_same read why))

@@ -1,32 +1,39 @@
 -- A watch goes on from what it keeps, with what it has counted and told.
-use Rattle.std.proofs.Common.{◌≡◌, ◌∙◌, ◌+◌, ◌++◌, ◌∷◌, [], ℕ, Bool, IsPermutation, List, None, Option, Some, Result, ap, append-nil, is_some, length, map, option_map, option_to_list, refl, string_bytes, subst, sym}
+use Rattle.std.specs.Prelude.{◌&&◌}
+use Rattle.std.proofs.lemmas.List.{drop_all, length-append}
+use Rattle.std.proofs.Common.{◌≡◌, ◌∙◌, ◌+◌, ◌≤◌, ◌++◌, ◌∷◌, [], ℕ, Bool, IsPermutation, List, None, Option, Some, Result, ap, append-nil, arith, is_some, length, map, option_map, option_to_list, refl, string_bytes, subst, sym}
 use Rattle.std.specs.Option.{option_or}
 use Rattle.fdb_lines.specs.declared.fault.Found.{Found}
 use Rattle.fdb_lines.specs.declared.key_watch.KeyWatch.{KeyWatch}
+use Rattle.fdb_lines.specs.declared.line.Line.{Line}
 use Rattle.fdb_lines.specs.declared.log.AuditOpts.{AuditOpts}
+use Rattle.fdb_lines.specs.KeyWatch.{settled_in}
 use Rattle.fdb_log_reader.specs.declared.error.ReadError.{ReadError}
 use Rattle.fdb_log_reader.specs.declared.error.Why.{Why}
 use Rattle.fdb_log_reader.specs.LineReader.{line_names, lines_on, names_on}
 use Rattle.fdb_log_reader.specs.Printed.{printed}
 use Rattle.fdb_log_reader.specs.ReadLine.{LineNames, SaidLine, lines_read, member_in, names_behind, no_names}
 use Rattle.fdb_log_reader.specs.Reading.{EndsALine, lines_in}
-use Rattle.fdb_audit.specs.Following.{AreWindows, Before, Counted, Start, Window, counted_on, faults_told, told_in_all}
+use Rattle.fdb_audit.specs.Following.{AreInTurn, AreNamed, AreWindows, Before, Counted, Start, Window, counted_on, faults_told, lines_before, lines_since, lines_taken, told_in_all, told_to}
 use Rattle.fdb_audit.specs.GoingOn.{GoesOnBy, MayForget, counted_before, places_staying}
-use Rattle.fdb_audit.specs.Kept.{KeepsLines, kept_said, lines_kept, start_from, start_of}
-use Rattle.fdb_audit.specs.Taken.{AreTaken, HasTotals, HasTotalsIn, IsCarried, counted_of}
+use Rattle.fdb_audit.specs.Kept.{KeepsLines, KeptSaid, kept_said, lines_kept, start_from, start_of}
+use Rattle.fdb_audit.specs.Taken.{AreTaken, HasTotals, HasTotalsIn, IsCarried, IsInReach, counted_of, known_by}
 use Rattle.fdb_audit.specs.Watched.{AskForTheSame, HasFollowed, lines_asked, members_asked, names_asked}
 use Rattle.fdb_audit.specs.declared.arguments.AuditArguments.{AuditArguments}
 use Rattle.fdb_audit.specs.declared.progress.Carried.{Carried}
+use Rattle.fdb_audit.specs.declared.progress.Counts.{Counts}
 use Rattle.fdb_audit.specs.declared.follower.Follower.{Follower}
 use Rattle.fdb_audit.specs.declared.judgement.Wanted.{Wanted}
 use Rattle.fdb_audit.specs.declared.taken_lines.Taking.{Taking}
 use Rattle.fdb_audit.specs.declared.teller.Teller.{Teller}
 use Rattle.fdb_audit.specs.declared.told_faults.ToldFaults.{ToldFaults}
+use Rattle.fdb_audit.specs.private.Clocks.{Carries}
 use Rattle.fdb_audit.specs.private.Followed.{CountsBehind, HasGoneOn, IsQuiet, TakesPlace}
 use Rattle.fdb_audit.proofs.Following.{last_on}
 use Rattle.fdb_audit.proofs.Forgotten.{keeps_all}
 use Rattle.fdb_audit.proofs.KeptTexts.{StaysInOne, all_read, ends_so, member_followed}
-use Rattle.fdb_audit.proofs.SettledOn.{believes_else}
+use Rattle.fdb_audit.proofs.Believed.{carried_on as heard_on}
+use Rattle.fdb_audit.proofs.SettledOn.{held_else}
 
 -- ---- who asks for the same
 
@@ -90,6 +97,10 @@ module _ (asked other : AuditArguments) (same : AskForTheSame asked other) where
             windows = is.windows;
             taken = is.taken;
             margin = is.margin ∙ margin_same;
+            horizon = is.horizon;
+            far = is.far;
+            named = is.named;
+            in_turn = is.in_turn;
             tells = subst (λ (wanted : Wanted). AreWindows start.kept asked.opts.margin wanted has.read names is.windows text) same.wanted
                 (subst (λ (margin : ℕ). AreWindows start.kept margin other.wanted has.read names is.windows text) margin_same is.tells);
             are = record {
@@ -106,25 +117,28 @@ module _ (asked other : AuditArguments) (same : AskForTheSame asked other) where
 
 -- ---- with what was counted before
 
--- what was carried is no part of what is taken
-taken_behind : (start : Start) (before : Before) (taking : Taking) (read : List (Result SaidLine Why)) (told : List Found) → AreTaken start taking read told
-    → AreTaken (record start { before = before }) taking read told
-taken_behind start before taking read told are = record {
-  seen = are.seen;
-  numbered = record { above = are.numbered.above; front = are.numbered.front; few = are.numbered.few };
-  count = are.count;
-  refused = are.refused;
-  counted = are.counted;
-  few = are.few;
-  before = are.before;
-  from = are.from;
-  late = are.late;
-  settled = record { come = are.settled.come; since = are.settled.since };
-  reach = are.reach;
-  came = are.came;
-  few_ahead = are.few_ahead;
-  once = are.once;
-}
+-- and knows of clocks what this one knew: of lines that were kept, none has come since
+goes_in_reach : (begun : Start) (before : Before) (old next new : Taking) (some : Bool) (above since : List Line) → since ≡ [] → begun.clocks.newest ≡ 0
+    → begun.clocks.many ≡ (some && is_some old.clocks.second) → IsInReach begun next above since → Carries old.clocks next.clocks new.clocks
+    → new.watch ≡ next.watch → new.counts ≡ next.counts → next.watch.from ≡ begun.from
+    → IsInReach (record begun { clocks = known_by old.clocks; before = before }) new above since
+goes_in_reach begun before old next new some above since none newest many is carries watch counts moment =
+    subst (IsInReach (record begun { clocks = known_by old.clocks; before = before }) new above) (sym none) (at (subst (IsInReach begun next above) none is))
+  where
+    at : IsInReach begun next above [] → IsInReach (record begun { clocks = known_by old.clocks; before = before }) new above []
+    at is =
+        let few : next.counts.early ≤ 0 = is.early in
+        let early = ap (λ (counts : Counts). counts.early) counts in
+        let from = ap (λ (watch : KeyWatch). watch.from) watch in
+        record {
+          behind_is = carries.behind ∙ is.behind_is;
+          heard = heard_on begun.clocks old.clocks next.clocks new.clocks some (above ++ []) newest many is.heard carries;
+          believed = carries.believed;
+          ahead_to = carries.ahead;
+          from = omega (arith, from, moment);
+          early = omega (arith, few, early);
+          ahead = ap (λ (counts : Counts). counts.ahead) counts ∙ is.ahead;
+        }
 
 -- what a watch has counted is carried to the next
 carried_on : (start : Start) (old : Follower) (read : List (Result SaidLine Why)) (windows : List Window) (told : List Found) (all : Carried) → AreTaken start old.taking read told
@@ -146,7 +160,7 @@ module _ (asked : AuditArguments) (start : Start) (old next new : Follower) (byt
   named = ap (names_asked asked) (sym (append-nil bytes)) ∙ (has.behind [] ∙ quiet.names)
 
   abbrev on : Start
-  on = record (start_of asked start.behind kept) { before = counted_before start has.read has.telling.windows old.taking }
+  on = record (start_of asked start.behind kept) { clocks = known_by old.taking.clocks; before = counted_before start has.read has.telling.windows old.taking }
 
   goes_on : (stays : Option ℕ → Bool) → MayForget asked.forget stays
       → KeepsLines (places_staying stays has.read old.taking) (option_map string_bytes asked.key) (line_names old.reader) start.kept old.taking has.read kept → EndsALine bytes
@@ -155,35 +169,44 @@ module _ (asked : AuditArguments) (start : Start) (old next new : Follower) (byt
       let is = has.telling in
       let Its = λ (read : List (Result SaidLine Why)) (names : LineNames). AreTaken start old.taking read (start.told ++ told_in_all read is.windows)
       × (AreWindows start.kept asked.opts.margin asked.wanted read names.clients is.windows told
+      × (AreInTurn start.behind read start.far is.windows
       × (KeepsLines (places_staying stays read old.taking) (option_map string_bytes asked.key) names start.kept old.taking read kept
-      × (on ≡ record (start_of asked start.behind kept) { before = counted_before start read is.windows old.taking }))) in
+      × (on ≡ record (start_of asked start.behind kept) { clocks = known_by old.taking.clocks; before = counted_before start read is.windows old.taking })))) in
       let silent : told ++ string_bytes old.teller.text ≡ told = ap (λ text. told ++ text) quiet.text ∙ append-nil told in
       let all : Its (lines_asked asked bytes) (names_asked asked bytes) =
       subst (λ names. Its (lines_asked asked bytes) names) (sym named)
       (subst (λ read. Its read (line_names old.reader)) (sym whole)
-      (is.taken, (subst (AreWindows start.kept asked.opts.margin asked.wanted has.read (line_names old.reader).clients is.windows) silent is.tells, (keeps, refl)))) in
+      (is.taken, (subst (AreWindows start.kept asked.opts.margin asked.wanted has.read (line_names old.reader).clients is.windows) silent is.tells, (is.in_turn, (keeps, refl))))) in
       record {
         taking = old.taking;
         windows = is.windows;
         margin = is.margin;
         taken = all.0;
         tells = all.1.0;
+        in_turn = all.1.1.0;
         stays = stays;
         forgets = forgets;
-        keeps = all.1.1.0;
+        keeps = all.1.1.1.0;
         ends = ends;
         from = from;
-        next_is = all.1.1.1;
+        next_is = all.1.1.1.1;
       }
 
   -- the next has read what the text keeps, and told nothing
-  followed_on : (restored : HasFollowed asked (start_of asked start.behind kept) next kept []) → restored.telling.windows ≡ [] → TakesPlace old next new → HasFollowed asked on new kept []
-  followed_on restored none place =
+  followed_on : (stays : Option ℕ → Bool)
+      → KeepsLines (places_staying stays has.read old.taking) (option_map string_bytes asked.key) (line_names old.reader) start.kept old.taking has.read kept
+      → (restored : HasFollowed asked (start_of asked start.behind kept) next kept []) → restored.telling.windows ≡ [] → next.taking.watch.from ≡ (start_of asked start.behind kept).from
+      → TakesPlace old next new → HasFollowed asked on new kept []
+  followed_on stays keeps restored none moment place =
       let is = restored.telling in
       let begun = start_of asked start.behind kept in
       let read = restored.read in
       let taken : AreTaken begun next.taking read begun.told =
       subst (AreTaken begun next.taking read) (ap (λ (windows : List Window). begun.told ++ told_in_all read windows) none ∙ append-nil begun.told) is.taken in
+      let since : lines_since begun read ≡ [] =
+      ap lines_taken (drop_all begun.lines read
+      (let all = ap length (restored.goes []) ∙ length-append read (lines_on next.reader []) in
+      let same = ap (λ text. length (lines_asked asked text)) (append-nil kept) in omega (arith, all, same))) in
       let tells : AreWindows begun.kept asked.opts.margin asked.wanted read (line_names next.reader).clients [] (string_bytes next.teller.text) =
       subst (λ windows. AreWindows begun.kept asked.opts.margin asked.wanted read (line_names next.reader).clients windows (string_bytes next.teller.text)) none is.tells in
       record {
@@ -195,11 +218,15 @@ module _ (asked : AuditArguments) (start : Start) (old next new : Follower) (byt
           carried = carried_on start old has.read has.telling.windows _ new.before has.telling.taken has.telling.carried place.before;
           windows = [];
           taken = subst (AreTaken on new.taking read) (sym (append-nil begun.told))
-              (taken_behind begun on.before new.taking read begun.told
-              (believes_else begun next.taking new.taking read begun.told refl taken
-              place.watch place.numbering place.taken
-              place.refused place.counts place.settled));
+              (held_else begun on.clocks on.before next.taking new.taking read begun.told taken
+              (goes_in_reach begun on.before old.taking next.taking new.taking _ (lines_before begun read) (lines_since begun read) since refl
+              (ap (λ (said : KeptSaid). said.many) keeps.said) taken.reach place.clocks place.watch place.counts moment)
+              place.watch place.numbering place.taken place.refused place.counts place.settled);
           margin = ap (λ (watch : KeyWatch). watch.margin) place.watch ∙ is.margin;
+          horizon = ap (λ (watch : KeyWatch). watch.horizon) place.watch ∙ is.horizon;
+          far = λ key. ap (λ (watch : KeyWatch). settled_in watch.parts.items key) place.watch ∙ (is.far key ∙ ap (λ windows. told_to read begun.far windows key) none);
+          named = subst (λ reader. AreNamed (lines_taken read) (line_names reader).clients) (sym place.reader) is.named;
+          in_turn = tt;
           tells = ap string_bytes (ap (λ (teller : Teller). teller.text) place.teller) ∙ tells;
           are = record {
             wanted = ap (λ (teller : Teller). teller.wanted) place.teller ∙ is.are.wanted;
@@ -226,8 +253,9 @@ module _ (asked : AuditArguments) (start : Start) (old next new : Follower) (byt
   pub gone_on : (stays : Option ℕ → Bool) → MayForget asked.forget stays
       → KeepsLines (places_staying stays has.read old.taking) (option_map string_bytes asked.key) (line_names old.reader) start.kept old.taking has.read kept → EndsALine bytes
       → (start_of asked start.behind kept).from ≡ old.taking.watch.from
-      → (restored : HasFollowed asked (start_of asked start.behind kept) next kept []) → restored.telling.windows ≡ [] → TakesPlace old next new → HasGoneOn asked start new bytes told
-  gone_on stays forgets keeps ends from restored none place = (kept, on, goes_on stays forgets keeps ends from, followed_on restored none place)
+      → (restored : HasFollowed asked (start_of asked start.behind kept) next kept []) → restored.telling.windows ≡ [] → next.taking.watch.from ≡ (start_of asked start.behind kept).from
+      → TakesPlace old next new → HasGoneOn asked start new bytes told
+  gone_on stays forgets keeps ends from restored none moment place = (kept, on, goes_on stays forgets keeps ends from, followed_on stays keeps restored none moment place)
 
 -- by one that was restored as this one is asked for
 pub gone_on_by : (asked given : AuditArguments) → AskForTheSame asked given → (start : Start) (old next new : Follower) (bytes told kept : List ℕ) (has : HasFollowed asked start old bytes told) → IsQuiet old
@@ -241,7 +269,8 @@ gone_on_by asked given same start old next new bytes told kept has quiet stays f
     let (so, none) : (has : HasFollowed given (start_of asked start.behind kept) next kept []) × (has.telling.windows ≡ []) =
     subst (λ start. (has : HasFollowed given start next kept []) × (has.telling.windows ≡ [])) begun restored in
     let (as_asked, windows) = followed_same asked given same (start_of asked start.behind kept) next kept [] so in
-    gone_on asked start old next new bytes told kept has quiet stays (record { unkeyed = forgets.unkeyed; all = λ none. forgets.all (same.forget ∙ none) }) keeps ends (sym (ap (λ (start : Start). start.from) begun) ∙ (sym moment ∙ still)) as_asked (windows ∙ none) place
+    gone_on asked start old next new bytes told kept has quiet stays (record { unkeyed = forgets.unkeyed; all = λ none. forgets.all (same.forget ∙ none) }) keeps ends (sym (ap (λ (start : Start). start.from) begun) ∙ (sym moment ∙ still)) as_asked (windows ∙ none)
+    (moment ∙ ap (λ (start : Start). start.from) begun) place
 
 -- the text that keeps lines keeps those that were read, by the member that has the keys, in whatever order they are named
 pub kept_so : (asked : AuditArguments) (start : Start) (old : Follower) (bytes told kept : List ℕ) (has : HasFollowed asked start old bytes told) → StaysInOne

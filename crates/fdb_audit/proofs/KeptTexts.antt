@@ -1,6 +1,6 @@
 -- What texts say that keep lines.
-use Rattle.std.proofs.Common.{◌≡◌, ◌∙◌, ℕ, zero, suc, ◌+◌, ◌-◌, ◌<◌, nat_lt, Bool, List, [], ◌∷◌, ◌++◌, Option, None, Some, Result, Ok, Err, ap, cond, append-nil, arith, drop, get_or, inl, inr, is_some, length, map, min, option_map, refl, string_bytes, sym, take, unwrap_or}
-use Rattle.std.specs.Prelude.{OnOk, count_by}
+use Rattle.std.proofs.Common.{◌≡◌, ◌∙◌, ℕ, zero, suc, ◌+◌, ◌-◌, ◌<◌, nat_lt, Bool, true, false, List, [], ◌∷◌, ◌++◌, Option, None, Some, Result, Ok, Err, ap, cond, append-nil, arith, drop, get_or, inl, inr, is_some, length, map, min, option_map, refl, string_bytes, sym, take, unwrap_or}
+use Rattle.std.specs.Prelude.{◌||◌, OnOk, count_by}
 use Rattle.std.proofs.lemmas.Bool.{cases_lt}
 use Rattle.std.proofs.lemmas.Bool.Decides.{nat_tests}
 use Rattle.std.proofs.lemmas.List.{drop_all, length-append, length-map, length_push, map-append, map_push, take_all, take_more}
@@ -17,7 +17,7 @@ use Rattle.fdb_audit.specs.declared.arguments.AuditArguments.{AuditArguments}
 use Rattle.fdb_audit.specs.declared.follower.Follower.{Follower}
 use Rattle.fdb_audit.specs.Watched.{HasFollowed, names_asked}
 use Rattle.fdb_audit.specs.Following.{Start, early_at, lines_taken, taken}
-use Rattle.fdb_audit.specs.Kept.{KeptSaid, kept_said, number_kept, read_by, settled_by}
+use Rattle.fdb_audit.specs.Kept.{KeptSaid, kept_said, number_kept, read_by, says_many, settled_by}
 
 -- ---- where a text ends
 
@@ -137,40 +137,62 @@ count_more lines said settled is = sum_by-append (λ (one : SaidLine). cond (is_
 abbrev pub number_of : SaidLine → ℕ
 number_of said = unwrap_or (number_kept 0 said) 0
 
-abbrev pub said_so : List ℕ → ℕ → ℕ → ℕ → KeptSaid
-said_so numbers more told settled = record { front = record { lines = numbers; more = more }; told = told; settled = settled }
+abbrev pub said_so : List ℕ → ℕ → ℕ → ℕ → Bool → KeptSaid
+said_so numbers more told settled many = record { front = record { lines = numbers; more = more }; told = told; settled = settled; many = many }
+
+many_more : (lines : List SaidLine) (said : SaidLine) → nat_lt 0 (count_by says_many (lines ++ said ∷ [])) ≡ nat_lt 0 (count_by says_many lines) || says_many said
+many_more lines said = ap (nat_lt 0) (sum_by-append (λ (one : SaidLine). cond (says_many one) 1 0) lines (said ∷ [])) ∙ by (says_many said) (count_by says_many lines)
+  where
+    either : (one other : Bool) → other ≡ true → true ≡ one || other
+    either true other is = refl
+    either false other is = sym is
+
+    neither : (one : Bool) → one ≡ one || false
+    neither true = refl
+    neither false = refl
+
+    by : (b : Bool) (count : ℕ) → nat_lt 0 (count + (0 + cond {A = ℕ} b 1 0)) ≡ nat_lt 0 count || b
+    by true count = let some : nat_lt 0 (count + (0 + 1)) ≡ true = grind (arith, nat_tests) in some ∙ either (nat_lt 0 count) true refl
+    by false count = let same : count + (0 + 0) ≡ count = omega arith in ap (nat_lt 0) same ∙ neither (nat_lt 0 count)
 
 pub kept_more : (before : List SaidLine) (said : SaidLine) (number read : ℕ) (settled : Option ℕ)
     → number_kept 0 said ≡ Some number → number_kept 1 said ≡ Some read → number_kept 2 said ≡ settled
     → kept_said (before ++ said ∷ [])
     ≡ said_so (map number_of before ++ number ∷ []) (read - (length before + 1)) (told_more settled (count_by is_told before)) (unwrap_or settled (settled_by 0 before))
+    (nat_lt 0 (count_by says_many before) || says_many said)
 kept_more before said number read settled number_is read_is settled_is =
     let all = before ++ said ∷ [] in
     let numbers = map number_of before ++ number ∷ [] in
     let more = read - (length before + 1) in
-    ap (λ ns. said_so ns (read_by 0 all - length all) (count_by is_told all) (settled_by 0 all)) (map_push number_of before said ∙ ap (λ (it : Option ℕ). map number_of before ++ unwrap_or it 0 ∷ []) number_is)
-    ∙ (ap (λ n. said_so numbers (n - length all) (count_by is_told all) (settled_by 0 all)) (read_more 0 before said ∙ ap (λ (it : Option ℕ). unwrap_or it (read_by 0 before)) read_is)
-    ∙ (ap (λ n. said_so numbers (read - n) (count_by is_told all) (settled_by 0 all)) (length_push before said)
-    ∙ (ap (λ n. said_so numbers more n (settled_by 0 all)) (count_more before said settled settled_is)
-    ∙ ap (λ n. said_so numbers more (told_more settled (count_by is_told before)) n) (settled_more 0 before said ∙ ap (λ (it : Option ℕ). unwrap_or it (settled_by 0 before)) settled_is))))
+    let many = nat_lt 0 (count_by says_many all) in
+    ap (λ ns. said_so ns (read_by 0 all - length all) (count_by is_told all) (settled_by 0 all) many) (map_push number_of before said ∙ ap (λ (it : Option ℕ). map number_of before ++ unwrap_or it 0 ∷ []) number_is)
+    ∙ (ap (λ n. said_so numbers (n - length all) (count_by is_told all) (settled_by 0 all) many) (read_more 0 before said ∙ ap (λ (it : Option ℕ). unwrap_or it (read_by 0 before)) read_is)
+    ∙ (ap (λ n. said_so numbers (read - n) (count_by is_told all) (settled_by 0 all) many) (length_push before said)
+    ∙ (ap (λ n. said_so numbers more n (settled_by 0 all) many) (count_more before said settled settled_is)
+    ∙ (ap (λ n. said_so numbers more (told_more settled (count_by is_told before)) n many) (settled_more 0 before said ∙ ap (λ (it : Option ℕ). unwrap_or it (settled_by 0 before)) settled_is)
+    ∙ ap (said_so numbers more (told_more settled (count_by is_told before)) (unwrap_or settled (settled_by 0 before))) (many_more before said)))))
 
-pub said_same : (ns ms : List ℕ) (more more_so told told_so at at_so : ℕ) → ns ≡ ms → more ≡ more_so → told ≡ told_so → at ≡ at_so → said_so ns more told at ≡ said_so ms more_so told_so at_so
-said_same ns ms more more_so told told_so at at_so one two three four =
-    ap (λ l. said_so l more told at) one ∙ (ap (λ n. said_so ms n told at) two ∙ (ap (λ n. said_so ms more_so n at) three ∙ ap (λ n. said_so ms more_so told_so n) four))
+pub said_same : (ns ms : List ℕ) (more more_so told told_so at at_so : ℕ) (many many_so : Bool) → ns ≡ ms → more ≡ more_so → told ≡ told_so → at ≡ at_so → many ≡ many_so
+    → said_so ns more told at many ≡ said_so ms more_so told_so at_so many_so
+said_same ns ms more more_so told told_so at at_so many many_so one two three four five =
+    ap (λ l. said_so l more told at many) one
+    ∙ (ap (λ n. said_so ms n told at many) two ∙ (ap (λ n. said_so ms more_so n at many) three ∙ (ap (λ n. said_so ms more_so told_so n many) four ∙ ap (said_so ms more_so told_so at_so) five)))
 
 -- what has been read, with a line more
-pub added : (was : KeptSaid) (ns : List ℕ) (more told at : ℕ) (before : List SaidLine) (said : SaidLine) (number read : ℕ) (settled : Option ℕ) → was ≡ kept_said before
+pub added : (was : KeptSaid) (ns : List ℕ) (more told at : ℕ) (many : Bool) (before : List SaidLine) (said : SaidLine) (number read : ℕ) (settled : Option ℕ) → was ≡ kept_said before
     → number_kept 0 said ≡ Some number → number_kept 1 said ≡ Some read → number_kept 2 said ≡ settled
-    → ns ≡ was.front.lines ++ number ∷ [] → more ≡ read - (length was.front.lines + 1) → told ≡ told_more settled was.told → at ≡ unwrap_or settled was.settled
-    → said_so ns more told at ≡ kept_said (before ++ said ∷ [])
-added was ns more told at before said number read settled same number_is read_is settled_is numbers_are more_is told_is at_is =
+    → ns ≡ was.front.lines ++ number ∷ [] → more ≡ read - (length was.front.lines + 1) → told ≡ told_more settled was.told → at ≡ unwrap_or settled was.settled → many ≡ was.many || says_many said
+    → said_so ns more told at many ≡ kept_said (before ++ said ∷ [])
+added was ns more told at many before said number read settled same number_is read_is settled_is numbers_are more_is told_is at_is many_is =
     let numbers = ap (λ (kept : KeptSaid). kept.front.lines) same in
     let size = ap length numbers ∙ length-map before number_of in
     said_same ns (map number_of before ++ number ∷ []) more (read - (length before + 1)) told (told_more settled (count_by is_told before)) at (unwrap_or settled (settled_by 0 before))
+    many (nat_lt 0 (count_by says_many before) || says_many said)
     (numbers_are ∙ ap (λ (l : List ℕ). l ++ number ∷ []) numbers)
     (more_is ∙ ap (λ n. read - (n + 1)) size)
     (told_is ∙ ap (λ (kept : KeptSaid). told_more settled kept.told) same)
     (at_is ∙ ap (λ (kept : KeptSaid). unwrap_or settled kept.settled) same)
+    (many_is ∙ ap (λ (kept : KeptSaid). kept.many || says_many said) same)
     ∙ sym (kept_more before said number read settled number_is read_is settled_is)
 
 -- ---- the member that has the keys

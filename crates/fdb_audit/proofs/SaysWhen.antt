@@ -22,7 +22,8 @@ use Rattle.fdb_log_reader.specs.ReadLine.{SaidLine, no_names}
 use Rattle.fdb_log_reader.specs.Reading.{lines_in}
 use Rattle.fdb_audit.specs.declared.arguments.AuditArguments.{AuditArguments}
 use Rattle.fdb_audit.specs.declared.taken_lines.Taking.{Taking}
-use Rattle.fdb_audit.specs.Following.{Start, early_at, keys_taken, lines_taken, taken}
+use Rattle.fdb_audit.specs.Clocks.{ClocksBefore, believed_end, certain_to, no_clocks}
+use Rattle.fdb_audit.specs.Following.{IsAnew, Start, early_at, keys_taken, lines_taken, taken}
 use Rattle.fdb_audit.specs.Kept.{KeptSaid, Keeps, Rise, named_at, start_of}
 use Rattle.fdb_audit.specs.Taken.{AreTaken}
 use Rattle.fdb_audit.specs.Watched.{lines_asked, names_asked}
@@ -157,12 +158,26 @@ module _ (stands : StandsForAll) (asked : AuditArguments) (start : Start) (behin
   said_from : (start_of asked behind kept).from ≡ (if nat_lt 0 count then from else 0)
   said_from = ap (λ (said : KeptSaid). said.settled) keeps.said
 
+  -- where nothing had been read, it has settled by what is believed of lines that had come
+  by_lines : IsAnew start → from ≤ believed_end no_clocks start.behind [] (take taking.settled lines) - start.behind
+  by_lines anew =
+      let read = lines_asked asked piece in
+      let At = λ (known : ClocksBefore) (at : ℕ) (above since : List Line).
+      from ≤ certain_to at start.behind (believed_end known start.behind above (take (taking.settled - length above) since)) in
+      let all : At no_clocks 0 [] lines =
+      subst (λ known. At known 0 [] lines) anew.clocks
+      (subst (λ at. At start.clocks at [] lines) anew.from
+      (subst (λ n. At start.clocks start.from (lines_taken (take n read)) (lines_taken (drop n read))) anew.lines are.reach.from)) in
+      let same : taking.settled - 0 ≡ taking.settled = omega arith in
+      let part = ap (λ n. believed_end no_clocks start.behind [] (take n lines)) same in
+      omega (arith, all, part)
+
   -- where it has settled by lines that had ended, one of them is kept
-  pub says_when : start.anew ≡ true → (start_of asked behind kept).from ≡ from
+  pub says_when : IsAnew start → (start_of asked behind kept).from ≡ from
   says_when anew = said_from ∙ elim (cases_lt 0 from) [
     | inr ge ↦ if_none (nat_lt 0 count) from (omega (arith, ge))
     | inl some ↦
-        let far = (are.reach anew).from in
+        let far = by_lines anew in
         let front = take taking.settled lines in
         let low = believed_low start.behind front in
         let (j, lt, (end, has)) = one_ended 0 front (omega (arith, far, some, low)) in

@@ -1,5 +1,5 @@
 -- Up to when a watch has settled, by the lines that had come then.
-use Rattle.std.proofs.Common.{◌≡◌, ◌∙◌, ℕ, zero, suc, ◌+◌, ◌-◌, ◌^◌, ◌<◌, ◌≤◌, Bool, true, false, cond, nat_lt, List, [], ◌∷◌, ◌++◌, ap, arith, drop, length, refl, take}
+use Rattle.std.proofs.Common.{◌≡◌, ◌∙◌, ℕ, zero, suc, ◌+◌, ◌-◌, ◌^◌, ◌<◌, ◌≤◌, Bool, true, false, cond, nat_lt, List, [], ◌∷◌, ◌++◌, ap, arith, drop, length, refl, subst, sym, take}
 use Rattle.std.proofs.lemmas.Bool.Decides.{nat_tests}
 use Rattle.std.proofs.lemmas.List.{drop_all, length-drop, length_push, take-append-le, take_all}
 use Rattle.std.proofs.lemmas.List.Sums.{count_by-le-length, sum_by-append, sum_by-cons}
@@ -7,8 +7,10 @@ use Rattle.fdb_lines.specs.declared.line.Line.{Line}
 use Rattle.fdb_lines.specs.Before.{began}
 use Rattle.fdb_audit.specs.declared.taken_lines.Taking.{Taking}
 use Rattle.fdb_audit.specs.Following.{Start, early_at}
-use Rattle.fdb_audit.specs.Clocks.{believed_end}
-use Rattle.fdb_audit.specs.Taken.{HasSettled}
+use Rattle.fdb_audit.specs.Clocks.{believed_end, certain_to}
+use Rattle.fdb_audit.specs.declared.clocks.Clocks.{Clocks}
+use Rattle.fdb_audit.specs.declared.progress.Counts.{Counts}
+use Rattle.fdb_audit.specs.Taken.{HasHeard, HasSettled, IsInReach}
 use Rattle.fdb_audit.specs.private.Followed.{one_more}
 use Rattle.fdb_audit.proofs.Believed.{believed_part}
 
@@ -85,24 +87,46 @@ settled_now start new lines all =
 
 -- ---- how far it has
 
-pub far_more : (old new : Taking) (behind : ℕ) (lines : List Line) (line : Line) → old.settled ≤ length lines → old.watch.from ≤ believed_end behind (take old.settled lines) - behind
-    → new.settled ≡ old.settled → new.watch.from ≡ old.watch.from → new.watch.from ≤ believed_end behind (take new.settled (lines ++ line ∷ [])) - behind
-far_more old new behind lines line come is settled from =
-    let part : believed_end behind (take new.settled (lines ++ line ∷ [])) ≡ believed_end behind (take old.settled lines) =
-    ap (believed_end behind) ((λ i. take (settled i) (lines ++ line ∷ [])) ∙ take-append-le old.settled lines (line ∷ []) come) in
-    omega (arith, is, from, part)
+-- up to when all may be told of these lines
+abbrev pub certain : Start → (above since : List Line) → ℕ
+certain start above since = certain_to start.from start.behind (believed_end start.clocks start.behind above since)
 
-pub far_still : (old new : Taking) (behind : ℕ) (lines : List Line) → old.watch.from ≤ believed_end behind (take old.settled lines) - behind
-    → new.settled ≡ old.settled → new.watch.from ≡ old.watch.from → new.watch.from ≤ believed_end behind (take new.settled lines) - behind
-far_still old new behind lines is settled from =
-    let part : believed_end behind (take new.settled lines) ≡ believed_end behind (take old.settled lines) = (λ i. believed_end behind (take (settled i) lines)) in
+pub far_more : (start : Start) (old new : Taking) (above since : List Line) (line : Line) → old.settled ≤ length above + length since
+    → old.watch.from ≤ certain start above (take (old.settled - length above) since) → new.settled ≡ old.settled → new.watch.from ≡ old.watch.from
+    → new.watch.from ≤ certain start above (take (new.settled - length above) (since ++ line ∷ []))
+far_more start old new above since line come is settled from =
+    let part : believed_end start.clocks start.behind above (take (new.settled - length above) (since ++ line ∷ [])) ≡ believed_end start.clocks start.behind above (take (old.settled - length above) since) =
+    ap (believed_end start.clocks start.behind above)
+    (ap (λ n. take (n - length above) (since ++ line ∷ [])) settled ∙ take-append-le (old.settled - length above) since (line ∷ []) (omega (arith, come))) in
     omega (arith, is, from, part)
 
 -- so it is where the newest end is that is believed of all lines
-pub far_in_all : (taking : Taking) (behind : ℕ) (lines : List Line) → taking.watch.from ≤ believed_end behind (take taking.settled lines) - behind → taking.watch.from ≤ believed_end behind lines - behind
-far_in_all taking behind lines is = let part = believed_part behind 0 [] taking.settled lines in omega (arith, is, part)
+pub far_in_all : (start : Start) (taking : Taking) (above since : List Line) → taking.watch.from ≤ certain start above (take (taking.settled - length above) since)
+    → taking.watch.from ≤ certain start above since
+far_in_all start taking above since is =
+    let part = believed_part start.clocks start.behind start.clocks.believed above (taking.settled - length above) since in omega (arith, is, part)
 
-pub far_now : (from come behind : ℕ) (lines : List Line) → come ≡ length lines → from ≤ believed_end behind lines - behind → from ≤ believed_end behind (take come lines) - behind
-far_now from come behind lines all is =
-    let whole : believed_end behind (take come lines) ≡ believed_end behind lines = ap (believed_end behind) (take_all come lines (omega (arith, all))) in
+pub far_now : (start : Start) (from come : ℕ) (above since : List Line) → come ≡ length above + length since → from ≤ certain start above since
+    → from ≤ certain start above (take (come - length above) since)
+far_now start from come above since all is =
+    let whole : believed_end start.clocks start.behind above (take (come - length above) since) ≡ believed_end start.clocks start.behind above since =
+    ap (believed_end start.clocks start.behind above) (take_all (come - length above) since (omega (arith, all))) in
     omega (arith, is, whole)
+
+-- what does not move stays in reach
+pub in_reach_still : (start : Start) (old new : Taking) (above since : List Line) → IsInReach start old above since → new.clocks ≡ old.clocks → new.watch.from ≡ old.watch.from
+    → new.settled ≡ old.settled → new.counts ≡ old.counts → IsInReach start new above since
+in_reach_still start old new above since was clocks from settled counts =
+    let low = was.from in
+    let few = was.early in
+    let early = ap (λ (counts : Counts). counts.early) counts in
+    let part = ap (λ n. believed_end start.clocks start.behind above (take (n - length above) since)) settled in
+    record {
+      behind_is = ap (λ (clocks : Clocks). clocks.behind) clocks ∙ was.behind_is;
+      heard = subst (λ (clocks : Clocks). HasHeard start.clocks clocks (above ++ since)) (sym clocks) was.heard;
+      believed = ap (λ (clocks : Clocks). clocks.believed) clocks ∙ was.believed;
+      ahead_to = ap (λ (clocks : Clocks). clocks.ahead) clocks ∙ was.ahead_to;
+      from = omega (arith, low, from, part);
+      early = omega (arith, few, early);
+      ahead = ap (λ (counts : Counts). counts.ahead) counts ∙ was.ahead;
+    }

@@ -1,11 +1,16 @@
 -- What a follower has told stays told while it reads on, and what it tells next comes behind it.
-use Rattle.std.proofs.Common.{◌≡◌, ◌∙◌, ◌≤◌, ℕ, List, [], ◌++◌, Bool, false, IsPermutation, ap, append-nil, append_assoc, arith, is_some, true, length, not, refl, string_bytes, subst, sym, ◌&&◌, None, Option, Result, Some}
+use Rattle.std.proofs.Common.{◌≡◌, ◌≢◌, ◌∙◌, ◌<◌, ◌≤◌, ℕ, List, [], ◌++◌, Bool, false, IsPermutation, ap, append-nil, append_assoc, arith, is_some, true, length, not, refl, string_bytes, subst, sym, ◌&&◌, None, Option, Result, Some}
+use Rattle.std.specs.Prelude.{IfSome}
+use Rattle.std.specs.List.{AllPairs}
 use Rattle.std.specs.Option.{option_or}
+use Rattle.std.proofs.lemmas.List.Elements.{All-nil}
 use Rattle.fdb_lines.specs.declared.fault.Found.{Found}
 use Rattle.fdb_lines.specs.declared.key_watch.KeyWatch.{KeyWatch}
 use Rattle.fdb_lines.specs.declared.line.Line.{Line}
-use Rattle.fdb_lines.specs.KeyWatch.{HasSeenByKey}
-use Rattle.fdb_lines.specs.ToldByKey.{HasTold, audited_to}
+use Rattle.fdb_lines.specs.declared.key_part.SettledKey.{SettledKey}
+use Rattle.fdb_lines.specs.KeyParts.{lines_of_one}
+use Rattle.fdb_lines.specs.KeyWatch.{GoesTo, HasSeenByKey, SettledTo, settled_in}
+use Rattle.fdb_lines.specs.ToldByKey.{HasTold, audited_to, told_by_all}
 use Rattle.fdb_log_reader.specs.declared.error.Why.{Why}
 use Rattle.fdb_log_reader.specs.LineReader.{AreMore, line_names, lines_on, names_on}
 use Rattle.fdb_log_reader.specs.ReadLine.{SaidLine}
@@ -15,11 +20,11 @@ use Rattle.fdb_audit.specs.declared.arguments.AuditArguments.{AuditArguments}
 use Rattle.fdb_audit.specs.declared.printer.LogFault.{LogFault}
 use Rattle.fdb_audit.specs.declared.follower.Follower.{Follower}
 use Rattle.fdb_audit.specs.declared.teller.Teller.{Teller}
-use Rattle.fdb_audit.specs.Following.{AreWindows, Before, Counted, FollowArguments, IsCounted, IsEnd, Start, Window, counted_on, early_at, faults_told, first_told, keys_taken, lines_since, lines_taken, told_in_all}
-use Rattle.fdb_audit.specs.Clocks.{ahead_in, out_of_reach}
+use Rattle.fdb_audit.specs.Following.{AreNamed, AreWindows, Before, Counted, FollowArguments, IsCounted, IsEnd, Start, Window, ahead_since, certain_in, counted_on, early_at, faults_told, first_told, keys_taken, lines_since, lines_taken, out_of_reach_in, told_in_all, told_to}
 use Rattle.fdb_audit.specs.Watched.{HasFollowed, HasToldAll, IsComplete, IsFollowed, IsTelling, IsTellerOf, followed_by, lines_asked, members_asked, names_asked}
-use Rattle.fdb_audit.specs.private.Followed.{AreTaken, HasTotals, IsCarried, IsUnread, TellsOn, counted_in, counted_of, told_with}
+use Rattle.fdb_audit.specs.private.Followed.{AreTaken, HasTotals, IsCarried, IsUnread, StaysAsFar, TellsOn, counted_in, counted_of, told_with}
 use Rattle.fdb_audit.specs.Warned.{AreEarly}
+use Rattle.fdb_audit.proofs.InTurn.{far_now, in_turn_stays, keys_apart, named_on, to_on, to_stays, turns_on}
 use Rattle.fdb_audit.proofs.Windows.{first_on, faults_on as all_faults_on, faults_stay, first_stays, told_on, told_stays, windows_on, windows_stay, windows_within}
 
 -- nothing has been read
@@ -34,7 +39,11 @@ unread asked start follower is = record {
     windows = [];
     taken = subst (AreTaken start follower.taking []) (sym (append-nil start.told)) is.taken;
     margin = is.margin;
+    horizon = is.horizon;
+    far = is.far;
+    named = All-nil (λ (line : Line). IfSome line.client (λ client. client < length (line_names follower.reader).clients));
     tells = is.text;
+    in_turn = tt;
     are = is.are;
   };
 }
@@ -42,9 +51,10 @@ unread asked start follower is = record {
 -- with some lines more
 pub takes_on : (start : Start) (asked : AuditArguments) (old new : Follower) (read further : List (Result SaidLine Why)) (told : List ℕ) → IsTelling asked start old read told
     → AreMore (line_names old.reader) (line_names new.reader)
-    → ((told : List Found) → AreTaken start old.taking read told → AreTaken start new.taking (read ++ further) told)
+    → AreNamed (lines_taken further) (line_names new.reader).clients
+    → ((told : List Found) → AreTaken start old.taking read told → AreTaken start new.taking (read ++ further) told) → StaysAsFar old.taking.watch new.taking.watch
     → new.taking.watch.margin ≡ old.taking.watch.margin → new.teller ≡ old.teller → new.behind ≡ old.behind → new.before ≡ old.before → IsTelling asked start new (read ++ further) told
-takes_on start asked old new read further told has more takes margin teller behind before =
+takes_on start asked old new read further told has more named takes stays margin teller behind before =
     let margin_asked = asked.opts.margin in
     let names = (line_names old.reader).clients in
     let text = told ++ string_bytes old.teller.text in
@@ -56,6 +66,10 @@ takes_on start asked old new read further told has more takes margin teller behi
       windows = windows;
       taken = subst (λ list. AreTaken start new.taking (read ++ further) (start.told ++ list)) (sym (told_stays read further windows within)) (takes (start.told ++ told_in_all read windows) has.taken);
       margin = margin ∙ has.margin;
+      horizon = stays.horizon ∙ has.horizon;
+      far = λ key. stays.far key ∙ (has.far key ∙ ap (λ (far : Option ℕ → SettledTo). far key) (sym (to_stays read further start.far windows within)));
+      named = named_on read further names (line_names new.reader).clients has.named more.0 named;
+      in_turn = in_turn_stays start.behind read further start.far windows within has.in_turn;
       tells = subst (λ teller. AreWindows start.kept margin_asked asked.wanted (read ++ further) (line_names new.reader).clients windows (told ++ string_bytes teller.text)) (sym teller)
           (windows_stay start.kept margin_asked asked.wanted read further names (line_names new.reader).clients windows text has.tells more.0);
       are = subst (λ teller. IsTellerOf asked start teller (read ++ further) windows) (sym teller) (record {
@@ -71,18 +85,18 @@ takes_on start asked old new read further told has more takes margin teller behi
 pub fed : (start : Start) (asked : AuditArguments) (old new : Follower) (before bytes told : List ℕ) (further : List (Result SaidLine Why)) → HasFollowed asked start old before told
     → ((text : List ℕ) → lines_on old.reader (bytes ++ text) ≡ further ++ lines_on new.reader text)
     → ((text : List ℕ) → names_on old.reader (bytes ++ text) ≡ names_on new.reader text)
-    → AreMore (line_names old.reader) (line_names new.reader)
-    → ((read : List (Result SaidLine Why)) (told : List Found) → AreTaken start old.taking read told → AreTaken start new.taking (read ++ further) told)
+    → AreMore (line_names old.reader) (line_names new.reader) → AreNamed (lines_taken further) (line_names new.reader).clients
+    → ((read : List (Result SaidLine Why)) (told : List Found) → AreTaken start old.taking read told → AreTaken start new.taking (read ++ further) told) → StaysAsFar old.taking.watch new.taking.watch
     → new.taking.watch.margin ≡ old.taking.watch.margin → new.teller ≡ old.teller → new.behind ≡ old.behind → new.before ≡ old.before
     → HasFollowed asked start new (before ++ bytes) told
-fed start asked old new before bytes told further has goes behind more takes margin teller far carries =
+fed start asked old new before bytes told further has goes behind more named takes stays margin teller far carries =
     let read = has.read in
     record {
       read = read ++ further;
       goes = λ text. ap (lines_asked asked) (append_assoc before bytes text)
           ∙ (has.goes (bytes ++ text) ∙ (ap (λ l. read ++ l) (goes text) ∙ sym (append_assoc read further (lines_on new.reader text))));
       behind = λ text. ap (names_asked asked) (append_assoc before bytes text) ∙ (has.behind (bytes ++ text) ∙ behind text);
-      telling = takes_on start asked old new read further told has.telling more (takes read) margin teller far carries;
+      telling = takes_on start asked old new read further told has.telling more named (takes read) stays margin teller far carries;
     }
 
 -- with lines that were kept, the first of all
@@ -90,9 +104,11 @@ pub fed_first : (before start : Start) (asked : AuditArguments) (old new : Follo
     → start.behind ≡ before.behind → start.kept ≡ before.kept → start.before ≡ before.before
     → ((text : List ℕ) → lines_on old.reader (bytes ++ text) ≡ lines ++ lines_on new.reader text)
     → ((text : List ℕ) → names_on old.reader (bytes ++ text) ≡ names_on new.reader text)
-    → AreTaken start new.taking lines start.told → new.taking.watch.margin ≡ old.taking.watch.margin → new.teller ≡ old.teller → new.behind ≡ old.behind → new.before ≡ old.before
+    → AreNamed (lines_taken lines) (line_names new.reader).clients
+    → AreTaken start new.taking lines start.told → ((key : Option ℕ) → settled_in new.taking.watch.parts.items key ≡ start.far key) → new.taking.watch.horizon ≡ old.taking.watch.horizon
+    → new.taking.watch.margin ≡ old.taking.watch.margin → new.teller ≡ old.teller → new.behind ≡ old.behind → new.before ≡ old.before
     → (has : HasFollowed asked start new bytes []) × (has.telling.windows ≡ [])
-fed_first before start asked old new bytes lines is far numbers same goes behind takes margin teller still carries = (
+fed_first before start asked old new bytes lines is far numbers same goes behind named takes so_far horizon margin teller still carries = (
   record {
     read = lines;
     goes = λ text. is.goes (bytes ++ text) ∙ goes text;
@@ -103,6 +119,10 @@ fed_first before start asked old new bytes lines is far numbers same goes behind
       windows = [];
       taken = subst (AreTaken start new.taking lines) (sym (append-nil start.told)) takes;
       margin = margin ∙ is.margin;
+      horizon = horizon ∙ (is.horizon ∙ sym far);
+      far = so_far;
+      named = named;
+      in_turn = tt;
       tells = ap (λ (teller : Teller). string_bytes teller.text) teller ∙ is.text;
       are = subst (λ teller. IsTellerOf asked start teller lines []) (sym teller)
           (record {
@@ -119,21 +139,22 @@ fed_first before start asked old new bytes lines is far numbers same goes behind
 
 -- with the line that had not ended, or none
 pub ended : (start : Start) (asked : AuditArguments) (old new : Follower) (bytes told : List ℕ) (further : List (Result SaidLine Why)) → HasFollowed asked start old bytes told
-    → lines_on old.reader [] ≡ further → AreMore (line_names old.reader) (line_names new.reader)
-    → ((read : List (Result SaidLine Why)) (told : List Found) → AreTaken start old.taking read told → AreTaken start new.taking (read ++ further) told)
+    → lines_on old.reader [] ≡ further → AreMore (line_names old.reader) (line_names new.reader) → AreNamed (lines_taken further) (line_names new.reader).clients
+    → ((read : List (Result SaidLine Why)) (told : List Found) → AreTaken start old.taking read told → AreTaken start new.taking (read ++ further) told) → StaysAsFar old.taking.watch new.taking.watch
     → new.taking.watch.margin ≡ old.taking.watch.margin → new.teller ≡ old.teller → new.behind ≡ old.behind → new.before ≡ old.before
     → IsTelling asked start new (lines_asked asked bytes) told
-ended start asked old new bytes told further has last more takes margin teller far carries =
+ended start asked old new bytes told further has last more named takes stays margin teller far carries =
     let read = has.read in
     let all : read ++ further ≡ lines_asked asked bytes = sym (ap (lines_asked asked) (sym (append-nil bytes)) ∙ (has.goes [] ∙ ap (λ l. read ++ l) last)) in
-    subst (λ read. IsTelling asked start new read told) all (takes_on start asked old new read further told has.telling more (takes read) margin teller far carries)
+    subst (λ read. IsTelling asked start new read told) all (takes_on start asked old new read further told has.telling more named (takes read) stays margin teller far carries)
 
 -- with what is told more
-tells_on : (start : Start) (asked : AuditArguments) (old : Follower) (new : Teller) (read : List (Result SaidLine Why)) (told : List ℕ) (windows : List Window) (faults : List Found)
+tells_on : (start : Start) (asked : AuditArguments) (old : Follower) (new : Teller) (read : List (Result SaidLine Why)) (far : Option ℕ → SettledTo) (to : Option ℕ) (told : List ℕ) (windows : List Window)
+    (entries : List SettledKey)
     → AreWindows start.kept asked.opts.margin asked.wanted read (line_names old.reader).clients windows (told ++ string_bytes old.teller.text)
-    → (more : TellsOn start.kept old.teller new asked.opts.margin read (line_names old.reader).clients faults) → old.teller.wanted ≡ asked.wanted
+    → (more : TellsOn start.kept old.teller new asked.opts.margin start.behind read (line_names old.reader).clients far to entries) → old.teller.wanted ≡ asked.wanted
     → AreWindows start.kept asked.opts.margin asked.wanted read (line_names old.reader).clients (windows ++ more.windows) (told ++ string_bytes new.text)
-tells_on start asked old new read told windows faults tells more is =
+tells_on start asked old new read far to told windows entries tells more is =
     let names = (line_names old.reader).clients in
     let margin = asked.opts.margin in
     subst (λ text. AreWindows start.kept margin asked.wanted read names (windows ++ more.windows) text)
@@ -146,9 +167,9 @@ first_of_three : {X : Type 0} (one two three : Option X) → option_or (option_o
 first_of_three None two three = refl
 first_of_three (Some one) two three = refl
 
-are_on : (start : Start) (asked : AuditArguments) (old new : Teller) (margin : ℕ) (read : List (Result SaidLine Why)) (names : List (List ℕ)) (windows : List Window) (faults : List Found)
-    → IsTellerOf asked start old read windows → (more : TellsOn start.kept old new margin read names faults) → IsTellerOf asked start new read (windows ++ more.windows)
-are_on start asked old new margin read names windows faults are more = record {
+are_on : (start : Start) (asked : AuditArguments) (old new : Teller) (margin : ℕ) (read : List (Result SaidLine Why)) (names : List (List ℕ)) (far : Option ℕ → SettledTo) (to : Option ℕ) (windows : List Window)
+    (entries : List SettledKey) → IsTellerOf asked start old read windows → (more : TellsOn start.kept old new margin start.behind read names far to entries) → IsTellerOf asked start new read (windows ++ more.windows)
+are_on start asked old new margin read names far to windows entries are more = record {
   wanted = more.same.wanted ∙ are.wanted;
   margin = more.same.margin ∙ are.margin;
   by_key = ap is_some more.same.key ∙ are.by_key;
@@ -161,29 +182,41 @@ are_on start asked old new margin read names windows faults are more = record {
       (more.counts (members_asked asked) (start.before.told ++ faults_told read windows) are.totals);
 }
 
-faults_on : (start : Start) (old new : Teller) (margin : ℕ) (read : List (Result SaidLine Why)) (names : List (List ℕ)) (windows : List Window) (faults : List Found)
-    → (more : TellsOn start.kept old new margin read names faults)
-    → (start.told ++ told_in_all read windows) ++ faults ≡ start.told ++ told_in_all read (windows ++ more.windows)
-faults_on start old new margin read names windows faults more =
-    append_assoc start.told (told_in_all read windows) faults
+faults_on : (start : Start) (old new : Teller) (margin : ℕ) (read : List (Result SaidLine Why)) (names : List (List ℕ)) (far : Option ℕ → SettledTo) (to : Option ℕ) (windows : List Window)
+    (entries : List SettledKey) → (more : TellsOn start.kept old new margin start.behind read names far to entries)
+    → (start.told ++ told_in_all read windows) ++ told_by_all entries ≡ start.told ++ told_in_all read (windows ++ more.windows)
+faults_on start old new margin read names far to windows entries more =
+    append_assoc start.told (told_in_all read windows) (told_by_all entries)
     ∙ ap (λ list. start.told ++ list) (ap (λ list. told_in_all read windows ++ list) (sym more.faults_are) ∙ sym (told_on read windows more.windows))
 
--- with what is told when a watch settles
-pub settled : (start : Start) (asked : AuditArguments) (old new : Follower) (read : List (Result SaidLine Why)) (told : List ℕ) (faults : List Found) → (is : IsTelling asked start old read told)
-    → new.reader ≡ old.reader → AreTaken start new.taking read ((start.told ++ told_in_all read is.windows) ++ faults) → new.taking.watch.margin ≡ old.taking.watch.margin
-    → TellsOn start.kept old.teller new.teller asked.opts.margin read (line_names old.reader).clients faults → new.behind ≡ old.behind → new.before ≡ old.before
+-- with what is told when a watch settles up to a moment
+pub settled : (start : Start) (asked : AuditArguments) (old new : Follower) (read : List (Result SaidLine Why)) (to : ℕ) (told : List ℕ) (entries : List SettledKey) → (is : IsTelling asked start old read told)
+    → new.reader ≡ old.reader → AreTaken start new.taking read ((start.told ++ told_in_all read is.windows) ++ told_by_all entries) → new.taking.watch.margin ≡ old.taking.watch.margin
+    → new.taking.watch.horizon ≡ old.taking.watch.horizon
+    → ((key : Option ℕ) → GoesTo to (length (lines_of_one (lines_taken read) (keys_taken read) key)) entries key (settled_in old.taking.watch.parts.items key) (settled_in new.taking.watch.parts.items key))
+    → AllPairs (λ (one other : SettledKey). one.key ≢ other.key) entries
+    → TellsOn start.kept old.teller new.teller asked.opts.margin start.behind read (line_names old.reader).clients (settled_in old.taking.watch.parts.items) (Some to) entries
+    → new.behind ≡ old.behind → new.before ≡ old.before
     → IsTelling asked start new read told
-settled start asked old new read told faults is reader takes margin more behind before =
+settled start asked old new read to told entries is reader takes margin horizon goes once more behind before =
     let names = (line_names old.reader).clients in
+    let far = settled_in old.taking.watch.parts.items in
+    let within = windows_within start.kept asked.opts.margin asked.wanted read names is.windows (told ++ string_bytes old.teller.text) is.tells in
     record {
       behind = behind ∙ is.behind;
       carried = subst (IsCarried start.before) (sym before) is.carried;
       windows = is.windows ++ more.windows;
-      taken = subst (AreTaken start new.taking read) (faults_on start old.teller new.teller asked.opts.margin read names is.windows faults more) takes;
+      taken = subst (AreTaken start new.taking read) (faults_on start old.teller new.teller asked.opts.margin read names far (Some to) is.windows entries more) takes;
       margin = margin ∙ is.margin;
+      horizon = horizon ∙ is.horizon;
+      far = λ key.
+          far_now read to entries (told_to read start.far is.windows) more.windows key (far key) _ (λ k d lt. let it = more.each k d lt in (it.all, it.to_is)) more.keys (is.far key) (goes key)
+          ∙ ap (λ (far : Option ℕ → SettledTo). far key) (sym (to_on read start.far is.windows more.windows));
+      named = subst (λ reader. AreNamed (lines_taken read) (line_names reader).clients) (sym reader) is.named;
       tells = subst (λ reader. AreWindows start.kept asked.opts.margin asked.wanted read (line_names reader).clients (is.windows ++ more.windows) (told ++ string_bytes new.teller.text)) (sym reader)
-          (tells_on start asked old new.teller read told is.windows faults is.tells more is.are.wanted);
-      are = are_on start asked old.teller new.teller asked.opts.margin read names is.windows faults is.are more;
+          (tells_on start asked old new.teller read far (Some to) told is.windows entries is.tells more is.are.wanted);
+      in_turn = turns_on start.behind read names (Some to) start.far far is.windows more.windows is.in_turn within is.named is.far more.each (keys_apart entries more.windows more.keys once);
+      are = are_on start asked old.teller new.teller asked.opts.margin read names far (Some to) is.windows entries is.are more;
     }
 
 pub counted_for : (start : Start) (old : Follower) (read : List (Result SaidLine Why)) {told : List Found} → AreTaken start old.taking read told → (new : Follower)
@@ -198,15 +231,15 @@ counted_for start old read are new counts numbering = record {
 }
 
 early_for : (start : Start) (old : Follower) (read : List (Result SaidLine Why)) {told : List Found} → AreTaken start old.taking read told → (new : Follower)
-    → new.taking.counts ≡ old.taking.counts → start.anew ≡ true → new.taking.counts.early ≤ out_of_reach start.behind (lines_taken read)
-early_for start old read are new counts anew =
-    let le = (are.reach anew).early in
+    → new.taking.counts ≡ old.taking.counts → new.taking.counts.early ≤ out_of_reach_in start read
+early_for start old read are new counts =
+    let le = are.reach.early in
     let same = ap (λ (counts : Counts). counts.early) counts in
     omega (arith, le, same)
 
 ahead_for : (start : Start) (old : Follower) (read : List (Result SaidLine Why)) {told : List Found} → AreTaken start old.taking read told → (new : Follower)
-    → new.taking.counts ≡ old.taking.counts → start.anew ≡ true → new.taking.counts.ahead ≡ ahead_in start.behind (lines_taken read)
-ahead_for start old read are new counts anew = ap (λ (counts : Counts). counts.ahead) counts ∙ (are.reach anew).ahead
+    → new.taking.counts ≡ old.taking.counts → new.taking.counts.ahead ≡ ahead_since start read
+ahead_for start old read are new counts = ap (λ (counts : Counts). counts.ahead) counts ∙ are.reach.ahead
 
 late_for : (start : Start) (old : Follower) (read : List (Result SaidLine Why)) {told : List Found} → AreTaken start old.taking read told → (new : Follower)
     → new.taking.counts ≡ old.taking.counts → early_at start.from (lines_since start read) ≤ new.taking.counts.early
@@ -216,53 +249,58 @@ late_for start old read are new counts =
     omega (arith, le, same)
 
 -- and when it settles for good
-pub settled_all : (start : Start) (asked : AuditArguments) (ends : Bool) (old new : Follower) (read : List (Result SaidLine Why)) (told : List ℕ) (faults : List Found) → (is : IsTelling asked start old read told)
-    → new.reader ≡ old.reader → TellsOn start.kept old.teller new.teller asked.opts.margin read (line_names old.reader).clients faults → new.behind ≡ old.behind → new.before ≡ old.before
+pub settled_all : (start : Start) (asked : AuditArguments) (ends : Bool) (old new : Follower) (read : List (Result SaidLine Why)) (told : List ℕ) (entries : List SettledKey) → (is : IsTelling asked start old read told)
+    → new.reader ≡ old.reader → AllPairs (λ (one other : SettledKey). one.key ≢ other.key) entries
+    → TellsOn start.kept old.teller new.teller asked.opts.margin start.behind read (line_names old.reader).clients (settled_in old.taking.watch.parts.items) None entries → new.behind ≡ old.behind → new.before ≡ old.before
     → new.taking.counts ≡ old.taking.counts → new.taking.numbering ≡ old.taking.numbering
-    → (start.early ≡ 0 → old.taking.counts.early ≡ 0 → IsComplete ends asked.opts.margin read ((start.told ++ told_in_all read is.windows) ++ faults))
+    → (start.early ≡ 0 → old.taking.counts.early ≡ 0 → IsComplete ends asked.opts.margin start read ((start.told ++ told_in_all read is.windows) ++ told_by_all entries))
     → HasToldAll asked start ends new read told
-settled_all start asked ends old new read told faults is reader more behind before counts numbering whole =
+settled_all start asked ends old new read told entries is reader once more behind before counts numbering whole =
     let names = (line_names old.reader).clients in
+    let far = settled_in old.taking.watch.parts.items in
+    let within = windows_within start.kept asked.opts.margin asked.wanted read names is.windows (told ++ string_bytes old.teller.text) is.tells in
     record {
       behind = behind ∙ is.behind;
       carried = subst (IsCarried start.before) (sym before) is.carried;
       windows = is.windows ++ more.windows;
       tells = subst (λ reader. AreWindows start.kept asked.opts.margin asked.wanted read (line_names reader).clients (is.windows ++ more.windows) (told ++ string_bytes new.teller.text)) (sym reader)
-          (tells_on start asked old new.teller read told is.windows faults is.tells more is.are.wanted);
-      are = are_on start asked old.teller new.teller asked.opts.margin read names is.windows faults is.are more;
+          (tells_on start asked old new.teller read far None told is.windows entries is.tells more is.are.wanted);
+      in_turn = turns_on start.behind read names None start.far far is.windows more.windows is.in_turn within is.named is.far more.each (keys_apart entries more.windows more.keys once);
+      are = are_on start asked old.teller new.teller asked.opts.margin read names far None is.windows entries is.are more;
       counted = counted_for start old read is.taken new counts numbering;
       before = is.taken.before;
-      early = λ anew. early_for start old read is.taken new counts anew;
-      ahead = λ anew. ahead_for start old read is.taken new counts anew;
+      early = early_for start old read is.taken new counts;
+      ahead = ahead_for start old read is.taken new counts;
       came = subst (λ (counts : Counts). AreEarly start.kept.more read counts.early counts.judged counts.last_early) (sym counts) is.taken.came;
       late = late_for start old read is.taken new counts;
-      whole = λ none_before none. subst (IsComplete ends asked.opts.margin read) (faults_on start old.teller new.teller asked.opts.margin read names is.windows faults more)
+      whole = λ none_before none. subst (IsComplete ends asked.opts.margin start read) (faults_on start old.teller new.teller asked.opts.margin read names far None is.windows entries more)
           (whole none_before (sym (ap (λ (counts : Counts). counts.early) counts) ∙ none));
     }
 
--- and where it is to be followed on
+-- and where it is to be followed on, and has settled as far as all may be told
 pub told_so_far : (start : Start) (asked : AuditArguments) (old : Follower) (read : List (Result SaidLine Why)) (told : List ℕ) → (is : IsTelling asked start old read told)
+    → old.taking.watch.from ≡ certain_in start read
     → ((watch : KeyWatch) (lines : List Line) (keys : List (Option ℕ)) (told : List Found) → HasSeenByKey watch lines keys → HasTold watch lines keys told
     → IsPermutation told (audited_to watch.margin watch.from lines keys))
     → (all : HasToldAll asked start false old read told) × (all.windows ≡ is.windows)
-told_so_far start asked old read told is each_once = (
+told_so_far start asked old read told is to each_once = (
   record {
     behind = is.behind;
     carried = is.carried;
     windows = is.windows;
     tells = is.tells;
+    in_turn = is.in_turn;
     are = is.are;
     counted = counted_for start old read is.taken old refl refl;
     whole = λ none_before none.
         let watch = old.taking.watch in
-        let all = start.told ++ told_in_all read is.windows in (
-          watch.from,
-          subst (λ margin. IsPermutation all (audited_to margin watch.from (lines_taken read) (keys_taken read))) is.margin
-              (each_once watch (lines_taken read) (keys_taken read) all is.taken.seen (is.taken.once none_before none)),
-        );
+        let all = start.told ++ told_in_all read is.windows in
+        subst (λ from. IsPermutation all (audited_to asked.opts.margin from (lines_taken read) (keys_taken read))) to
+        (subst (λ margin. IsPermutation all (audited_to margin watch.from (lines_taken read) (keys_taken read))) is.margin
+        (each_once watch (lines_taken read) (keys_taken read) all is.taken.seen (is.taken.once none_before none)));
     before = is.taken.before;
-    early = λ anew. early_for start old read is.taken old refl anew;
-    ahead = λ anew. ahead_for start old read is.taken old refl anew;
+    early = early_for start old read is.taken old refl;
+    ahead = ahead_for start old read is.taken old refl;
     came = is.taken.came;
     late = late_for start old read is.taken old refl;
   },
@@ -296,6 +334,7 @@ all_told asked start ends last bytes told text end all found last_early is names
         end = end;
         text_is = ap (λ text. told ++ text) texts ∙ sym (append_assoc told (string_bytes last.teller.text) end);
         tells = subst (λ names. AreWindows start.kept asked.opts.margin asked.wanted read names.clients is.windows (told ++ string_bytes last.teller.text)) (sym names) is.tells;
+        in_turn = is.in_turn;
         first = first ∙ is.are.first;
         counted = is.counted;
         end_is =

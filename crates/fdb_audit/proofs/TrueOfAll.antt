@@ -90,18 +90,18 @@ module _ (true : IsTrueOfAll) where
       (windows_true kept margin wanted read names windows are.1 are.6)
 
 -- and of any number of pieces
-pub all_pieces_true : (known : Known) → IsTrueOfAll → (asked : AuditArguments) (found : Option LogFault) (refused : Option ReadError) (last_early : Option ℕ) (times : ℕ) (start : Start) (bytes text : List ℕ)
-    → (pieces : Pieces asked found refused last_early times start bytes text) → HaveRoom asked found refused last_early times start bytes text pieces
-    → All (Contains (audited_in asked bytes)) (told_of_pieces asked found refused last_early times start bytes text pieces)
-all_pieces_true known true asked found refused last_early zero start bytes text last room =
+pub all_pieces_true : (known : Known) → IsTrueOfAll → (asked : AuditArguments) (ends : Bool) (found : Option LogFault) (refused : Option ReadError) (last_early : Option ℕ) (times : ℕ) (start : Start) (bytes text : List ℕ)
+    → (pieces : Pieces asked ends found refused last_early times start bytes text) → HaveRoom asked ends found refused last_early times start bytes text pieces
+    → All (Contains (audited_in asked bytes)) (told_of_pieces asked ends found refused last_early times start bytes text pieces)
+all_pieces_true known true asked ends found refused last_early zero start bytes text last room =
     windows_true true start.kept asked.opts.margin asked.wanted (lines_asked asked bytes) (names_asked asked bytes).clients last.followed.windows last.followed.told last.followed.tells
-all_pieces_true known true asked found refused last_early (suc times) start bytes text (piece, rest, first, more, told, kept, bytes_are, text_is, next, goes, told_with, left) (room, rooms) =
+all_pieces_true known true asked ends found refused last_early (suc times) start bytes text (piece, rest, first, more, told, kept, bytes_are, text_is, next, goes, told_with, left) (room, rooms) =
     let margin = asked.opts.margin in
     let read = lines_asked asked piece in
     let wanted = places_staying goes.stays read goes.taking in
     let behind = read_next known asked piece rest room.ends in
     let here = told_in_all read goes.windows in
-    let others = told_of_pieces asked found refused last_early times next (kept ++ rest) more left in
+    let others = told_of_pieces asked ends found refused last_early times next (kept ++ rest) more left in
     let all = audited_in asked (piece ++ rest) in
     let again = audited_in asked (kept ++ rest) in
     let both = both_on known asked start start.behind piece kept rest goes.taking (start.told ++ here) others goes.taken wanted goes.keeps room margin in
@@ -127,6 +127,6 @@ all_pieces_true known true asked found refused last_early (suc times) start byte
     let others_true : All (Contains all) (map (placed_found beyond) others) =
     All-map (Contains all) (placed_found beyond) others
     (All-weaker (Contains again) (λ (found : Found). Contains all (placed_found beyond found)) (λ found there. holds (λ (found : Found). Contains all (placed_found beyond found)) again found on there)
-    others (all_pieces_true known true asked found refused last_early times next (kept ++ rest) more left rooms)) in
+    others (all_pieces_true known true asked ends found refused last_early times next (kept ++ rest) more left rooms)) in
     subst (λ bytes. All (Contains (audited_in asked bytes)) (here ++ map (placed_found beyond) others)) (sym bytes_are)
     (All-append (Contains all) here (map (placed_found beyond) others) here_true others_true)

@@ -1,8 +1,8 @@
 -- What is told of a log that is followed, window by window: windows follow one another, and stay as they are while more is read.
 use Rattle.std.specs.Prelude.{◌==◌}
-use Rattle.std.proofs.Common.{◌≡◌, ◌∙◌, ℕ, zero, suc, ◌<◌, ◌≤◌, Bool, true, false, cond, List, [], ◌∷◌, ◌++◌, All, ap, append-nil, append_assoc, arith, inl, inr, length, length-append, map, option_map, refl, slice_get, slice_index, slice_index_or, string_bytes, subst, sym, take, Option, None, Some, Result}
+use Rattle.std.proofs.Common.{◌≡◌, ◌∙◌, ℕ, zero, suc, ◌-◌, ◌<◌, ◌≤◌, Bool, true, false, cond, List, [], ◌∷◌, ◌++◌, All, ap, append-nil, append_assoc, arith, inl, inr, length, length-append, map, option_map, refl, slice_get, slice_index, slice_index_or, string_bytes, subst, sym, take, Option, None, Some, Result}
 use Rattle.std.proofs.lemmas.Bool.{cases_lt}
-use Rattle.std.proofs.lemmas.List.{get_or_append_left, get_or_past, get_or_push, length-map, take_all, take-append-le}
+use Rattle.std.proofs.lemmas.List.{get_or_append_left, get_or_past, get_or_push, length-map, map-append, take_all, take-append-le}
 use Rattle.std.proofs.lemmas.List.Elements.{All-append, All-cons, All-map, All-nil}
 use Rattle.std.proofs.lemmas.Grind.{flat_map-append}
 use Rattle.std.specs.List.{flat_map}
@@ -14,11 +14,11 @@ use Rattle.fdb_lines.specs.declared.line.Line.{Line}
 use Rattle.fdb_lines.specs.declared.fault.Finding.{Finding}
 use Rattle.fdb_lines.specs.KeyParts.{lines_of_one}
 use Rattle.fdb_lines.specs.Keys.{key_at, placed_found, places_below, places_of}
-use Rattle.fdb_lines.specs.KeyWatch.{AreTold, IsToldOf}
+use Rattle.fdb_lines.specs.KeyWatch.{AreTold, IsToldOf, SettledTo, settled_in, settled_of}
 use Rattle.fdb_lines.specs.Lines.{lines_in}
 use Rattle.fdb_lines.specs.Log.{lines_of}
 use Rattle.fdb_lines.specs.Reasons.{found_of}
-use Rattle.fdb_lines.specs.ToldByKey.{told_by}
+use Rattle.fdb_lines.specs.ToldByKey.{told_by, told_by_all}
 use Rattle.fdb_lines.specs.Watch.{judged_from}
 use Rattle.fdb_log_reader.specs.declared.error.Why.{Why}
 use Rattle.fdb_log_reader.specs.Numbers.{IsMore}
@@ -27,10 +27,11 @@ use Rattle.fdb_log_reader.specs.ReadLine.{SaidLine}
 use Rattle.fdb_audit.specs.declared.printer.LogFault.{LogFault}
 use Rattle.fdb_audit.specs.declared.judgement.Wanted.{Wanted}
 use Rattle.fdb_audit.specs.declared.teller.Teller.{Teller}
-use Rattle.fdb_audit.specs.Following.{AreWindows, IsWindow, TellsIn, KeptBefore, Window, faults_at, faults_told, first_in, first_told, keys_taken, lines_taken, taken_line, printed_in, taken, told_in, told_in_all, told_text}
+use Rattle.fdb_audit.specs.Following.{AreWindows, IsWindow, TellsIn, KeptBefore, Window, faults_at, faults_told, first_in, first_told, keys_taken, lines_taken, lists, taken_line, printed_in, taken, told_in, told_in_all, told_text}
 use Rattle.fdb_audit.specs.Text.{Beside, PrintedLog, fault_of}
 use Rattle.fdb_audit.specs.ToldFaults.{ToldFault, told_at}
-use Rattle.fdb_audit.specs.private.Followed.{CountsOn, HasTotals, IsSameTeller, TellsOn}
+use Rattle.fdb_audit.specs.private.Followed.{CountsOn, HasTotals, IsSameTeller, IsWatchedBy, IsWindowOf, TellsOn}
+use Rattle.fdb_audit.proofs.InTurn.{entry_key, window_key}
 
 -- ---- windows that follow others
 
@@ -129,10 +130,12 @@ windows_within kept margin wanted read names (w ∷ ws) text are =
 
 -- ---- what is told more
 
-pub tells_nothing : (kept : KeptBefore) (teller : Teller) (margin : ℕ) (read : List (Result SaidLine Why)) (names : List (List ℕ)) → TellsOn kept teller teller margin read names []
-tells_nothing kept teller margin read names = record {
+pub tells_nothing : (kept : KeptBefore) (teller : Teller) (margin behind : ℕ) (read : List (Result SaidLine Why)) (names : List (List ℕ)) (far : Option ℕ → SettledTo) (to : Option ℕ)
+    → TellsOn kept teller teller margin behind read names far to []
+tells_nothing kept teller margin behind read names far to = record {
   windows = [];
-  at = All-nil (λ (window : Window). window.read ≡ length read);
+  each = All-nil (IsWindowOf behind read names far to);
+  keys = refl;
   text = [];
   told = refl;
   appended = sym (append-nil (string_bytes teller.text));
@@ -142,11 +145,15 @@ tells_nothing kept teller margin read names = record {
   same = record { wanted = refl; margin = refl; key = refl };
 }
 
-pub tells_yet : (kept : KeptBefore) (old mid new : Teller) (margin : ℕ) (read : List (Result SaidLine Why)) (names : List (List ℕ)) (faults more : List Found)
-    → TellsOn kept old mid margin read names faults → TellsOn kept mid new margin read names more → TellsOn kept old new margin read names (faults ++ more)
-tells_yet kept old mid new margin read names faults more one two = record {
+pub tells_yet : (kept : KeptBefore) (old mid new : Teller) (margin behind : ℕ) (read : List (Result SaidLine Why)) (names : List (List ℕ)) (far : Option ℕ → SettledTo) (to : Option ℕ)
+    (entries more : List SettledKey) → TellsOn kept old mid margin behind read names far to entries → TellsOn kept mid new margin behind read names far to more
+    → TellsOn kept old new margin behind read names far to (entries ++ more)
+tells_yet kept old mid new margin behind read names far to entries more one two = record {
   windows = one.windows ++ two.windows;
-  at = All-append (λ (window : Window). window.read ≡ length read) one.windows two.windows one.at two.at;
+  each = All-append (IsWindowOf behind read names far to) one.windows two.windows one.each two.each;
+  keys = map-append window_key one.windows two.windows
+      ∙ (ap (λ (keys : List (Option ℕ)). keys ++ map window_key two.windows) one.keys ∙ (ap (λ (keys : List (Option ℕ)). map entry_key entries ++ keys) two.keys
+      ∙ sym (map-append entry_key entries more)));
   text = one.text ++ two.text;
   told = windows_on kept margin new.wanted read names one.windows two.windows one.text two.text
       (subst (λ (wanted : Wanted). AreWindows kept margin wanted read names one.windows one.text) (sym two.same.wanted) one.told) two.told;
@@ -154,7 +161,9 @@ tells_yet kept old mid new margin read names faults more one two = record {
   first = two.first ∙ (ap (λ (first : Option LogFault). option_or first (first_told kept read two.windows)) one.first
       ∙ (or_else old.first (first_told kept read one.windows) (first_told kept read two.windows)
       ∙ ap (option_or old.first) (sym (first_on kept read one.windows two.windows))));
-  faults_are = told_on read one.windows two.windows ∙ (ap (λ (list : List Found). list ++ told_in_all read two.windows) one.faults_are ∙ ap (λ (list : List Found). faults ++ list) two.faults_are);
+  faults_are = told_on read one.windows two.windows
+      ∙ (ap (λ (list : List Found). list ++ told_in_all read two.windows) one.faults_are ∙ (ap (λ (list : List Found). told_by_all entries ++ list) two.faults_are
+      ∙ sym (flat_map-append told_by entries more)));
   counts = λ members told has.
       subst (HasTotals members new)
       (append_assoc told (faults_told read one.windows) (faults_told read two.windows) ∙ ap (λ (those : List ToldFault). told ++ those) (sym (faults_on read one.windows two.windows)))
@@ -249,13 +258,13 @@ first_of it found = option_map (λ (finding : Finding). fault_of it.own (found_o
 abbrev pub faults_of : PrintedLog → List Finding → List ToldFault
 faults_of it found = map (λ (finding : Finding). told_at it.lines it.names it.beside finding.found) found
 
-pub tells_of : (kept : KeptBefore) (old new : Teller) (margin : ℕ) (to : Option ℕ) (read : List (Result SaidLine Why)) (names : List (List ℕ)) (entry : SettledKey) (part : KeyPart) (beside : List Beside) (it : PrintedLog)
-    → part.watch.margin ≡ margin → IsToldOf to (lines_taken read) (keys_taken read) entry part → it ≡ shown_of kept read names entry beside
+pub tells_of : (kept : KeptBefore) (old new : Teller) (margin behind : ℕ) (far : Option ℕ → SettledTo) (to : Option ℕ) (read : List (Result SaidLine Why)) (names : List (List ℕ)) (entry : SettledKey) (part : KeyPart) (beside : List Beside) (it : PrintedLog)
+    → IsWatchedBy margin behind to part → far part.key ≡ settled_of part → IsToldOf to (lines_taken read) (keys_taken read) entry part → it ≡ shown_of kept read names entry beside
     → string_bytes new.text ≡ string_bytes old.text ++ told_text old.wanted it entry.settled.found.items
     → new.first ≡ option_or old.first (first_of it entry.settled.found.items)
     → CountsOn old new (faults_of it entry.settled.found.items) → IsSameTeller old new
-    → TellsOn kept old new margin read names (told_by entry)
-tells_of kept old new margin to read names entry part beside it same told is added first counts still =
+    → TellsOn kept old new margin behind read names far to (entry ∷ [])
+tells_of kept old new margin behind far to read names entry part beside it watched so_far told is added first counts still =
     let wanted = still.wanted in
     let found = entry.settled.found.items in
     let window = window_of to read names entry part beside in
@@ -263,11 +272,19 @@ tells_of kept old new margin to read names entry part beside it same told is add
     let shown : it ≡ log = is ∙ shown_is kept to read names entry part beside told in
     let text = told_text new.wanted log found in
     let all : take (length read) read ≡ read = take_all (length read) read (omega arith) in
-    let one : IsWindow kept margin new.wanted read window text = record { found = found_in margin to read names entry part beside same told; printed = refl } in
+    let one : IsWindow kept margin new.wanted read window text = record { found = found_in margin to read names entry part beside watched.its_margin told; printed = refl } in
     let here : window.read ≤ length read = omega arith in
     record {
       windows = window ∷ [];
-      at = All-cons (λ (window : Window). window.read ≡ length read) window [] refl (All-nil (λ (window : Window). window.read ≡ length read));
+      each = All-cons (IsWindowOf behind read names far to) window [] (record {
+        all = refl;
+        names_are = refl;
+        to_is = refl;
+        from = so_far;
+        early = ap (λ horizon. part.watch.from - horizon) watched.its_horizon;
+        not_before = watched.its_from;
+      }) (All-nil (IsWindowOf behind read names far to));
+      keys = ap (λ (key : Option ℕ). key ∷ []) (sym told.key);
       text = text;
       told = (
         text,
@@ -285,7 +302,7 @@ tells_of kept old new margin to read names entry part beside it same told is add
           ∙ ap (λ (those : List (Result SaidLine Why)). first_in kept those window) all)));
       faults_are = append-nil (told_in (take (length read) read) window)
           ∙ (ap (λ (those : List (Result SaidLine Why)). told_in those window) all
-          ∙ ap (λ (places : List ℕ). map (λ (finding : Finding). placed_found places (found_of finding)) found) (sym told.numbers));
+          ∙ (ap (λ (places : List ℕ). map (λ (finding : Finding). placed_found places (found_of finding)) found) (sym told.numbers) ∙ sym (append-nil (told_by entry))));
       counts = λ members told has.
           let those : faults_of it found ≡ faults_told read (window ∷ []) =
           ap (λ (it : PrintedLog). faults_of it found) shown ∙ (ap (λ (those : List (Result SaidLine Why)). faults_at those window) (sym all) ∙ sym (append-nil (faults_at (take (length read) read) window))) in
@@ -293,23 +310,40 @@ tells_of kept old new margin to read names entry part beside it same told is add
       same = still;
     }
 
-pub tells_for : (kept : KeptBefore) (old new : Teller) (margin : ℕ) (to : Option ℕ) (read : List (Result SaidLine Why)) (names : List (List ℕ)) (entry : SettledKey) (part : KeyPart)
+pub tells_for : (kept : KeptBefore) (old new : Teller) (margin behind : ℕ) (far : Option ℕ → SettledTo) (to : Option ℕ) (read : List (Result SaidLine Why)) (names : List (List ℕ)) (entry : SettledKey) (part : KeyPart)
     (texts : List (List ℕ)) (numbers : List ℕ) (beside : List Beside) (found : List Finding)
     → texts ≡ map printed names → numbers ≡ map (taken_line kept read) entry.settled.numbers.items → found ≡ entry.settled.found.items
-    → part.watch.margin ≡ margin → IsToldOf to (lines_taken read) (keys_taken read) entry part
+    → IsWatchedBy margin behind to part → far part.key ≡ settled_of part → IsToldOf to (lines_taken read) (keys_taken read) entry part
     → string_bytes new.text ≡ string_bytes old.text ++ told_text old.wanted (log_with (lines_of entry.settled.log).lines texts numbers beside) found
     → new.first ≡ option_or old.first (first_of (log_with (lines_of entry.settled.log).lines texts numbers beside) found)
     → CountsOn old new (faults_of (log_with (lines_of entry.settled.log).lines texts numbers beside) found) → IsSameTeller old new
-    → TellsOn kept old new margin read names (told_by entry)
-tells_for kept old new margin to read names entry part texts numbers beside found named numbered is same told added first counts still =
+    → TellsOn kept old new margin behind read names far to (entry ∷ [])
+tells_for kept old new margin behind far to read names entry part texts numbers beside found named numbered is watched so_far told added first counts still =
     let lines = (lines_of entry.settled.log).lines in
     let it = log_with lines texts numbers beside in
-    tells_of kept old new margin to read names entry part beside it same told
+    tells_of kept old new margin behind far to read names entry part beside it watched so_far told
     (same_log lines texts (map printed names) numbers (map (taken_line kept read) entry.settled.numbers.items) beside named numbered)
     (added ∙ ap (λ (found : List Finding). string_bytes old.text ++ told_text old.wanted it found) is)
     (first ∙ ap (λ (found : List Finding). option_or old.first (first_of it found)) is)
     (subst (λ (found : List Finding). CountsOn old new (faults_of it found)) is counts)
     still
+
+-- where nothing was found
+pub tells_none : (kept : KeptBefore) (teller : Teller) (margin behind : ℕ) (far : Option ℕ → SettledTo) (to : Option ℕ) (read : List (Result SaidLine Why)) (names : List (List ℕ)) (entry : SettledKey) (part : KeyPart)
+    → IsWatchedBy margin behind to part → far part.key ≡ settled_of part → IsToldOf to (lines_taken read) (keys_taken read) entry part → entry.settled.found.items ≡ []
+    → TellsOn kept teller teller margin behind read names far to (entry ∷ [])
+tells_none kept teller margin behind far to read names entry part watched so_far told none =
+    let it = shown_of kept read names entry [] in
+    tells_of kept teller teller margin behind far to read names entry part [] it watched so_far told refl
+    (sym (ap (λ (found : List Finding). string_bytes teller.text ++ told_text teller.wanted it found) none
+    ∙ (ap (λ (text : List ℕ). string_bytes teller.text ++ text) (either (lists teller.wanted) []) ∙ append-nil (string_bytes teller.text))))
+    (sym (ap (λ (found : List Finding). option_or teller.first (first_of it found)) none ∙ or_none teller.first))
+    (subst (λ (found : List Finding). CountsOn teller teller (faults_of it found)) (sym none) (λ members told has. subst (HasTotals members teller) (sym (append-nil told)) has))
+    (record { wanted = refl; margin = refl; key = refl })
+  where
+    either : (b : Bool) (text : List ℕ) → cond b text text ≡ text
+    either true text = refl
+    either false text = refl
 
 -- ---- what is told of each key
 
@@ -318,12 +352,12 @@ some_of [] i within = absurd (omega arith)
 some_of (x ∷ xs) i within = x
 
 -- an entry tells of a part
-pub part_told : (margin : ℕ) (to : Option ℕ) (lines : List Line) (keys : List (Option ℕ)) (parts : List KeyPart) (entries : List SettledKey) (k : ℕ) (entry : SettledKey)
-    → All (λ (part : KeyPart). part.watch.margin ≡ margin) parts → AreTold to lines keys parts entries
+pub part_told : (margin behind : ℕ) (to : Option ℕ) (lines : List Line) (keys : List (Option ℕ)) (parts : List KeyPart) (entries : List SettledKey) (k : ℕ) (entry : SettledKey)
+    → All (IsWatchedBy margin behind to) parts → AreTold to lines keys parts entries
     → k < length entries → slice_index_or entries k entry ≡ entry
-    → (part : KeyPart) × (part.watch.margin ≡ margin) × IsToldOf to lines keys entry part
-part_told margin to lines keys parts entries k entry same told within is =
+    → (part : KeyPart) × IsWatchedBy margin behind to part × (settled_in parts part.key ≡ settled_of part) × IsToldOf to lines keys entry part
+part_told margin behind to lines keys parts entries k entry watched told within is =
     let one = told.each k entry within in
     let d = some_of parts one.0 one.1 in
     let part = slice_index_or parts one.0 d in
-    (part, same one.0 d one.1, subst (λ (entry : SettledKey). IsToldOf to lines keys entry part) is (one.2 d))
+    (part, watched one.0 d one.1, told.far one.0 d one.1, subst (λ (entry : SettledKey). IsToldOf to lines keys entry part) is (one.2 d))

@@ -1,12 +1,13 @@
 -- What is told of a log that is followed as it grows. (this product's own)
-use Rattle.std.specs.Prelude.{◌≡◌, ℕ, zero, suc, ◌+◌, ◌-◌, ◌^◌, ◌≤◌, ◌||◌, nat_le, not, Bool, true, false, List, [], ◌∷◌, ◌++◌, Option, None, Some, codes, count_by, drop, length, map, min, nat_lt, option_map, slice_get, slice_index, take, unwrap_or, Result, Ok, Err, if◌then◌else◌}
+use Rattle.std.specs.Prelude.{◌≡◌, ◌==◌, ℕ, zero, suc, ◌+◌, ◌-◌, ◌^◌, ◌<◌, ◌≤◌, ◌||◌, nat_le, not, Bool, true, false, List, [], ◌∷◌, ◌++◌, All, IfSome, ⊤, Option, None, Some, codes, count_by, drop, length, map, min, nat_lt, option_map, slice_get, slice_index, take, unwrap_or, Result, Ok, Err, if◌then◌else◌}
 use Rattle.std.specs.List.{flat_map}
-use Rattle.std.specs.Option.{option_or}
+use Rattle.std.specs.Option.{option_eq, option_or}
 use Rattle.fdb_lines.specs.declared.fault.Found.{Found}
 use Rattle.fdb_lines.specs.declared.line.Line.{Line}
 use Rattle.fdb_lines.specs.declared.fault.Finding.{Finding}
 use Rattle.fdb_lines.specs.Before.{began}
 use Rattle.fdb_lines.specs.KeyParts.{lines_of_one}
+use Rattle.fdb_lines.specs.KeyWatch.{SettledTo, not_settled}
 use Rattle.fdb_lines.specs.Keys.{placed_found, places_of}
 use Rattle.fdb_lines.specs.Lines.{is_ask, is_commit, is_read, is_report, lines_in}
 use Rattle.fdb_lines.specs.Reasons.{found_of}
@@ -19,6 +20,7 @@ use Rattle.fdb_log_reader.specs.declared.error.Why.TheVariants.{Empty}
 use Rattle.fdb_log_reader.specs.Numbers.{IsMore}
 use Rattle.fdb_log_reader.specs.Printed.{printed}
 use Rattle.fdb_log_reader.specs.ReadLine.{SaidLine}
+use Rattle.fdb_audit.specs.Clocks.{ClocksBefore, ahead_in, believed_end, certain_to, no_clocks, out_of_reach}
 use Rattle.fdb_audit.specs.Figures.{Figure, figure, figures_words}
 use Rattle.fdb_audit.specs.Judged.{list_text}
 use Rattle.fdb_audit.specs.Objects.{total_object}
@@ -96,13 +98,14 @@ none_counted = record { lines = 0; reads = 0; commits = 0; asks = 0; reports = 0
 abbrev pub none_before : Before
 none_before = record { counts = none_counted; refused = None; last_early = None; first = None; told = [] }
 
--- From where a log is followed: how far behind the newest end a line that comes may begin; whether that is from its beginning; up
--- to when all had been told; which lines were kept of what was read before, and of these how many lines they are,
+-- From where a log is followed: how far behind the newest end a line that comes may begin; what was known of clocks; up
+-- to when all had been told, and each key; which lines were kept of what was read before, and of these how many lines they are,
 -- how many had come early, and which faults had been told; and what an earlier piece of the same watch has counted.
 pub record Start : Type 0 where
   pub behind : ℕ
-  pub anew : Bool
+  pub clocks : ClocksBefore
   pub from : ℕ
+  pub far : Option ℕ → SettledTo
   pub kept : KeptBefore
   pub lines : ℕ
   pub early : ℕ
@@ -113,8 +116,9 @@ pub record Start : Type 0 where
 abbrev pub start_with : ℕ → KeptBefore → Start
 start_with behind kept = record {
   behind = behind;
-  anew = true;
+  clocks = no_clocks;
   from = 0;
+  far = λ key. not_settled;
   kept = kept;
   lines = 0;
   early = 0;
@@ -129,6 +133,28 @@ fresh behind = start_with behind none_kept
 -- the lines that were taken of those that came since
 abbrev pub lines_since : Start → List (Result SaidLine Why) → List Line
 lines_since start read = lines_taken (drop start.lines read)
+
+-- and of those that had been kept
+abbrev pub lines_before : Start → List (Result SaidLine Why) → List Line
+lines_before start read = lines_taken (take start.lines read)
+
+-- Up to when all may be told of these lines: so far behind the newest end that is believed of them.
+abbrev pub certain_in : Start → List (Result SaidLine Why) → ℕ
+certain_in start read = certain_to start.from start.behind (believed_end start.clocks start.behind (lines_before start read) (lines_since start read))
+
+-- how many of those that came since began before that when they came
+abbrev pub out_of_reach_in : Start → List (Result SaidLine Why) → ℕ
+out_of_reach_in start read = out_of_reach start.clocks start.from start.behind (lines_before start read) (lines_since start read)
+
+-- and of how many of them others were ahead
+abbrev pub ahead_since : Start → List (Result SaidLine Why) → ℕ
+ahead_since start read = ahead_in start.clocks start.behind (lines_before start read) (lines_since start read)
+
+-- nothing had been read
+pub record IsAnew (start : Start) : Type 0 where
+  pub clocks : start.clocks ≡ no_clocks
+  pub from : start.from ≡ 0
+  pub lines : start.lines ≡ 0
 
 -- how many of some lines began before a moment
 abbrev pub early_at : ℕ → List Line → ℕ
@@ -163,10 +189,13 @@ pub record Window : Type 0 where
   pub found : List Finding
   pub beside : List Beside
 
+-- whether it is time to tell of a line of the key, by its number among them
+abbrev pub due_in : Window → ℕ → Line → Bool
+due_in window = is_due window.from window.early window.since window.to
+
 -- What is found are the stale reads and the versions that are not above others, of all lines of the key that had been read.
 abbrev pub TellsIn : ℕ → List Line → Window → Type 0
-TellsIn margin lines window =
-    AreFindingsDue margin (is_due window.from window.early window.since window.to) window.early lines window.kept window.found
+TellsIn margin lines window = AreFindingsDue margin (due_in window) window.early lines window.kept window.found
 
 -- the places of those lines among all that were taken
 abbrev pub places_in : List (Result SaidLine Why) → Window → List ℕ
@@ -224,6 +253,42 @@ faults_at read window =
 
 abbrev pub faults_told : List (Result SaidLine Why) → List Window → List ToldFault
 faults_told read windows = flat_map (λ (window : Window). faults_at (take window.read read) window) windows
+
+-- ---- of each key, one window behind another
+
+-- how far each key has been told of, with a window more, of the lines that had been read by then
+abbrev pub told_on : List (Result SaidLine Why) → Window → (Option ℕ → SettledTo) → Option ℕ → SettledTo
+told_on read window far key =
+    if option_eq ◌==◌ window.key key then record { to = window.to; come = length (lines_of_one (lines_taken read) (keys_taken read) key) } else far key
+
+abbrev pub told_to : List (Result SaidLine Why) → (Option ℕ → SettledTo) → List Window → Option ℕ → SettledTo
+told_to read far [] = far
+told_to read far (window ∷ windows) = told_to read (told_on (take window.read read) window far) windows
+
+-- each client of some lines has a name
+abbrev pub AreNamed : List Line → List (List ℕ) → Type 0
+AreNamed lines names = All (λ (line : Line). IfSome line.client (λ client. client < length names)) lines
+
+-- A window goes on from where its key had been told of: from that moment on, and of lines that came since from so far before it on.
+-- The clients of all lines that had been read have their names.
+pub record GoesOnFrom (behind : ℕ) (far : SettledTo) (lines : List Line) (window : Window) : Type 0 where
+  pub from : far ≡ record { to = Some window.from; come = window.since }
+  pub early : window.early ≡ window.from - behind
+  pub to : IfSome window.to (λ to. window.from ≤ to)
+  pub names : AreNamed lines window.names
+
+-- Each window goes on from where its key had been told of by those in front of it, and none of them had read more.
+abbrev pub AreInTurn : ℕ → List (Result SaidLine Why) → (Option ℕ → SettledTo) → List Window → Type 0
+AreInTurn behind read far [] = ⊤
+AreInTurn behind read far (window ∷ windows) =
+    GoesOnFrom behind (far window.key) (lines_taken (take window.read read)) window × All (λ (next : Window). window.read ≤ next.read) windows
+    × AreInTurn behind read (told_on (take window.read read) window far) windows
+
+-- Of no line of a key that one window tells of does the other: each by its number among the lines of the key.
+abbrev pub TellApart : List (Result SaidLine Why) → Window → Window → Type 0
+TellApart read one other =
+    one.key ≡ other.key → (number : ℕ) (line : Line) → number < length (lines_of_one (lines_taken (take one.read read)) (keys_taken (take one.read read)) one.key)
+    → due_in one number line ≡ true → due_in other number line ≡ false
 
 -- ---- what is printed at the end
 

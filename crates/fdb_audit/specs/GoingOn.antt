@@ -6,9 +6,9 @@ use Rattle.fdb_lines.specs.Keys.{key_at}
 use Rattle.fdb_log_reader.specs.declared.error.Why.{Why}
 use Rattle.fdb_log_reader.specs.ReadLine.{SaidLine}
 use Rattle.fdb_log_reader.specs.Reading.{EndsALine}
-use Rattle.fdb_audit.specs.Following.{AreWindows, Before, Start, Window, counted_on, faults_told, first_told, keys_taken, last_refused, told_in_all}
+use Rattle.fdb_audit.specs.Following.{AreInTurn, AreWindows, Before, Start, Window, counted_on, faults_told, first_told, keys_taken, last_refused, told_in_all}
 use Rattle.fdb_audit.specs.Kept.{KeepsLines, places_kept, start_of}
-use Rattle.fdb_audit.specs.Taken.{AreTaken, counted_of}
+use Rattle.fdb_audit.specs.Taken.{AreTaken, counted_of, known_by}
 use Rattle.fdb_audit.specs.Watched.{lines_asked, names_asked}
 use Rattle.fdb_audit.specs.declared.arguments.AuditArguments.{AuditArguments}
 use Rattle.fdb_audit.specs.declared.taken_lines.Taking.{Taking}
@@ -33,16 +33,17 @@ pub record MayForget (forget : Option ℕ) (stays : Option ℕ → Bool) : Type 
   pub all : forget ≡ None → (key : Option ℕ) → stays key ≡ true
 
 -- A watch goes on where a line of these bytes ends: it has told this text of them, and from now on it is as one that was restored from
--- the text that keeps its lines, but for those of keys that it forgets, with what it has counted. This text says up to when all was told.
+-- the text that keeps its lines, but for those of keys that it forgets, with what it has counted and knows of clocks. This text says up to when all was told.
 pub record GoesOnBy (asked : AuditArguments) (start : Start) (bytes told kept : List ℕ) (next : Start) : Type 0 where
   pub taking : Taking
   pub windows : List Window
   pub margin : taking.watch.margin ≡ asked.opts.margin
   pub taken : AreTaken start taking (lines_asked asked bytes) (start.told ++ told_in_all (lines_asked asked bytes) windows)
   pub tells : AreWindows start.kept asked.opts.margin asked.wanted (lines_asked asked bytes) (names_asked asked bytes).clients windows told
+  pub in_turn : AreInTurn start.behind (lines_asked asked bytes) start.far windows
   pub stays : Option ℕ → Bool
   pub forgets : MayForget asked.forget stays
   pub keeps : KeepsLines (places_staying stays (lines_asked asked bytes) taking) (option_map string_bytes asked.key) (names_asked asked bytes) start.kept taking (lines_asked asked bytes) kept
   pub ends : EndsALine bytes
   pub from : next.from ≡ taking.watch.from
-  pub next_is : next ≡ record (start_of asked start.behind kept) { before = counted_before start (lines_asked asked bytes) windows taking }
+  pub next_is : next ≡ record (start_of asked start.behind kept) { clocks = known_by taking.clocks; before = counted_before start (lines_asked asked bytes) windows taking }

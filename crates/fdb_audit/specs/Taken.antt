@@ -1,5 +1,5 @@
 -- The lines that a follower has taken, of those that were read, and what it has told of them. (this product's own)
-use Rattle.std.specs.Prelude.{◌≡◌, ℕ, ◌+◌, ◌-◌, ◌<◌, ◌≤◌, ◌==◌, ◌^◌, ◌++◌, Bool, true, false, All, List, MatchOption, None, Option, Some, Result, drop, length, map, string_bytes, take, if◌then◌else◌}
+use Rattle.std.specs.Prelude.{◌≡◌, ℕ, ◌+◌, ◌-◌, ◌<◌, ◌≤◌, ◌==◌, ◌^◌, ◌++◌, Bool, true, false, All, List, MatchOption, None, Option, Some, Result, drop, is_some, length, map, string_bytes, take, if◌then◌else◌}
 use Rattle.fdb_lines.specs.declared.fault.Found.{Found}
 use Rattle.fdb_lines.specs.declared.line.Line.{Line}
 use Rattle.fdb_lines.specs.KeyWatch.{HasSeenByKey}
@@ -18,8 +18,8 @@ use Rattle.fdb_audit.specs.declared.told_faults.ToldFaults.{ToldFaults}
 use Rattle.fdb_audit.specs.Tallied.{HasKinds, HasTexts, HasTextsIn}
 use Rattle.fdb_audit.specs.ToldFaults.{ToldFault, client_of}
 use Rattle.fdb_audit.specs.Warned.{AreEarly, IsSaid}
-use Rattle.fdb_audit.specs.Following.{Before, Counted, KeptBefore, Start, early_at, keys_taken, last_refused, lines_since, lines_taken, taken, taken_above}
-use Rattle.fdb_audit.specs.Clocks.{ahead_end, ahead_in, believed_end, newest_end, others_end, out_of_reach}
+use Rattle.fdb_audit.specs.Following.{Before, Counted, KeptBefore, Start, early_at, keys_taken, last_refused, lines_before, lines_since, lines_taken, taken, taken_above}
+use Rattle.fdb_audit.specs.Clocks.{ClocksBefore, ahead_end, ahead_in, believed_end, certain_to, newest_end, others_known, out_of_reach}
 use Rattle.fdb_audit.specs.declared.clocks.Clocks.{Clocks}
 use Rattle.fdb_audit.specs.declared.clocks.Leader.{Leader}
 
@@ -56,21 +56,25 @@ others_by (Some leader) second client = if is_client leader.client client then s
 abbrev pub others_of : Clocks → Option ℕ → Option ℕ
 others_of clocks client = others_by clocks.leader clocks.second client
 
--- these lines have been heard
-pub record HasHeard (clocks : Clocks) (lines : List Line) : Type 0 where
-  pub newest : clocks.newest ≡ newest_end 0 lines
-  pub others : (client : Option ℕ) → others_of clocks client ≡ others_end client lines
+-- what is known of clocks, for lines that come next
+abbrev pub known_by : Clocks → ClocksBefore
+known_by clocks = record { believed = clocks.believed; newest = clocks.newest; many = is_some clocks.second; ahead = clocks.ahead }
+
+-- these lines have been heard, behind what was known before
+pub record HasHeard (before : ClocksBefore) (clocks : Clocks) (lines : List Line) : Type 0 where
+  pub newest : clocks.newest ≡ newest_end before.newest lines
+  pub others : (client : Option ℕ) → others_of clocks client ≡ others_known before client lines
 
 -- It has settled no further than to where lines that came after that might begin, and so no more have come early than began out of
--- reach; and so many are ahead.
-pub record IsInReach (behind : ℕ) (taking : Taking) (lines : List Line) : Type 0 where
-  pub behind_is : taking.clocks.behind ≡ behind
-  pub heard : HasHeard taking.clocks lines
-  pub believed : taking.clocks.believed ≡ believed_end behind lines
-  pub ahead_to : taking.clocks.ahead ≡ ahead_end behind lines
-  pub from : taking.watch.from ≤ believed_end behind (take taking.settled lines) - behind
-  pub early : taking.counts.early ≤ out_of_reach behind lines
-  pub ahead : taking.counts.ahead ≡ ahead_in behind lines
+-- reach; and so many are ahead: of lines that came since, behind those that had been kept.
+pub record IsInReach (start : Start) (taking : Taking) (above since : List Line) : Type 0 where
+  pub behind_is : taking.clocks.behind ≡ start.behind
+  pub heard : HasHeard start.clocks taking.clocks (above ++ since)
+  pub believed : taking.clocks.believed ≡ believed_end start.clocks start.behind above since
+  pub ahead_to : taking.clocks.ahead ≡ ahead_end start.clocks start.behind above since
+  pub from : taking.watch.from ≤ certain_to start.from start.behind (believed_end start.clocks start.behind above (take (taking.settled - length above) since))
+  pub early : taking.counts.early ≤ out_of_reach start.clocks start.from start.behind above since
+  pub ahead : taking.counts.ahead ≡ ahead_in start.clocks start.behind above since
 
 -- So many lines had come when it settled last; of those that came since no more began before that than came early.
 pub record HasSettled (start : Start) (taking : Taking) (lines : List Line) : Type 0 where
@@ -91,7 +95,7 @@ pub record AreTaken (start : Start) (taking : Taking) (read : List (Result SaidL
   pub from : start.from ≤ taking.watch.from
   pub late : early_at start.from (lines_since start read) ≤ taking.counts.early
   pub settled : HasSettled start taking (lines_taken read)
-  pub reach : start.anew ≡ true → IsInReach start.behind taking (lines_taken read)
+  pub reach : IsInReach start taking (lines_before start read) (lines_since start read)
   pub came : AreEarly start.kept.more read taking.counts.early taking.counts.judged taking.counts.last_early
   pub few_ahead : taking.counts.ahead ≤ length read
   pub once : start.early ≡ 0 → taking.counts.early ≡ 0 → HasTold taking.watch (lines_taken read) (keys_taken read) told

@@ -2,6 +2,7 @@
 use Rattle.std.specs.Prelude.{◌≡◌, ℕ, ◌<◌, ◌≤◌, ◌&&◌, ◌++◌, Bool, true, false, not, All, IsPermutation, List, Option, is_some, map, nat_lt, option_map, option_to_list, string_bytes, Result}
 use Rattle.std.specs.Option.{option_or}
 use Rattle.fdb_lines.specs.declared.fault.Found.{Found}
+use Rattle.fdb_lines.specs.KeyWatch.{settled_in}
 use Rattle.fdb_lines.specs.ToldByKey.{audited, audited_to}
 use Rattle.fdb_log_reader.specs.declared.error.Why.{Why}
 use Rattle.fdb_log_reader.specs.LineReader.{line_names, lines_on, names_on}
@@ -12,8 +13,7 @@ use Rattle.fdb_audit.specs.declared.arguments.AuditArguments.{AuditArguments}
 use Rattle.fdb_audit.specs.declared.printer.LogFault.{LogFault}
 use Rattle.fdb_audit.specs.declared.follower.Follower.{Follower}
 use Rattle.fdb_audit.specs.declared.teller.Teller.{Teller}
-use Rattle.fdb_audit.specs.Following.{AreWindows, Counted, FollowArguments, IsCounted, IsEnd, Start, Window, counted_on, early_at, faults_told, first_told, keys_taken, lines_since, lines_taken, told_in_all}
-use Rattle.fdb_audit.specs.Clocks.{ahead_in, out_of_reach}
+use Rattle.fdb_audit.specs.Following.{AreInTurn, AreNamed, AreWindows, Counted, FollowArguments, IsCounted, IsEnd, Start, Window, ahead_since, certain_in, counted_on, early_at, faults_told, first_told, keys_taken, lines_since, lines_taken, out_of_reach_in, told_in_all, told_to}
 use Rattle.fdb_audit.specs.Taken.{AreTaken, HasTotals, HasWarned, IsCarried, counted_of}
 use Rattle.fdb_audit.specs.Warned.{AreEarly, IsSaid}
 
@@ -57,7 +57,11 @@ pub record IsTelling (asked : AuditArguments) (start : Start) (follower : Follow
   pub windows : List Window
   pub taken : AreTaken start follower.taking read (start.told ++ told_in_all read windows)
   pub margin : follower.taking.watch.margin ≡ asked.opts.margin
+  pub horizon : follower.taking.watch.horizon ≡ start.behind
+  pub far : (key : Option ℕ) → settled_in follower.taking.watch.parts.items key ≡ told_to read start.far windows key
+  pub named : AreNamed (lines_taken read) (line_names follower.reader).clients
   pub tells : AreWindows start.kept asked.opts.margin asked.wanted read (line_names follower.reader).clients windows (told ++ string_bytes follower.teller.text)
+  pub in_turn : AreInTurn start.behind read start.far windows
   pub are : IsTellerOf asked start follower.teller read windows
 
 -- These bytes have been read, whatever comes after them, and this text has been told of their lines.
@@ -84,13 +88,13 @@ HasSaidAll asked start bytes last_early text =
     × (is_some last ≡ nat_lt 0 early) × (last_early ≡ option_or last start.before.last_early)
 
 -- At the end of a log has been told, each fault once, what an audit of all lines finds; where it is to be followed on, what that
--- finds at lines that began before some moment.
-abbrev pub IsComplete : Bool → ℕ → List (Result SaidLine Why) → List Found → Type 0
-IsComplete true margin read told = IsPermutation told (audited margin (lines_taken read) (keys_taken read))
-IsComplete false margin read told = (to : ℕ) × IsPermutation told (audited_to margin to (lines_taken read) (keys_taken read))
+-- finds at lines that began before all may be told.
+abbrev pub IsComplete : Bool → ℕ → Start → List (Result SaidLine Why) → List Found → Type 0
+IsComplete true margin start read told = IsPermutation told (audited margin (lines_taken read) (keys_taken read))
+IsComplete false margin start read told = IsPermutation told (audited_to margin (certain_in start read) (lines_taken read) (keys_taken read))
 
 -- What is told of all lines of a text, window by window, and at the end how much was read, with what an earlier piece has counted;
--- the first fault, if one was told, and the last line that came early, if one did. Where none came early, it is whole; from its beginning no more came early
+-- the first fault, if one was told, and the last line that came early, if one did. Where none came early, it is whole; no more came early
 -- than began out of reach, and so many were ahead as are of what was known; and no fewer came early than began before that up to
 -- which all had been told.
 pub record IsFollowed (asked : AuditArguments) (start : Start) (ends : Bool) (bytes text : List ℕ) (found : Option LogFault) (last_early : Option ℕ) : Type 0 where
@@ -101,13 +105,14 @@ pub record IsFollowed (asked : AuditArguments) (start : Start) (ends : Bool) (by
   pub end : List ℕ
   pub text_is : text ≡ told ++ end
   pub tells : AreWindows start.kept asked.opts.margin asked.wanted (lines_asked asked bytes) (names_asked asked bytes).clients windows told
+  pub in_turn : AreInTurn start.behind (lines_asked asked bytes) start.far windows
   pub first : found ≡ option_or start.before.first (first_told start.kept (lines_asked asked bytes) windows)
   pub counted : IsCounted start (lines_asked asked bytes) counts
   pub end_is : IsEnd (not (is_some found) && not asked.wanted.json) asked.wanted.totals asked.wanted.json (counted_on start.before.counts counts)
       (followed_by asked start.behind) (start.before.told ++ faults_told (lines_asked asked bytes) windows) end
-  pub whole : start.early ≡ 0 → counts.early ≡ 0 → IsComplete ends asked.opts.margin (lines_asked asked bytes) (start.told ++ told_in_all (lines_asked asked bytes) windows)
-  pub early : start.anew ≡ true → counts.early ≤ out_of_reach start.behind (lines_taken (lines_asked asked bytes))
-  pub ahead : start.anew ≡ true → counts.ahead ≡ ahead_in start.behind (lines_taken (lines_asked asked bytes))
+  pub whole : start.early ≡ 0 → counts.early ≡ 0 → IsComplete ends asked.opts.margin start (lines_asked asked bytes) (start.told ++ told_in_all (lines_asked asked bytes) windows)
+  pub early : counts.early ≤ out_of_reach_in start (lines_asked asked bytes)
+  pub ahead : counts.ahead ≡ ahead_since start (lines_asked asked bytes)
   pub last : Option ℕ
   pub came : AreEarly start.kept.more (lines_asked asked bytes) counts.early counts.judged last
   pub last_is : last_early ≡ option_or last start.before.last_early
@@ -119,11 +124,12 @@ pub record HasToldAll (asked : AuditArguments) (start : Start) (ends : Bool) (fo
   pub carried : IsCarried start.before follower.before
   pub windows : List Window
   pub tells : AreWindows start.kept asked.opts.margin asked.wanted read (line_names follower.reader).clients windows (told ++ string_bytes follower.teller.text)
+  pub in_turn : AreInTurn start.behind read start.far windows
   pub are : IsTellerOf asked start follower.teller read windows
   pub before : start.early ≡ 0 → All (λ (found : Found). found.place < start.lines) start.told
   pub counted : IsCounted start read (counted_of follower.taking)
-  pub whole : start.early ≡ 0 → follower.taking.counts.early ≡ 0 → IsComplete ends asked.opts.margin read (start.told ++ told_in_all read windows)
-  pub early : start.anew ≡ true → follower.taking.counts.early ≤ out_of_reach start.behind (lines_taken read)
-  pub ahead : start.anew ≡ true → follower.taking.counts.ahead ≡ ahead_in start.behind (lines_taken read)
+  pub whole : start.early ≡ 0 → follower.taking.counts.early ≡ 0 → IsComplete ends asked.opts.margin start read (start.told ++ told_in_all read windows)
+  pub early : follower.taking.counts.early ≤ out_of_reach_in start read
+  pub ahead : follower.taking.counts.ahead ≡ ahead_since start read
   pub came : AreEarly start.kept.more read follower.taking.counts.early follower.taking.counts.judged follower.taking.counts.last_early
   pub late : early_at start.from (lines_since start read) ≤ follower.taking.counts.early

@@ -2,9 +2,10 @@
 //! key can be forgotten of which none has come for long.
 
 ghost use Rattle.std.specs.Prelude.{◌≡◌, ◌-◌, ◌≤◌, if◌then◌else◌, ℕ, [], IfSome, None, Option};
-ghost use Rattle.std.specs.Prelude.{Some, option_map, unwrap_or, List};
+ghost use Rattle.std.specs.Prelude.{Some, is_some, option_map, unwrap_or, List};
 ghost use Rattle.std.proofs.Props.{props};
 ghost use Rattle.std.specs.List.{filter};
+ghost use Rattle.fdb_audit.specs.Clocks.{believed_from};
 ghost use Rattle.fdb_audit.specs.private.KeyTimes.{is_near};
 
 use fdb_lines::{KeptLine, Line};
@@ -39,13 +40,14 @@ struct Leader {
 }
 
 impl Clocks {
-    ghost use Rattle.fdb_audit.specs.Clocks.{ahead_of_end, newer};
+    ghost use Rattle.fdb_audit.specs.Clocks.{ahead_of_end, floor_of, newer, no_clocks};
     ghost use Rattle.fdb_audit.specs.Taken.{is_client, others_of, HasHeard};
-    ghost use Rattle.fdb_audit.specs.private.Clocks.{ahead_of, ahead_on, known_to, Hears};
+    ghost use Rattle.fdb_audit.specs.private.Clocks.{ahead_of, ahead_on, known_to, Carries};
+    ghost use Rattle.fdb_audit.specs.private.Clocks.{GoesOn, Hears};
 
     /// No line has come.
     pub(crate) fn new(behind: u64) -> Self
-        ensures heard { HasHeard result [] }
+        ensures heard { HasHeard no_clocks result [] }
         ensures believed { (result.believed ≡ 0) × (result.ahead ≡ 0) }
         ensures behind { result.behind ≡ behind }
     {
@@ -60,7 +62,9 @@ impl Clocks {
     }
 
     /// Whether more than one client is known to log.
-    pub(crate) fn are_many(&self) -> bool {
+    pub(crate) fn are_many(&self) -> bool
+        ensures { result ≡ is_some self.now.second }
+    {
         self.second.is_some()
     }
 
@@ -74,26 +78,34 @@ impl Clocks {
     /// Goes on where it was settled up to a moment, so that ends were believed that far ahead of that,
     /// and more than one client is known to log or not: then none vouches for itself.
     pub(crate) fn go_on(&mut self, settled: u64, are_many: bool)
-        ensures { self.new.behind ≡ self.old.behind }
+        ensures { GoesOn self.old self.new settled are_many }
     {
-        self.believed = if settled > 0 {
-            settled.saturating_add(self.behind)
-        } else {
-            0
-        };
-        if are_many && self.second.is_none() {
-            self.second = Some(0);
-        }
+        self.believed = believed_from(settled, self.behind);
+        self.doubt(are_many);
     }
 
     /// Goes on from others that have heard more lines: what was believed stays so, and what was found to
     /// be ahead.
-    pub(crate) fn carry(&mut self, others: &Clocks) {
+    pub(crate) fn carry(&mut self, others: &Clocks)
+        ensures { Carries others.now self.old self.new }
+    {
         self.believed = others.believed;
         self.newest = self.newest.max(others.newest);
         self.ahead = others.ahead;
-        if others.are_many() && self.second.is_none() {
-            self.second = Some(0);
+        self.doubt(others.are_many());
+    }
+
+    /// Where more than one client is known to log, none vouches for itself.
+    fn doubt(&mut self, are_many: bool)
+        ensures others { (client : Option ℕ) → others_of self.new client
+            ≡ newer (floor_of are_many) (others_of self.old client) }
+        ensures behind { self.new.behind ≡ self.old.behind }
+        ensures believed { self.new.believed ≡ self.old.believed }
+        ensures newest { self.new.newest ≡ self.old.newest }
+        ensures ahead { self.new.ahead ≡ self.old.ahead }
+    {
+        if are_many {
+            self.second = Some(self.second.unwrap_or(0));
         }
     }
 
@@ -186,6 +198,17 @@ impl Clocks {
             }
             None => self.leader = Some(Leader { client, end }),
         }
+    }
+}
+
+/// How far ends were believed where all was told up to a moment.
+fn believed_from(settled: u64, behind: u64) -> u64
+    ensures { result ≡ believed_from settled behind }
+{
+    if settled > 0 {
+        settled.saturating_add(behind)
+    } else {
+        0
     }
 }
 

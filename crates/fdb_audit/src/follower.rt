@@ -208,21 +208,20 @@ impl Follower {
         ensures settled { OnOk result
             (self.new.taking.watch.from ≡ max self.old.taking.watch.from settled) }
         ensures read { OnOk result ((asked : AuditArguments) → (behind : ℕ) → (kept : KeptSaid)
-            → kept.told ≡ told → kept.settled ≡ settled → EndsALine bytes.now
-            → IsUnread asked (start_with behind kept.front) self.old
+            → kept.told ≡ told → kept.settled ≡ settled → kept.many ≡ are_many
+            → EndsALine bytes.now → IsUnread asked (start_with behind kept.front) self.old
             → let start = start_from behind asked.opts.margin kept (lines_asked asked bytes.now) in
             HasFollowed asked start self.new bytes.now []
             × HasSaid asked start self.new bytes.now []) }
         ensures none_told { OnOk result ((asked : AuditArguments) → (behind : ℕ)
-            → (kept : KeptSaid) → kept.told ≡ told → kept.settled ≡ settled → EndsALine bytes.now
-            → IsUnread asked (start_with behind kept.front) self.old
+            → (kept : KeptSaid) → kept.told ≡ told → kept.settled ≡ settled
+            → kept.many ≡ are_many → EndsALine bytes.now → IsUnread asked (start_with behind kept.front) self.old
             → let start = start_from behind asked.opts.margin kept (lines_asked asked bytes.now) in
             (has : HasFollowed asked start self.new bytes.now []) × (has.telling.windows ≡ [])) }
     {
         a_space_more_is_of_one_line();
         let lines = self.reader.feed(self.alloc, bytes)?;
-        self.taking.take_kept(lines, told, settled)?;
-        self.taking.clocks.go_on(settled, are_many);
+        self.taking.take_kept(lines, told, settled, are_many)?;
         self.taking.times.refresh(self.taking.clocks.believed);
         Ok(())
     }
@@ -344,6 +343,8 @@ impl Follower {
     /// Settles as far as lines that come may not begin any more.
     fn settle(&mut self) -> Result<(), AllocError>
         ensures reader { self.new.reader ≡ self.old.reader }
+        ensures to { OnOk result (self.new.taking.watch.from ≡ max self.old.taking.watch.from
+            (self.old.taking.clocks.believed - self.old.taking.clocks.behind)) }
         ensures told { OnOk result ((asked : AuditArguments) → (start : Start)
             → (read : List (Result SaidLine Why)) → (told : List ℕ)
             → IsTelling asked start self.old read told → IsTelling asked start self.new read told) }

@@ -3,7 +3,7 @@
 
 ghost use Rattle.std.specs.Prelude.{◌≡◌, ◌∷◌, ◌++◌, ◌<◌, ◌^◌, [], All, List, IfOk, IfSome, Ok};
 ghost use Rattle.std.specs.Prelude.{OnOk, Option, Some, codes, decimal, is_some, length, map};
-ghost use Rattle.std.specs.Prelude.{option_map, string_bytes, true};
+ghost use Rattle.std.specs.Prelude.{◌||◌, false, option_map, string_bytes, true};
 ghost use Rattle.fdb_log_reader.specs.LineReader.{line_names};
 ghost use Rattle.fdb_log_reader.specs.ReadLine.{SaidLine, said_by, said_in};
 ghost use Rattle.fdb_log_reader.specs.Reading.{lines_in, EndsALine};
@@ -174,7 +174,7 @@ impl KeptText {
         }
         self.lines.push(kept.line)?;
         self.more = more;
-        self.are_many = self.are_many || kept.are_many;
+        self.are_many = either(self.are_many, kept.are_many);
         if let Some(settled) = kept.settled {
             self.told = self.lines.len();
             self.settled = settled;
@@ -205,6 +205,13 @@ impl KeptText {
     }
 }
 
+/// Whether one of two things holds.
+fn either(one: bool, other: bool) -> bool
+    ensures { result ≡ one || other }
+{
+    one || other
+}
+
 /// The members that say as what a line was kept.
 fn members_kept(alloc: Global) -> Result<Vec<String>, AllocError>
     ensures { IfOk result (λ members. map string_bytes members.items ≡ kept_members) }
@@ -224,17 +231,26 @@ fn kept_as(alloc: Global, read: &ReadLine) -> Result<Option<KeptAs>, AllocError>
     let line = number_at(alloc, read, 0)?;
     let lines = number_at(alloc, read, 1)?;
     let settled = number_at(alloc, read, 2)?;
-    let are_many = number_at(alloc, read, 3)?.is_some_and(|clients| clients > 1);
-    let is_bad = settled.is_none() && read.shown.get(2).is_some_and(Option::is_some);
+    let clients = number_at(alloc, read, 3)?;
+    let is_bad = is_unread(read, 2, settled) || is_unread(read, 3, clients);
     match (line, lines) {
         (Some(line), Some(read)) if !is_bad => Ok(Some(KeptAs {
             line,
             read,
             settled,
-            are_many,
+            are_many: clients.unwrap_or(0) > 1,
         })),
         _ => Ok(None),
     }
+}
+
+/// Whether something else than a number stands in one of the members that are shown.
+fn is_unread(read: &ReadLine, place: usize, found: Option<u64>) -> bool
+    ensures { result ≡ false → IfSome found (λ number.
+        number_kept place (said_by read.now) ≡ Some number)
+        → number_kept place (said_by read.now) ≡ found }
+{
+    found.is_none() && read.shown.get(place).is_some_and(Option::is_some)
 }
 
 /// The number that stands in one of the members that are shown, if one does.

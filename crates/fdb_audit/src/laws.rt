@@ -1,17 +1,27 @@
 //! Laws of the definitions. The functions do nothing: each stands for its contract.
 
-ghost use Rattle.std.specs.Prelude.{ℕ, ◌≡◌, ◌++◌, All, IsPermutation, List, None, Option, false};
-ghost use Rattle.std.specs.Prelude.{map};
+ghost use Rattle.std.specs.Prelude.{ℕ, ◌≡◌, ◌++◌, All, Bool, IsPermutation, List, None, Option, Result};
+ghost use Rattle.std.specs.Prelude.{◌≤◌, false, IfSome, map};
 ghost use Rattle.std.specs.Prelude.{option_map, string_bytes, true};
-ghost use Rattle.std.specs.List.{flat_map, Contains};
+ghost use Rattle.std.specs.List.{flat_map, AllPairs, Contains};
 ghost use Rattle.fdb_lines.specs.declared.fault.Found.{Found};
 ghost use Rattle.fdb_lines.specs.declared.log.AuditOpts.{AuditOpts};
-ghost use Rattle.fdb_lines.specs.Keys.{placed_found};
+ghost use Rattle.fdb_lines.specs.declared.line.Line.{Line};
+ghost use Rattle.fdb_lines.specs.Before.{began};
+ghost use Rattle.fdb_lines.specs.Carried.{with_times};
+ghost use Rattle.fdb_lines.specs.Keys.{placed_finding, placed_found};
+ghost use Rattle.fdb_lines.specs.KeyWatch.{SettledTo};
+ghost use Rattle.fdb_lines.specs.Late.{HasLate};
+ghost use Rattle.fdb_lines.specs.Lines.{line_at};
+ghost use Rattle.fdb_lines.specs.Watching.{opts_of};
 ghost use Rattle.fdb_audit.specs.declared.arguments.AuditArguments.{AuditArguments};
 ghost use Rattle.fdb_audit.specs.declared.printer.LogFault.{LogFault};
 ghost use Rattle.fdb_audit.specs.declared.taken_lines.Taking.{Taking};
-ghost use Rattle.fdb_audit.specs.Following.{early_at, lines_since, told_in_all, Start};
+ghost use Rattle.fdb_audit.specs.Following.{early_at, lines_since, told_in_all, AreInTurn, Start};
+ghost use Rattle.fdb_audit.specs.Following.{GoesOnFrom, IsAnew, TellApart, TellsIn, Window};
 ghost use Rattle.fdb_log_reader.specs.declared.error.ReadError.{ReadError};
+ghost use Rattle.fdb_log_reader.specs.declared.error.Why.{Why};
+ghost use Rattle.fdb_log_reader.specs.ReadLine.{SaidLine};
 ghost use Rattle.fdb_log_reader.specs.Reading.{Reading};
 ghost use Rattle.fdb_audit.specs.AllPieces.{told_of_pieces, AreInTime, HaveRoom, Pieces};
 ghost use Rattle.fdb_audit.specs.Joined.{faults_by_number, ArePartsOf, WasReadByKey};
@@ -45,7 +55,7 @@ pub fn what_is_kept_says_when_all_was_told()
         → (start_of asked behind kept).early ≡ 0 }
     ensures when { (asked : AuditArguments) (start : Start) (behind : ℕ)
         (piece kept text : List ℕ) (found : Option LogFault) (last : Option ℕ)
-        → (one : IsStopped asked start piece text found last kept) → start.anew ≡ true
+        → (one : IsStopped asked start piece text found last kept) → IsAnew start
         → start.early ≡ 0 → one.followed.counts.early ≡ 0
         → (start_of asked behind kept).from ≡ one.taking.watch.from }
 {
@@ -106,9 +116,10 @@ pub fn a_watch_that_goes_on_tells_as_one_audit()
     ensures { (asked : AuditArguments) (found : Option LogFault) (refused : Option ReadError)
         (last_early : Option ℕ) (times : ℕ) (start : Start) (bytes text : List ℕ)
         → asked.forget ≡ None → start.early ≡ 0
-        → (pieces : Pieces asked found refused last_early times start bytes text)
-        → AreInTime asked found refused last_early times start bytes text pieces → IsPermutation
-        (start.told ++ told_of_pieces asked found refused last_early times start bytes text pieces)
+        → (pieces : Pieces asked true found refused last_early times start bytes text)
+        → AreInTime asked true found refused last_early times start bytes text pieces
+        → IsPermutation (start.told
+        ++ told_of_pieces asked true found refused last_early times start bytes text pieces)
         (audited_in asked bytes) }
 {
     each_name_has_one_number();
@@ -124,14 +135,16 @@ pub fn a_watch_that_goes_on_tells_as_one_audit()
 
 /// What a watch tells is true of all lines, however often it has gone on, whichever keys it has
 /// forgotten, and whether or not lines came early: an audit of all lines finds each fault that it tells,
-/// at the place of its line among all lines.
+/// at the place of its line among all lines. So it is where the log has ended, and where it is to be
+/// followed on.
 pub fn what_a_watch_tells_is_true_of_all_lines()
-    ensures { (asked : AuditArguments) (found : Option LogFault) (refused : Option ReadError)
-        (last_early : Option ℕ) (times : ℕ) (start : Start) (bytes text : List ℕ)
-        → (pieces : Pieces asked found refused last_early times start bytes text)
-        → HaveRoom asked found refused last_early times start bytes text pieces
+    ensures { (asked : AuditArguments) (ends : Bool) (found : Option LogFault)
+        (refused : Option ReadError) (last_early : Option ℕ) (times : ℕ) (start : Start)
+        (bytes text : List ℕ)
+        → (pieces : Pieces asked ends found refused last_early times start bytes text)
+        → HaveRoom asked ends found refused last_early times start bytes text pieces
         → All (Contains (audited_in asked bytes))
-        (told_of_pieces asked found refused last_early times start bytes text pieces) }
+        (told_of_pieces asked ends found refused last_early times start bytes text pieces) }
 {
     each_name_has_one_number();
     keys_stay_in_one_member();
@@ -144,6 +157,24 @@ pub fn what_a_watch_tells_is_true_of_all_lines()
     what_some_lines_tell_is_true_of_all();
     who_goes_on_from_what_a_watch_kept_tells_the_rest();
 }
+
+/// Windows that go on from one another tell of no line twice, whether or not lines came early.
+pub fn no_line_is_told_of_twice()
+    ensures { (behind : ℕ) (read : List (Result SaidLine Why)) (far : Option ℕ → SettledTo)
+        (windows : List Window) → AreInTurn behind read far windows
+        → AllPairs (TellApart read) windows }
+{}
+
+/// How late a call is that came in time is told exactly where that is no more than how far behind
+/// the newest end a line may begin.
+pub fn a_lateness_within_the_bound_is_exact()
+    ensures { (behind margin : ℕ) (far : SettledTo) (all lines : List Line) (window : Window)
+        → GoesOnFrom behind far all window → TellsIn margin lines window
+        → All (λ finding. let its = placed_finding window.kept finding in
+        window.from ≤ began (line_at lines its.found.place)
+        → IfSome its.late (λ late. late.by ≤ behind)
+        → HasLate (with_times lines) (opts_of margin) its) window.found }
+{}
 
 /// A log that is divided into parts by its keys, each read and audited as a log of its own, has the
 /// faults of its parts, each by its line, by the own numbers of lines, once, and no others.

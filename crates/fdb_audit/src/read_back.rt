@@ -1,8 +1,8 @@
 //! Whether a text that was written says what is kept.
 
 ghost use Rattle.std.specs.Prelude.{◌≡◌, ◌<◌, ◌∷◌, ℕ, [], All, IfOk, IsPermutation, List, None};
-ghost use Rattle.std.specs.Prelude.{Option, Result, length, map, true};
-ghost use Rattle.std.specs.Prelude.{if◌then◌else◌};
+ghost use Rattle.std.specs.Prelude.{Option, Result, is_some, length, map, true};
+ghost use Rattle.std.specs.Prelude.{if◌then◌else◌, ◌&&◌};
 ghost use Rattle.std.specs.List.Sorted.{IsNonDecreasing};
 ghost use Rattle.fdb_lines.specs.KeyWatch.{HasSeenByKey, IsKept};
 ghost use Rattle.fdb_lines.specs.declared.fault.Found.{Found};
@@ -74,7 +74,8 @@ pub(crate) fn refusal_of(
         → AreTaken start taking.now read told
         → All (IsKept (lines_taken read) (keys_taken read)) kept.now
         → kept_said (lines_kept (member_in (line_names reader.now)) text.now) ≡ kept_at
-        start.kept read (map number_of kept.now) taking.now.settled taking.now.watch.from) }
+        start.kept read (map number_of kept.now) taking.now.settled taking.now.watch.from
+        (is_some taking.now.clocks.second)) }
     ensures lines { IfOk result (λ it. it ≡ None → let names = line_names reader.now in
         named_in (member_in names) kept_members text.now ≡ map (named_kept names) kept.now) }
     ensures rise { IfOk result (λ it. it ≡ None → let names = line_names reader.now in
@@ -106,7 +107,8 @@ fn says_kept(
         → (read : List (Result SaidLine Why)) → (told : List Found)
         → AreTaken start taking.now read told
         → All (λ place. place < length (taken read)) places.now → said_of said.now
-        ≡ kept_at start.kept read places.now taking.now.settled taking.now.watch.from) }
+        ≡ kept_at start.kept read places.now taking.now.settled taking.now.watch.from
+        (is_some taking.now.clocks.second)) }
 {
     let lines = taking.numbering.lines_at(alloc, places)?;
     let come = places
@@ -115,18 +117,28 @@ fn says_kept(
         .count();
     let more = taking.line_count().saturating_sub(places.len() as u64);
     let at = settled_if(come > 0, taking.watch.settled_to());
-    Ok(says(said, &lines, come, more, at))
+    let are_many = many_if(places.len() > 0, taking.clocks.are_many());
+    Ok(says(said, &lines, come, more, at, are_many))
 }
 
 /// Whether a text says this.
-fn says(said: &KeptText, lines: &[u64], told: usize, more: u64, settled: u64) -> bool
+fn says(
+    said: &KeptText,
+    lines: &[u64],
+    told: usize,
+    more: u64,
+    settled: u64,
+    are_many: bool,
+) -> bool
     ensures { result ≡ true → (said.now.lines.items ≡ lines.now) × (said.now.told ≡ told)
-        × (said.now.more ≡ more) × (said.now.settled ≡ settled) }
+        × (said.now.more ≡ more) × (said.now.settled ≡ settled)
+        × (said.now.are_many ≡ are_many) }
 {
     said.lines.as_slice() == lines
         && said.told == told
         && said.more == more
         && said.settled == settled
+        && said.are_many == are_many
 }
 
 /// Whether lines that were read back, by the names of a reader, say what those do that are kept, by
@@ -178,6 +190,13 @@ fn is_same_call(one: &Line, other: &Line) -> bool
     ensures { result ≡ true → (one.now.call ≡ other.now.call) × (one.now.times ≡ other.now.times) }
 {
     one.call == other.call && one.times == other.times
+}
+
+/// Whether lines of more than one client had come, if that is said.
+fn many_if(is_said: bool, are_many: bool) -> bool
+    ensures { result ≡ is_said && are_many }
+{
+    is_said && are_many
 }
 
 /// Up to when all was told, if that is said.

@@ -2,11 +2,12 @@
 
 ghost use Rattle.std.specs.Prelude.{◌≡◌, ℕ, ◌+◌, ◌-◌, ◌^◌, ◌<◌, ◌≤◌, ◌++◌, ◌∷◌, [], All, List, Err};
 ghost use Rattle.std.specs.Prelude.{IfOk, Ok, OnOk, Result, false, length, map, max, min, nat_lt};
-ghost use Rattle.std.specs.Prelude.{string_bytes, unwrap_or};
+ghost use Rattle.std.specs.Prelude.{Option, string_bytes, take, unwrap_or};
 ghost use Rattle.fdb_log_reader.specs.Printed.{printed};
 ghost use Rattle.fdb_log_reader.specs.ReadLine.{IsTimed, SaidLine, said_by, said_in};
 ghost use Rattle.fdb_log_reader.specs.declared.error.Why.{Why};
 ghost use Rattle.fdb_lines.specs.Before.{began, ended};
+ghost use Rattle.fdb_lines.specs.KeyWatch.{HasSeenByKey, not_settled, settled_in};
 ghost use Rattle.fdb_lines.specs.ToldByKey.{audited_to};
 ghost use Rattle.fdb_lines.specs.declared.fault.Found.{Found};
 ghost use Rattle.fdb_lines.specs.declared.line.Line.{Line};
@@ -50,10 +51,11 @@ pub(crate) struct Taking {
 impl Taking {
     ghost use Rattle.fdb_audit.specs.Following.{Start, keys_taken, left_out, lines_taken};
     ghost use Rattle.fdb_audit.specs.Following.{early_at, no_line, start_with, taken};
-    ghost use Rattle.fdb_audit.specs.Kept.{KeptSaid, start_from};
+    ghost use Rattle.fdb_audit.specs.Following.{KeptBefore};
+    ghost use Rattle.fdb_audit.specs.Kept.{KeptSaid, far_with, start_from};
     ghost use Rattle.fdb_audit.specs.Taken.{AreCounted, HasWarned, IsCarried, kept_by};
     ghost use Rattle.fdb_audit.specs.private.Followed.{AreTaken, NotesLine, counted_line};
-    ghost use Rattle.fdb_audit.specs.private.Followed.{noted, odd_text};
+    ghost use Rattle.fdb_audit.specs.private.Followed.{StaysAsFar, noted, odd_text, settled_at};
 
     /// No line has been taken; those that were kept of others come first. It fails only where
     /// memory is refused.
@@ -72,6 +74,9 @@ impl Taking {
         ensures warned { IfOk result (λ taking.
             HasWarned (start_with behind (kept_by numbering)) taking [] []) }
         ensures margin { IfOk result (λ taking. taking.watch.margin ≡ margin) }
+        ensures horizon { IfOk result (λ taking. taking.watch.horizon ≡ behind) }
+        ensures far { IfOk result (λ taking. (key : Option ℕ)
+            → settled_in taking.watch.parts.items key ≡ not_settled) }
         ensures from { IfOk result (λ taking. taking.watch.from ≡ 0) }
         ensures members { IfOk result (λ taking. map string_bytes taking.rows.members.items
             ≡ map (λ name. printed (string_bytes name)) shown.now) }
@@ -107,6 +112,7 @@ impl Taking {
             → HasWarned start self.new (read ++ map said_in lines.items) warned) }
         ensures early { OnOk result (self.new.counts.early ≤ self.old.counts.early
             + early_at self.old.watch.from (lines_taken (map said_in lines.items))) }
+        ensures stays { OnOk result (StaysAsFar self.old.watch self.new.watch) }
         ensures from { self.new.watch.from ≡ self.old.watch.from }
         ensures margin { self.new.watch.margin ≡ self.old.watch.margin }
     {
@@ -116,23 +122,31 @@ impl Taking {
         Ok(())
     }
 
-    /// Takes lines that were kept, of which so many had come when it had settled up to a moment.
-    /// They are not counted. An error says that memory was refused.
+    /// Takes lines that were kept, of which so many had come when it had settled up to a moment; lines
+    /// of more than one client had come or not. They are not counted. An error says that memory was
+    /// refused.
     pub(crate) fn take_kept(
         &mut self,
         mut lines: Vec<Result<ReadLine, Why>>,
         told: usize,
         settled: u64,
+        are_many: bool,
     ) -> Result<(), AllocError>
         requires timed { All (λ read. IfOk read IsTimed) lines.items }
         ensures taken { OnOk result ((behind : ℕ) → (kept : KeptSaid)
-            → kept.told ≡ told → kept.settled ≡ settled
+            → kept.told ≡ told → kept.settled ≡ settled → kept.many ≡ are_many
             → AreTaken (start_with behind kept.front) self.old [] []
             → let read = map said_in lines.items in
             let start = start_from behind self.old.watch.margin kept read in
             AreTaken start self.new read start.told × HasWarned start self.new read []) }
+        ensures far { OnOk result ((behind : ℕ) → (front : KeptBefore)
+            → AreTaken (start_with behind front) self.old [] []
+            → ((key : Option ℕ) → settled_in self.old.watch.parts.items key ≡ not_settled)
+            → (key : Option ℕ) → settled_in self.new.watch.parts.items key
+            ≡ far_with settled (take told (map said_in lines.items)) key) }
         ensures from { OnOk result (self.new.watch.from ≡ max self.old.watch.from settled) }
         ensures margin { self.new.watch.margin ≡ self.old.watch.margin }
+        ensures horizon { OnOk result (self.new.watch.horizon ≡ self.old.watch.horizon) }
     {
         let since = lines.split_off(told.min(lines.len()))?;
         self.take_all(lines)?;
@@ -140,6 +154,7 @@ impl Taking {
         self.take_all(since)?;
         self.counts = Counts::new();
         self.warnings = String::new(self.alloc);
+        self.clocks.go_on(settled, are_many);
         Ok(())
     }
 
@@ -155,6 +170,7 @@ impl Taking {
             → HasWarned start self.new (lines ++ said_in read ∷ []) warned) }
         ensures early { OnOk result (self.new.counts.early ≤ self.old.counts.early
             + early_at self.old.watch.from (lines_taken (said_in read ∷ []))) }
+        ensures stays { OnOk result (StaysAsFar self.old.watch self.new.watch) }
         ensures from { self.new.watch.from ≡ self.old.watch.from }
         ensures margin { self.new.watch.margin ≡ self.old.watch.margin }
     {
@@ -168,21 +184,31 @@ impl Taking {
         }
     }
 
-    /// Settles up to a moment, and tells nothing of it. An error says that memory was refused.
+    /// Settles up to a moment, tells nothing of it, and counts anew. An error says that memory was
+    /// refused.
     pub(crate) fn settle_untold(&mut self, at: u64) -> Result<(), AllocError>
         ensures taken { OnOk result ((start : Start) → (lines : List (Result SaidLine Why))
-            → (told : List Found) → AreTaken start self.old lines told
-            → AreTaken (record start { anew = false }) self.new lines
-            (audited_to self.old.watch.margin (max self.old.watch.from at) (lines_taken lines)
-            (keys_taken lines))) }
+            → (told : List Found) → start.early ≡ 0 → self.old.counts.early ≡ 0
+            → AreTaken start self.old lines told
+            → let from = max self.old.watch.from at in
+            let told = audited_to self.old.watch.margin from (lines_taken lines) (keys_taken lines) in
+            AreTaken (settled_at start self.old.clocks from lines told) self.new lines told) }
+        ensures far { OnOk result ((lines : List (Result SaidLine Why))
+            → HasSeenByKey self.old.watch (lines_taken lines) (keys_taken lines)
+            → ((key : Option ℕ) → settled_in self.old.watch.parts.items key ≡ not_settled)
+            → (key : Option ℕ) → settled_in self.new.watch.parts.items key
+            ≡ far_with (max self.old.watch.from at) lines key) }
         ensures from { OnOk result (self.new.watch.from ≡ max self.old.watch.from at) }
-        ensures counts { self.new.counts ≡ self.old.counts }
+        ensures counts { OnOk result (self.new.counts.early ≡ 0) }
         ensures warnings { self.new.warnings ≡ self.old.warnings }
         ensures margin { self.new.watch.margin ≡ self.old.watch.margin }
+        ensures horizon { self.new.watch.horizon ≡ self.old.watch.horizon }
     {
         let told = self.watch.settle(self.alloc, at)?;
         self.rows.let_go_all(&told);
+        laws::a_key_without_lines_has_not_settled();
         laws::all_is_told_up_to_where_it_settled();
+        self.counts = Counts::new();
         self.note_settled(&told);
         Ok(())
     }
@@ -250,6 +276,7 @@ impl Taking {
             → HasWarned start self.new (lines ++ Ok (said_by read) ∷ []) warned) }
         ensures early { OnOk result (self.new.counts.early ≤ self.old.counts.early
             + early_at self.old.watch.from (read.line ∷ [])) }
+        ensures stays { OnOk result (StaysAsFar self.old.watch self.new.watch) }
         ensures from { self.new.watch.from ≡ self.old.watch.from }
         ensures margin { self.new.watch.margin ≡ self.old.watch.margin }
     {
@@ -335,6 +362,7 @@ impl Taking {
             → HasWarned start self.old lines warned
             → HasWarned start self.new (lines ++ Err why ∷ []) warned) }
         ensures early { self.new.counts.early ≡ self.old.counts.early }
+        ensures stays { OnOk result (StaysAsFar self.old.watch self.new.watch) }
         ensures from { self.new.watch.from ≡ self.old.watch.from }
         ensures margin { self.new.watch.margin ≡ self.old.watch.margin }
     {

@@ -1,13 +1,13 @@
 //! What is told of a log that is followed, as it is printed, and what is left to be said at its
 //! end.
 
-ghost use Rattle.std.specs.Prelude.{◌≡◌, ◌&&◌, ◌++◌, ℕ, [], All, Bool, IfOk, List, None, OnOk};
+ghost use Rattle.std.specs.Prelude.{◌≡◌, ◌&&◌, ◌++◌, ◌∷◌, ℕ, [], All, Bool, IfOk, List, None, OnOk};
 ghost use Rattle.std.specs.Prelude.{Option, Result, is_some, map, not, option_map, option_to_list};
 ghost use Rattle.std.specs.Prelude.{slice_get, string_bytes, ◌<◌};
 ghost use Rattle.std.specs.Option.{option_or};
-ghost use Rattle.fdb_lines.specs.KeyWatch.{AreTold, IsToldOf};
+ghost use Rattle.fdb_lines.specs.KeyWatch.{AreTold, IsToldOf, SettledTo, settled_in};
+ghost use Rattle.fdb_lines.specs.KeyWatch.{settled_of};
 ghost use Rattle.fdb_lines.specs.Reasons.{found_of};
-ghost use Rattle.fdb_lines.specs.ToldByKey.{told_by, told_by_all};
 ghost use Rattle.fdb_lines.specs.declared.key_part.KeyPart.{KeyPart};
 ghost use Rattle.fdb_log_reader.specs.LineReader.{line_names};
 ghost use Rattle.fdb_log_reader.specs.ReadLine.{SaidLine};
@@ -20,7 +20,7 @@ ghost use Rattle.fdb_audit.specs.ToldFaults.{told_at, ToldFault};
 ghost use Rattle.fdb_audit.specs.private.{members_of, shown_in};
 ghost use Rattle.fdb_audit.specs.private.Followed.{counted_in, told_with, AreNumbered, CountsOn};
 ghost use Rattle.fdb_audit.specs.private.Followed.{HasCounted, HasTotals, HasTotalsIn};
-ghost use Rattle.fdb_audit.specs.private.Followed.{IsSameTeller, TellsOn};
+ghost use Rattle.fdb_audit.specs.private.Followed.{IsSameTeller, IsWatchedBy, TellsOn};
 
 use crate::arguments::AuditArguments;
 use crate::figures::{Figure, push_line, push_total_object};
@@ -125,11 +125,11 @@ impl Teller {
         told: &[SettledKey],
     ) -> Result<(), AllocError>
         ensures { OnOk result ((kept : KeptBefore) → (read : List (Result SaidLine Why))
-            → (to : Option ℕ) → (parts : List KeyPart) → (margin : ℕ)
-            → AreNumbered kept taking.now read → All (λ part. part.watch.margin ≡ margin) parts
+            → (to : Option ℕ) → (parts : List KeyPart) → (margin behind : ℕ)
+            → AreNumbered kept taking.now read → All (IsWatchedBy margin behind to) parts
             → AreTold to (lines_taken read) (keys_taken read) parts told.now
-            → TellsOn kept self.old self.new margin read (line_names reader.now).clients
-            (told_by_all told.now)) }
+            → TellsOn kept self.old self.new margin behind read (line_names reader.now).clients
+            (settled_in parts) to told.now) }
     {
         for entry in told {
             if !entry.settled.found.is_empty() {
@@ -148,11 +148,12 @@ impl Teller {
         entry: &SettledKey,
     ) -> Result<(), AllocError>
         ensures { OnOk result ((kept : KeptBefore) → (read : List (Result SaidLine Why))
-            → (to : Option ℕ) → (part : KeyPart) → (margin : ℕ)
-            → AreNumbered kept taking.now read → (part.watch.margin ≡ margin)
+            → (to : Option ℕ) → (part : KeyPart) → (far : Option ℕ → SettledTo)
+            → (margin behind : ℕ) → AreNumbered kept taking.now read
+            → IsWatchedBy margin behind to part → far part.key ≡ settled_of part
             → IsToldOf to (lines_taken read) (keys_taken read) entry.now part
-            → TellsOn kept self.old self.new margin read (line_names reader.now).clients
-            (told_by entry.now)) }
+            → TellsOn kept self.old self.new margin behind read (line_names reader.now).clients
+            far to (entry.now ∷ [])) }
     {
         let settled = &entry.settled;
         let own = taking.numbering.lines_at(alloc, &settled.numbers)?;

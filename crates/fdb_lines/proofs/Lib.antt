@@ -40,6 +40,7 @@ pub mod Totals
 pub mod Opened
 pub mod PutOn
 pub mod SeenByKey
+pub mod HowFar
 pub mod SettledByKey
 pub mod KeptByKey
 pub mod Windows

@@ -24,6 +24,7 @@ use Rattle.fdb_lines.specs.private.Due.{told_at, told_below}
 use Rattle.fdb_lines.specs.private.KeyParts.{flag_at, flags_of, AreEntriesOf, AreNext, AreOpen, ArePut, IsAlike, IsNext, IsNextOf}
 use Rattle.fdb_lines.specs.private.Quiet.{IsQuiet}
 use Rattle.fdb_lines.proofs.Carried.{at_part, fewer_are}
+use Rattle.fdb_lines.proofs.HowFar.{far_each}
 use Rattle.fdb_lines.proofs.Keyed.{each_once}
 use Rattle.fdb_lines.proofs.Opened.{flag_within, listed_open, open_within, place_listed}
 use Rattle.fdb_lines.proofs.SeenByKey.{seen_next}
@@ -121,7 +122,25 @@ module _ (to : Option ℕ) (old : List KeyPart) (places : List ℕ) (entries : L
   told_by_key = record {
     each = λ j e lt. (slice_index places j, in_range j (let size = are.as_many in omega arith), λ d. told_one j d e (let size = are.as_many in omega arith));
     once = λ i j e less lt. key_once i j e less (let size = are.as_many in omega arith);
+    far = far_each old (λ i j li lj same. each_once keys (length keys) i j (subst (λ (ks : List (Option ℕ)). i < length ks) named li) (subst (λ (ks : List (Option ℕ)). j < length ks) named lj)
+        (sym (ap (λ ks. key_at ks i) named) ∙ (same ∙ ap (λ ks. key_at ks j) named)));
   }
+
+  -- one that is not open has no entry
+  pub no_entry : (i : ℕ) (d : KeyPart) → i < length old → flag_at (flags_of old) i ≡ false → HasEntry entries (get_or old i d).key → ⊥
+  no_entry i d lt closed has =
+      let j = has.0 in
+      let many = are.as_many in
+      let within : j < length entries = (let less = has.1 in omega (arith, length-map entries entry_key)) in
+      let less : j < length places = omega arith in
+      let e = some_of entries (omega arith) in
+      let k = slice_index places j in
+      let lk = in_range j less in
+      let size = ap length (sym named) ∙ length-map old key_is in
+      let key : (get_or old k d).key ≡ (get_or old i d).key = sym (are.each j d e less).key ∙ (sym (get_or-map entry_key entries j e (get_or old i d).key within) ∙ has.2) in
+      let at = λ (m : ℕ) (lm : m < length old). ap (λ ks. key_at ks m) (sym named) ∙ get_or-map key_is old m d None lm in
+      let same : k ≡ i = each_once keys (length keys) k i (omega (arith, size)) (omega (arith, size)) (at k lk ∙ (key ∙ sym (at i lt))) in
+      both_ways _ closed (subst (λ m. flag_at (flags_of old) m ≡ true) same (listed_open (flags_of old) places k open_are (Contains-get_or places j 0 less)))
 
   -- a part is open and has an entry, or has nothing to tell
   has_entry : (i : ℕ) (d : KeyPart) → i < length old → flag_at (flags_of old) i ≡ true → HasEntry entries (get_or old i d).key
@@ -284,8 +303,9 @@ module _ (at : ℕ) (old : List KeyPart) (places : List ℕ) (nexts : List KeyPa
   pub goes_on : (margin horizon from : ℕ) → from ≤ at → All (IsAlike margin horizon from) old
       → (lines : List Line) (keys : List (Option ℕ))
       → ((i : ℕ) (d : KeyPart) → i < length old → flag_at (flags_of old) i ≡ false → HasNothingToTell (Some at) lines keys (get_or old i d))
+      → ((i : ℕ) (d : KeyPart) → i < length old → flag_at (flags_of old) i ≡ false → HasEntry given (get_or old i d).key → ⊥)
       → (i : ℕ) (d : KeyPart) → i < length old → SettlesOrStays at lines keys given (get_or old i d) (get_or new i d)
-  goes_on margin horizon from le all lines keys none i d lt = by (flag_at (flags_of old) i) refl
+  goes_on margin horizon from le all lines keys none alone i d lt = by (flag_at (flags_of old) i) refl
     where
       by : (b : Bool) → flag_at (flags_of old) i ≡ b → SettlesOrStays at lines keys given (get_or old i d) (get_or new i d)
       by b f = elim (where_is i d b f) [
@@ -304,5 +324,6 @@ module _ (at : ℕ) (old : List KeyPart) (places : List ℕ) (nexts : List KeyPa
             )
         | inr same ↦
             let closed : (get_or old i d).is_open ≡ false = sym (get_or-map open_flag old i d false lt) ∙ (f ∙ same.0) in
-            inr (record { same = same.1; nothing = none i d lt (f ∙ same.0); few = ((get_or old i d).quiet closed).few })
+            let quiet = (get_or old i d).quiet closed in
+            inr (record { same = same.1; no_entry = alone i d lt (f ∙ same.0); none_came = quiet.told; nothing = none i d lt (f ∙ same.0); few = quiet.few })
       ]

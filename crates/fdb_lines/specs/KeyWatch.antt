@@ -1,6 +1,7 @@
 -- What an audit that watches by key has seen, and what it tells: of each key what a watch of its lines does. (this product's own)
-use Rattle.std.specs.Prelude.{◌≡◌, ◌≢◌, ◌⊎◌, ℕ, ◌+◌, ◌<◌, ◌≤◌, All, List, [], Option, Some, length, map, slice_index, slice_index_or}
+use Rattle.std.specs.Prelude.{◌≡◌, ◌≢◌, ◌⊎◌, ◌==◌, ℕ, ◌+◌, ◌<◌, ◌≤◌, cond, All, List, [], ◌∷◌, Option, Some, length, map, slice_index, slice_index_or}
 use Rattle.std.specs.List.{AllPairs, Contains, flat_map}
+use Rattle.std.specs.Option.{option_eq}
 use Rattle.fdb_lines.specs.declared.key_part.KeptLine.{KeptLine}
 use Rattle.fdb_lines.specs.declared.key_part.KeyPart.{KeyPart}
 use Rattle.fdb_lines.specs.declared.key_part.SettledKey.{SettledKey}
@@ -25,6 +26,22 @@ abbrev pub IsJudgedFrom : List KeyPart → Option ℕ → ℕ → Type 0
 IsJudgedFrom parts key at =
     ((part : KeyPart) × Contains parts part × (part.key ≡ key) × (at ≡ judged_from part.watch))
     ⊎ (((i : ℕ) → i < length (names_of parts) → key_at (names_of parts) i ≢ key) × (at ≡ 0))
+
+-- Up to when a key has settled, or for good, and how many of its lines had come then.
+pub record SettledTo : Type 0 where
+  pub to : Option ℕ
+  pub come : ℕ
+
+abbrev pub not_settled : SettledTo
+not_settled = record { to = Some 0; come = 0 }
+
+abbrev pub settled_of : KeyPart → SettledTo
+settled_of part = record { to = Some part.watch.from; come = part.watch.settled }
+
+-- how far a key has settled: as its watch has, and not at all where it has no line yet
+abbrev pub settled_in : List KeyPart → Option ℕ → SettledTo
+settled_in [] key = not_settled
+settled_in (part ∷ parts) key = cond (option_eq ◌==◌ part.key key) (settled_of part) (settled_in parts key)
 
 -- All lines that ever came, with their keys: each key that has lines has one watch, which has seen them, and no other key.
 pub record HasSeenByKey (watch : KeyWatch) (lines : List Line) (keys : List (Option ℕ)) : Type 0 where
@@ -51,10 +68,11 @@ pub record IsToldOf (to : Option ℕ) (lines : List Line) (keys : List (Option �
   pub numbers : entry.settled.numbers.items ≡ map (slice_index (places_of keys part.key)) part.watch.numbers.items
   pub log : (lines_of entry.settled.log).lines ≡ lines_in lines entry.settled.numbers.items
 
--- Each entry tells of a key, and no two tell of one.
+-- Each entry tells of a key, and no two tell of one; and how far a key has settled is how far its watch has.
 pub record AreTold (to : Option ℕ) (lines : List Line) (keys : List (Option ℕ)) (parts : List KeyPart) (entries : List SettledKey) : Type 0 where
   pub each : All (λ entry. (i : ℕ) × (i < length parts) × ((d : KeyPart) → IsToldOf to lines keys entry (slice_index_or parts i d))) entries
   pub once : AllPairs (λ one other. one.key ≢ other.key) entries
+  pub far : All (λ (part : KeyPart). settled_in parts part.key ≡ settled_of part) parts
 
 abbrev pub HasEntry : List SettledKey → Option ℕ → Type 0
 HasEntry entries key = Contains (map (λ (entry : SettledKey). entry.key) entries) key
@@ -70,13 +88,20 @@ pub record HasSettled (to : ℕ) (old new : KeyPart) : Type 0 where
   pub settled : new.watch.settled ≡ old.watch.count
   pub few : length new.watch.numbers.items ≤ open_count old.watch.margin (judged_from new.watch) old.watch.log.lines.items + 2
 
-pub record StaysQuiet (to : ℕ) (lines : List Line) (keys : List (Option ℕ)) (old new : KeyPart) : Type 0 where
+pub record StaysQuiet (to : ℕ) (lines : List Line) (keys : List (Option ℕ)) (entries : List SettledKey) (old new : KeyPart) : Type 0 where
   pub same : new ≡ old
+  pub no_entry : HasEntry entries old.key → ⊥
+  pub none_came : old.watch.settled ≡ old.watch.count
   pub nothing : HasNothingToTell (Some to) lines keys old
   pub few : length old.watch.numbers.items ≤ 2
 
 abbrev pub SettlesOrStays : ℕ → List Line → List (Option ℕ) → List SettledKey → KeyPart → KeyPart → Type 0
-SettlesOrStays to lines keys entries old new = (HasEntry entries old.key × HasSettled to old new) ⊎ StaysQuiet to lines keys old new
+SettlesOrStays to lines keys entries old new = (HasEntry entries old.key × HasSettled to old new) ⊎ StaysQuiet to lines keys entries old new
+
+-- So a key that has an entry has settled with all the lines that it has by then; and another is where it was, and no line of it came.
+abbrev pub GoesTo : (to come : ℕ) → List SettledKey → Option ℕ → (old new : SettledTo) → Type 0
+GoesTo to come entries key old new =
+    (HasEntry entries key × (new ≡ record { to = Some to; come = come })) ⊎ ((HasEntry entries key → ⊥) × (new ≡ old) × (old.come ≡ come))
 
 -- An entry says which of the lines that a key had kept, by their places among these, it keeps on.
 pub record KeepsOnAt (entry : SettledKey) (part : KeyPart) : Type 0 where

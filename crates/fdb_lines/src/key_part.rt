@@ -64,6 +64,7 @@ impl KeyPart {
         ensures key { result.key ≡ key }
         ensures seen { HasSeen result.watch [] }
         ensures numbers { result.numbers.items ≡ [] }
+        ensures settled { result.watch.settled ≡ 0 }
         ensures alike { IsAlike margin horizon 0 result }
     {
         KeyPart {

@@ -50,7 +50,8 @@ impl KeyWatch {
     ghost use Rattle.fdb_lines.specs.declared.watch.WatchError.TheVariants.{NoTimes};
     ghost use Rattle.fdb_lines.specs.KeyWatch.{AreKept, AreTold, SettlesOrStays, HasEntry};
     ghost use Rattle.fdb_lines.specs.KeyWatch.{HasNothingToTell, HasSeenByKey, IsLogOf, KeepsOn};
-    ghost use Rattle.fdb_lines.specs.KeyWatch.{IsJudgedFrom};
+    ghost use Rattle.fdb_lines.specs.KeyWatch.{GoesTo, IsJudgedFrom, not_settled, settled_in};
+    ghost use Rattle.fdb_lines.specs.KeyParts.{lines_of_one};
     ghost use Rattle.fdb_lines.specs.Watch.{refusal_in, IsRefusedFor};
     ghost use Rattle.fdb_lines.specs.ToldByKey.{audited, told_by_all, HasTold};
 
@@ -60,6 +61,7 @@ impl KeyWatch {
     pub fn new(alloc: Global, margin: u64, horizon: u64) -> Self
         ensures seen { HasSeenByKey result [] [] }
         ensures told { HasTold result [] [] [] }
+        ensures far { (key : Option ℕ) → settled_in result.parts.items key ≡ not_settled }
         ensures from { result.from ≡ 0 }
         ensures margin { result.margin ≡ margin }
         ensures horizon { result.horizon ≡ horizon }
@@ -120,6 +122,8 @@ impl KeyWatch {
         ensures err { OnErr result ((lines : List Line) → (keys : List (Option ℕ))
             → HasSeenByKey self.old lines keys → HasSeenByKey self.new lines keys) }
         ensures stays { HaveStayed self.old.parts.items self.new.parts.items }
+        ensures far { OnOk result ((key : Option ℕ)
+            → settled_in self.new.parts.items key ≡ settled_in self.old.parts.items key) }
         ensures settled { self.new.from ≡ self.old.from }
         ensures margin { (self.new.margin ≡ self.old.margin)
             × (self.new.horizon ≡ self.old.horizon) }
@@ -186,6 +190,8 @@ impl KeyWatch {
             → HasSeenByKey self.old lines keys → HasSeenByKey self.new lines keys) }
         ensures memory { IfErr result (λ error. error ≡ WatchError.Line LineError.Memory) }
         ensures stays { HaveStayed self.old.parts.items self.new.parts.items }
+        ensures far { OnOk result ((key : Option ℕ)
+            → settled_in self.new.parts.items key ≡ settled_in self.old.parts.items key) }
         ensures settled { self.new.from ≡ self.old.from }
         ensures margin { (self.new.margin ≡ self.old.margin)
             × (self.new.horizon ≡ self.old.horizon) }
@@ -223,6 +229,10 @@ impl KeyWatch {
             → (i : ℕ) → (d : KeyPart) → i < length self.old.parts.items
             → SettlesOrStays (max self.old.from at) lines keys told.items
             (slice_index_or self.old.parts.items i d) (slice_index_or self.new.parts.items i d)) }
+        ensures far { IfOk result (λ told. (lines : List Line) → (keys : List (Option ℕ))
+            → HasSeenByKey self.old lines keys → (key : Option ℕ)
+            → GoesTo (max self.old.from at) (length (lines_of_one lines keys key)) told.items key
+            (settled_in self.old.parts.items key) (settled_in self.new.parts.items key)) }
         ensures once { IfOk result (λ entries. (lines : List Line) → (keys : List (Option ℕ))
             → (told : List Found) → HasSeenByKey self.old lines keys
             → HasTold self.old lines keys told

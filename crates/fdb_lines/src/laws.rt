@@ -18,7 +18,7 @@ ghost use Rattle.fdb_lines.specs.Before.{began};
 ghost use Rattle.fdb_lines.specs.Carried.{with_times, AreLeftBelow, StandFor};
 ghost use Rattle.fdb_lines.specs.Divided.{faults_by_part, LearnsNothing};
 ghost use Rattle.fdb_lines.specs.KeyParts.{lines_of_one};
-ghost use Rattle.fdb_lines.specs.KeyWatch.{HasSeenByKey};
+ghost use Rattle.fdb_lines.specs.KeyWatch.{HasSeenByKey, not_settled, settled_in};
 ghost use Rattle.fdb_lines.specs.Keys.{case_of_key, faults_by_key, key_at, placed_found};
 ghost use Rattle.fdb_lines.specs.Keys.{places_of};
 ghost use Rattle.fdb_lines.specs.Listing.{faults_of};
@@ -186,6 +186,14 @@ pub fn all_is_told_up_to_where_it_settled()
     ensures as_well { (watch : KeyWatch) (lines : List Line) (keys : List (Option ℕ))
         (told : List Found) → HasSeenByKey watch lines keys → HasTold watch lines keys told
         → HasTold watch lines keys (audited_to watch.margin watch.from lines keys) }
+{}
+
+/// A key of which no line came has not settled.
+pub fn a_key_without_lines_has_not_settled()
+    ensures { (watch : KeyWatch) (lines : List Line) (keys : List (Option ℕ))
+        → HasSeenByKey watch lines keys → (key : Option ℕ)
+        → length (lines_of_one lines keys key) ≡ 0
+        → settled_in watch.parts.items key ≡ not_settled }
 {}
 
 /// Lines that stand for all from a moment on (`StandFor`) will do for whoever goes on from them

@@ -1,8 +1,8 @@
 -- What is kept of the clocks of a log's lines. (this product's own)
-use Rattle.std.specs.Prelude.{◌≡◌, ℕ, ◌+◌, Option, max, nat_lt, unwrap_or, if◌then◌else◌}
+use Rattle.std.specs.Prelude.{◌≡◌, ℕ, ◌+◌, Bool, Option, is_some, max, nat_lt, unwrap_or, if◌then◌else◌}
 use Rattle.fdb_lines.specs.declared.line.Line.{Line}
 use Rattle.fdb_lines.specs.Before.{ended}
-use Rattle.fdb_audit.specs.Clocks.{ahead_of_end, end_of, end_of_another, newer}
+use Rattle.fdb_audit.specs.Clocks.{ahead_of_end, believed_from, end_of, end_of_another, floor_of, newer}
 use Rattle.fdb_audit.specs.declared.clocks.Clocks.{Clocks}
 pub use Rattle.fdb_audit.specs.Taken.{others_of, HasHeard}
 
@@ -30,3 +30,19 @@ pub record Hears (old new : Clocks) (line : Line) : Type 0 where
   pub believed : new.believed ≡ believed_by old line
   pub ahead : new.ahead ≡ ahead_on old line
   pub behind : new.behind ≡ old.behind
+
+-- it goes on where it was settled up to a moment
+pub record GoesOn (old new : Clocks) (settled : ℕ) (are_many : Bool) : Type 0 where
+  pub believed : new.believed ≡ believed_from settled old.behind
+  pub others : (client : Option ℕ) → others_of new client ≡ newer (floor_of are_many) (others_of old client)
+  pub behind : new.behind ≡ old.behind
+  pub newest : new.newest ≡ old.newest
+  pub ahead : new.ahead ≡ old.ahead
+
+-- or from others
+pub record Carries (others old new : Clocks) : Type 0 where
+  pub believed : new.believed ≡ others.believed
+  pub others_are : (client : Option ℕ) → others_of new client ≡ newer (floor_of (is_some others.second)) (others_of old client)
+  pub behind : new.behind ≡ old.behind
+  pub newest : new.newest ≡ max old.newest others.newest
+  pub ahead : new.ahead ≡ others.ahead

@@ -1,8 +1,13 @@
 -- What the parts of a follower hold of the lines that were read. (this product's own)
-use Rattle.std.specs.Prelude.{◌≡◌, ℕ, ◌+◌, ◌-◌, ◌^◌, ◌++◌, ◌&&◌, Bool, true, false, List, [], All, Some, is_some, length, min, nat_lt, string_bytes, Result, if◌then◌else◌, ◌∷◌, ◌<◌}
+use Rattle.std.specs.Prelude.{◌≡◌, ℕ, ◌+◌, ◌-◌, ◌^◌, ◌++◌, ◌&&◌, Bool, true, false, List, [], All, IfSome, Option, Some, is_some, length, map, min, nat_lt, string_bytes, Result, if◌then◌else◌, ◌∷◌, ◌<◌, ◌≤◌}
 use Rattle.std.specs.Option.{option_or}
 use Rattle.fdb_lines.specs.declared.fault.Found.{Found}
+use Rattle.fdb_lines.specs.declared.key_part.KeyPart.{KeyPart}
+use Rattle.fdb_lines.specs.declared.key_part.SettledKey.{SettledKey}
+use Rattle.fdb_lines.specs.declared.key_watch.KeyWatch.{KeyWatch}
 use Rattle.fdb_lines.specs.declared.line.Line.{Line}
+use Rattle.fdb_lines.specs.KeyWatch.{SettledTo, settled_in}
+use Rattle.fdb_lines.specs.ToldByKey.{told_by_all}
 use Rattle.fdb_log_reader.specs.declared.error.Why.{Why}
 use Rattle.fdb_log_reader.specs.ReadLine.{SaidLine}
 use Rattle.fdb_log_reader.specs.LineReader.{line_names, lines_on, names_on}
@@ -16,10 +21,11 @@ use Rattle.std.specs.Int.{is_power_of_two}
 use Rattle.fdb_lines.specs.Before.{began}
 use Rattle.fdb_audit.specs.declared.taken_lines.Taking.{Taking}
 use Rattle.fdb_audit.specs.declared.teller.Teller.{Teller}
+use Rattle.fdb_audit.specs.declared.clocks.Clocks.{Clocks}
 use Rattle.fdb_audit.specs.declared.refusal.CountedLine.{CountedLine}
 use Rattle.fdb_audit.specs.declared.refusal.Warning.{Warning}
 use Rattle.fdb_audit.specs.declared.refusal.Warning.TheVariants.{Ahead, Early}
-use Rattle.fdb_audit.specs.private.Clocks.{Hears, ahead_of}
+use Rattle.fdb_audit.specs.private.Clocks.{Carries, Hears, ahead_of}
 use Rattle.fdb_audit.specs.Warned.{AreEarly, warning_line}
 use Rattle.fdb_audit.specs.GoingOn.{GoesOnBy}
 use Rattle.fdb_audit.specs.Following.{AreWindows, FollowArguments, KeptBefore, Start, Window, counted_on, faults_told, first_told, told_in_all}
@@ -47,6 +53,7 @@ pub record TakesPlace (old next new : Follower) : Type 0 where
   pub refused : new.taking.refused ≡ next.taking.refused
   pub counts : new.taking.counts ≡ next.taking.counts
   pub settled : new.taking.settled ≡ next.taking.settled
+  pub clocks : Carries old.taking.clocks next.taking.clocks new.taking.clocks
   pub teller : new.teller ≡ record next.teller { told = old.teller.told; first = old.teller.first }
   pub behind : new.behind ≡ next.behind
   pub before : CountsBehind old.before old.taking new.before
@@ -66,15 +73,37 @@ pub record IsSameTeller (old new : Teller) : Type 0 where
 abbrev pub CountsOn : Teller → Teller → List ToldFault → Type 0
 CountsOn old new more = (members : List (List ℕ)) (told : List ToldFault) → HasTotals members old told → HasTotals members new (told ++ more)
 
--- What is told more, once these lines have been read, whose clients have these names: these faults.
-pub record TellsOn (kept : KeptBefore) (old new : Teller) (margin : ℕ) (read : List (Result SaidLine Why)) (names : List (List ℕ)) (faults : List Found) : Type 0 where
+-- a part of a watch with this margin, which judges from so far before where it has settled, and has settled no further than to a moment
+pub record IsWatchedBy (margin behind : ℕ) (to : Option ℕ) (part : KeyPart) : Type 0 where
+  pub its_margin : part.watch.margin ≡ margin
+  pub its_horizon : part.watch.horizon ≡ behind
+  pub its_from : IfSome to (λ to. part.watch.from ≤ to)
+
+-- A window of these lines, up to a moment, by how far each key had been told of, and these names.
+pub record IsWindowOf (behind : ℕ) (read : List (Result SaidLine Why)) (names : List (List ℕ)) (far : Option ℕ → SettledTo) (to : Option ℕ) (window : Window) : Type 0 where
+  pub all : window.read ≡ length read
+  pub names_are : window.names ≡ names
+  pub to_is : window.to ≡ to
+  pub from : far window.key ≡ record { to = Some window.from; come = window.since }
+  pub early : window.early ≡ window.from - behind
+  pub not_before : IfSome to (λ to. window.from ≤ to)
+
+-- each key has settled as far as it had
+pub record StaysAsFar (old new : KeyWatch) : Type 0 where
+  pub horizon : new.horizon ≡ old.horizon
+  pub far : (key : Option ℕ) → settled_in new.parts.items key ≡ settled_in old.parts.items key
+
+-- What is told more, once these lines have been read, whose clients have these names, up to a moment: of each of these keys in a window.
+pub record TellsOn (kept : KeptBefore) (old new : Teller) (margin behind : ℕ) (read : List (Result SaidLine Why)) (names : List (List ℕ)) (far : Option ℕ → SettledTo) (to : Option ℕ)
+    (entries : List SettledKey) : Type 0 where
   pub windows : List Window
-  pub at : All (λ (window : Window). window.read ≡ length read) windows
+  pub each : All (IsWindowOf behind read names far to) windows
+  pub keys : map (λ (window : Window). window.key) windows ≡ map (λ (entry : SettledKey). entry.key) entries
   pub text : List ℕ
   pub told : AreWindows kept margin new.wanted read names windows text
   pub appended : string_bytes new.text ≡ string_bytes old.text ++ text
   pub first : new.first ≡ option_or old.first (first_told kept read windows)
-  pub faults_are : told_in_all read windows ≡ faults
+  pub faults_are : told_in_all read windows ≡ told_by_all entries
   pub counts : CountsOn old new (faults_told read windows)
   pub same : IsSameTeller old new
 
@@ -120,6 +149,17 @@ pub record NotesLine (from : ℕ) (old new : Taking) (line : Line) : Type 0 wher
 abbrev pub noted : Taking → Taking
 noted taking = record taking { settled = taking.taken }
 
+-- From where it is followed on that has settled up to a moment, by when this had been told of what was read: what comes then is
+-- counted anew.
+abbrev pub settled_at : Start → Clocks → ℕ → List (Result SaidLine Why) → List Found → Start
+settled_at start clocks at read told = record start {
+  clocks = record start.clocks { believed = clocks.believed; ahead = clocks.ahead };
+  from = at;
+  lines = length read;
+  early = 0;
+  told = told;
+}
+
 -- by which arguments what is told is told
 abbrev pub told_with : ℕ → Teller → List (List ℕ) → FollowArguments
 told_with behind teller members = record { behind = behind; margin = teller.margin; by_key = is_some teller.key; members = members }
@@ -150,5 +190,7 @@ pub record IsUnread (asked : AuditArguments) (start : Start) (follower : Followe
   pub taken : AreTaken start follower.taking [] start.told
   pub warned : HasWarned start follower.taking [] []
   pub margin : follower.taking.watch.margin ≡ asked.opts.margin
+  pub horizon : follower.taking.watch.horizon ≡ start.behind
+  pub far : (key : Option ℕ) → settled_in follower.taking.watch.parts.items key ≡ start.far key
   pub text : string_bytes follower.teller.text ≡ []
   pub are : IsTellerOf asked start follower.teller [] []

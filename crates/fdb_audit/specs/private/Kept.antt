@@ -3,7 +3,7 @@ use Rattle.std.specs.Prelude.{◌≡◌, ◌⊎◌, Option, Some, is_some, true,
 use Rattle.clap.specs.Words.{Text}
 use Rattle.fdb_log_reader.specs.ReadLine.{SaidLine}
 use Rattle.fdb_audit.specs.declared.kept.KeptAs.{KeptAs}
-use Rattle.fdb_audit.specs.Kept.{number_kept}
+use Rattle.fdb_audit.specs.Kept.{number_kept, says_many}
 use Rattle.fdb_audit.specs.KeptFile.{KeepingFails, NamesFile}
 use Rattle.fdb_command.specs.declared.failure.Failure.{Failure}
 use Rattle.fdb_command.specs.declared.failure.Failure.TheVariants.{Refused, Arguments, Memory, Found, Reading, Writing, OwnFile}
@@ -32,3 +32,4 @@ pub record IsKeptAs (kept : KeptAs) (said : SaidLine) : Type 0 where
   pub line : number_kept 0 said ≡ Some kept.line
   pub read : number_kept 1 said ≡ Some kept.read
   pub settled : number_kept 2 said ≡ kept.settled
+  pub many : kept.are_many ≡ says_many said

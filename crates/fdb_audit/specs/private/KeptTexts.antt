@@ -6,7 +6,7 @@ use Rattle.fdb_log_reader.specs.ReadLine.{LineNames}
 use Rattle.fdb_audit.specs.Kept.{KeptSaid, Named, named}
 
 abbrev pub said_of : KeptText → KeptSaid
-said_of kept = record { front = record { lines = kept.lines.items; more = kept.more }; told = kept.told; settled = kept.settled }
+said_of kept = record { front = record { lines = kept.lines.items; more = kept.more }; told = kept.told; settled = kept.settled; many = kept.are_many }
 
 -- the place of a line that is kept among all that were taken
 abbrev pub number_of : KeptLine → ℕ

@@ -46,8 +46,8 @@ impl Follower {
         Ok(followed)
     }
 
-    /// What is left to be said, where the log is to be followed on later: the totals. What is open is
-    /// kept, and not told, by a text as [`kept`](Follower::kept) gives it.
+    /// What is left to be said, where the log is to be followed on later: what has become certain, and
+    /// the totals. What is open is kept, and not told, by a text as [`kept`](Follower::kept) gives it.
     pub fn stop(mut self, beside: &str) -> Result<Stopped, AllocError>
         ensures told { IfOk result (λ it. (asked : AuditArguments) → (start : Start)
             → (bytes told : List ℕ) → HasFollowed asked start self bytes told
@@ -67,6 +67,7 @@ impl Follower {
     {
         self.take_last()?;
         let refused = self.taking.left_out(&self.before);
+        self.settle()?;
         let kept = self.read_back(beside)?;
         laws::all_is_told_up_to_where_it_settled();
         keys_stay_in_one_member();

@@ -1,4 +1,4 @@
-use Rattle.std.proofs.Common.{◌≡◌, ◌∙◌, ◌<◌, IfOk, List, OnOk, Result, ap, length, map, option_map, subst, sym, ℕ}
+use Rattle.std.proofs.Common.{◌≡◌, ◌∙◌, ◌<◌, IfOk, List, OnOk, Result, ap, is_some, length, map, option_map, subst, sym, ℕ}
 use Rattle.std.specs.List.{All}
 use Rattle.std.proofs.lemmas.List.{length-map}
 use Rattle.std.proofs.lemmas.List.Elements.{All-map, All-weaker}
@@ -30,7 +30,7 @@ returns-then-are_said-clause-said c = λ _ start read told are each.
     let within : All (λ place. place < length (taken read)) c.deref.result.now =
     subst (λ (list : List ℕ). All (λ place. place < length (taken read)) list) (sym places) (subst (λ n. All (λ place. place < n) (map number_of kept)) size came) in
     sym said ∙ (c.in_ok-is_kept.ensures c.if-is_kept.true start read told are within
-    ∙ ap (λ (list : List ℕ). kept_at start.kept read list taking.settled taking.watch.from) places)
+    ∙ ap (λ (list : List ℕ). kept_at start.kept read list taking.settled taking.watch.from (is_some taking.clocks.second)) places)
 
 pub returns-then-are_said-clause-rise : goal.returns-then-are_said-clause-rise
 returns-then-are_said-clause-rise c = λ _.

@@ -1,5 +1,5 @@
-use Rattle.std.proofs.Common.{◌≡◌, ◌∙◌, ◌<◌, ◌+◌, ◌-◌, ◌≤◌, ℕ, ap, arith, if◌then◌else◌, length, map, nat_lt, rules, subst}
-use Rattle.std.specs.Prelude.{count_by}
+use Rattle.std.proofs.Common.{◌≡◌, ◌∙◌, ◌<◌, ◌+◌, ◌-◌, ◌≤◌, Bool, ℕ, ap, arith, if◌then◌else◌, length, map, nat_lt, rules, subst}
+use Rattle.std.specs.Prelude.{◌&&◌, count_by}
 use Rattle.std.proofs.lemmas.List.Elements.{All-weaker}
 use Rattle.fdb_audit.specs.Following.{KeptBefore, taken_line, taken}
 use Rattle.fdb_audit.specs.private.Numbering.{AreTakenLines}
@@ -32,5 +32,6 @@ returns c = λ is start read told are within.
     same.3 ∙ (c.settled_if-at.ensures
     ∙ (ap (λ n. if nat_lt 0 n then c.settled_to.result else 0) come
     ∙ ap (λ (at : ℕ). if nat_lt 0 (count_by (λ place. nat_lt place taking.settled) places) then at else 0) c.settled_to.ensures)) in
-    said_same said.lines.items (map (taken_line start.kept read) places) said.more _ said.told _ said.settled _
+    said_same said.lines.items (map (taken_line start.kept read) places) said.more _ said.told _ said.settled _ said.are_many _
     (same.0 ∙ (c.deref.ensures.value ∙ lines_are)) more_is told_is settled_is
+    (same.4 ∙ (c.many_if-are_many.ensures ∙ ap (λ (b : Bool). nat_lt 0 (length places) && b) c.are_many.ensures))

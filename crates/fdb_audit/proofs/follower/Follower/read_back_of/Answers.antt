@@ -1,4 +1,4 @@
-use Rattle.std.proofs.Common.{◌≡◌, ◌<◌, ◌∙◌, arith, List, ap, length, map, string_bytes, subst, sym, ℕ}
+use Rattle.std.proofs.Common.{◌≡◌, ◌<◌, ◌∙◌, arith, List, ap, is_some, length, map, string_bytes, subst, sym, ℕ}
 use Rattle.std.proofs.lemmas.List.{length-map}
 use Rattle.std.proofs.lemmas.List.Elements.{All-map}
 use Rattle.std.proofs.lemmas.List.Sorted.{IsPermutation-refl}
@@ -17,7 +17,7 @@ returns c = λ start read told are each.
     let taking = c.args.self.now.taking in
     let names = line_names c.args.self.now.reader in
     let key = member_in names in
-    let said : kept_said (lines_kept key (string_bytes c.in_ok-text.text)) ≡ kept_at start.kept read (map number_of kept) taking.settled taking.watch.from =
+    let said : kept_said (lines_kept key (string_bytes c.in_ok-text.text)) ≡ kept_at start.kept read (map number_of kept) taking.settled taking.watch.from (is_some taking.clocks.second) =
     ap (λ (text : List ℕ). kept_said (lines_kept key text)) (sym c.as_bytes.ensures.value) ∙ c.in_ok-refused.ensures.said c.in-None.is start read told are each in
     let rises : Rise (kept_said (lines_kept key (string_bytes c.in_ok-text.text))).front.lines =
     subst (λ (text : List ℕ). Rise (kept_said (lines_kept key text)).front.lines) c.as_bytes.ensures.value (c.in_ok-refused.ensures.rise c.in-None.is) in

@@ -27,21 +27,21 @@ returns-clause-followed c =
     let asked = c.args.asked.now in
     let text = c.args.text.now in
     subst (λ said. HasFollowed asked (start_from c.args.behind asked.opts.margin said (lines_asked asked text)) c.feed_kept.new.self text []) (said c)
-    (c.in_ok-feed_kept.ensures.read asked c.args.behind (kept c) refl refl (ends c) (unread c)).0
+    (c.in_ok-feed_kept.ensures.read asked c.args.behind (kept c) refl refl refl (ends c) (unread c)).0
 
 pub returns-clause-said : goal.returns-clause-said
 returns-clause-said c =
     let asked = c.args.asked.now in
     let text = c.args.text.now in
     subst (λ said. HasSaid asked (start_from c.args.behind asked.opts.margin said (lines_asked asked text)) c.feed_kept.new.self text []) (said c)
-    (c.in_ok-feed_kept.ensures.read asked c.args.behind (kept c) refl refl (ends c) (unread c)).1
+    (c.in_ok-feed_kept.ensures.read asked c.args.behind (kept c) refl refl refl (ends c) (unread c)).1
 
 pub returns-clause-none_told : goal.returns-clause-none_told
 returns-clause-none_told c =
     let asked = c.args.asked.now in
     let text = c.args.text.now in
     subst (λ said. (has : HasFollowed asked (start_from c.args.behind asked.opts.margin said (lines_asked asked text)) c.feed_kept.new.self text []) × (has.telling.windows ≡ [])) (said c)
-    (c.in_ok-feed_kept.ensures.none_told asked c.args.behind (kept c) refl refl (ends c) (unread c))
+    (c.in_ok-feed_kept.ensures.none_told asked c.args.behind (kept c) refl refl refl (ends c) (unread c))
 
 pub returns-clause-settled : goal.returns-clause-settled
 returns-clause-settled c =

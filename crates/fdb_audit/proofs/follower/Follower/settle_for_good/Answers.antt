@@ -1,5 +1,5 @@
 use Rattle.std.proofs.Common.{◌++◌, IsPermutation, None, ◌∙◌, refl, subst, sym, true}
-use Rattle.fdb_lines.specs.KeyWatch.{AreTold, HasSeenByKey}
+use Rattle.fdb_lines.specs.KeyWatch.{AreTold, HasSeenByKey, settled_in}
 use Rattle.fdb_lines.specs.ToldByKey.{HasTold, audited, told_by_all}
 use Rattle.fdb_lines.specs.declared.key_watch.KeyWatch.{KeyWatch}
 use Rattle.fdb_log_reader.specs.LineReader.{line_names}
@@ -19,10 +19,11 @@ returns-clause-told c = λ asked start read told is.
     let faults = start.told ++ told_in_all read is.windows in
     let seen : HasSeenByKey c.replace-watch.result lines keys = subst (λ (w : KeyWatch). HasSeenByKey w lines keys) (sym same) is.taken.seen in
     let all : AreTold None lines keys watch.parts.items entries = subst (λ (w : KeyWatch). AreTold None lines keys w.parts.items entries) same (c.in_ok-told.ensures.told lines keys seen) in
-    settled_all start asked true old _ read told (told_by_all entries) is refl
-    (subst (λ list. TellsOn start.kept old.teller c.tell_all.new.self asked.opts.margin read (line_names old.reader).clients (told_by_all list)) c.deref.ensures.value
-    (c.in_ok-tell_all.ensures start.kept read None watch.parts.items asked.opts.margin (record { above = is.taken.numbered.above; front = is.taken.numbered.front; few = is.taken.numbered.few })
-    (λ k d lt. (watch.alike k d lt).its_margin ∙ is.margin)
+    settled_all start asked true old _ read told entries is refl all.once
+    (subst (TellsOn start.kept old.teller c.tell_all.new.self asked.opts.margin start.behind read (line_names old.reader).clients (settled_in watch.parts.items) None) c.deref.ensures.value
+    (c.in_ok-tell_all.ensures start.kept read None watch.parts.items asked.opts.margin start.behind
+    (record { above = is.taken.numbered.above; front = is.taken.numbered.front; few = is.taken.numbered.few })
+    (λ k d lt. let part = watch.alike k d lt in record { its_margin = part.its_margin ∙ is.margin; its_horizon = part.its_horizon ∙ is.horizon; its_from = tt })
     (subst (AreTold None lines keys watch.parts.items) (sym c.deref.ensures.value) all)))
     refl refl refl refl
     (λ none_before none.

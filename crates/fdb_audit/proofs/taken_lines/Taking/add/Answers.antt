@@ -1,6 +1,6 @@
 use Rattle.std.proofs.Common.{◌++◌, ◌∷◌, ◌∙◌, [], Ok, ap, refl, subst, sym}
 use Rattle.fdb_lines.specs.declared.key_watch.KeyWatch.{KeyWatch}
-use Rattle.fdb_lines.specs.KeyWatch.{HasSeenByKey}
+use Rattle.fdb_lines.specs.KeyWatch.{HasSeenByKey, settled_in}
 use Rattle.fdb_lines.specs.ToldByKey.{HasTold}
 use Rattle.fdb_log_reader.specs.ReadLine.{said_by}
 use Rattle.fdb_audit.specs.Following.{keys_taken, lines_taken}
@@ -44,3 +44,9 @@ returns-clause-taken c = λ start lines told are.
 pub returns-clause-warned : goal.returns-clause-warned
 returns-clause-warned c = λ start lines told warned are was.
     noted_more start c.args.self.now c.note.new.self lines (said_by c.args.read) told warned are c.requires.room (notes c) was
+
+pub returns-clause-stays : goal.returns-clause-stays
+returns-clause-stays c = record {
+  horizon = ap (λ (watch : KeyWatch). watch.horizon) c.note.ensures.watch ∙ c.push.ensures.margin.1;
+  far = λ key. ap (λ (watch : KeyWatch). settled_in watch.parts.items key) c.note.ensures.watch ∙ c.in-Ok.ensures.far key;
+}

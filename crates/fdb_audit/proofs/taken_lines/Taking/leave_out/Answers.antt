@@ -13,3 +13,6 @@ pub returns-clause-warned : goal.returns-clause-warned
 returns-clause-warned c = λ start lines told warned are was.
     let number = left_number start c.args.self.now c.leave_out.new.self lines told c.line_count-line.result are c.requires.room c.in_ok-leave_out.ensures.ok c.leave_out.ensures.kept c.line_count-line.ensures in
     left_more start c.args.self.now lines c.args.why warned _ _ are.few (ap (λ n. let it : ReadError = record { line = n; why = c.args.why } in it) number) c.in_ok-push_warning.ensures was
+
+pub returns-clause-stays : goal.returns-clause-stays
+returns-clause-stays c = record { horizon = refl; far = λ key. refl }

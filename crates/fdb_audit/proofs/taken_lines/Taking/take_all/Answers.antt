@@ -31,6 +31,7 @@ loop-line-preserved c =
           let same = ap (λ at. early_at at (lines_taken (said_in line ∷ []))) inv.from in
           let both = ap (λ said. early_at from (lines_taken said)) (map_push said_in yielded line) ∙ early_on from (map said_in yielded) (said_in line ∷ []) in
           omega (arith, was, now, same, both);
+      stays = let more = c.in_ok-take.ensures.stays in record { horizon = more.horizon ∙ inv.stays.horizon; far = λ key. more.far key ∙ inv.stays.far key };
       from = c.take.ensures.from ∙ inv.from;
       margin = c.take.ensures.margin ∙ inv.margin;
     }

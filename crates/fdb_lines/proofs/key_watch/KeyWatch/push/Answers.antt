@@ -10,6 +10,7 @@ use Rattle.fdb_lines.specs.KeyParts.{names_of}
 use Rattle.fdb_lines.specs.Keys.{key_at}
 use Rattle.fdb_lines.specs.private.Keys.{number_of, AreNumbered}
 use Rattle.fdb_lines.specs.private.KeyParts.{HasOneMoreAt}
+use Rattle.fdb_lines.proofs.HowFar.{far_at}
 use Rattle.fdb_lines.proofs.OnceTold.{push_on}
 use Rattle.fdb_lines.proofs.SeenByKey.{alike_stay, names_stay, seen_still, seen_there, stay_at}
 use Rattle.fdb_lines.proofs.key_watch.KeyWatch.push.Goals as goal
@@ -87,6 +88,13 @@ returns-in-Some-copied-clause-told c = λ lines keys told seen has late.
     let within = (part_of watch c.args.key place (grind (arith, common_steps, c.get.ensures.value, c.copied.ensures, c.number_of.ensures, c.in-Some-copied.is))).0 in
     let stays = stay_at place watch.parts.items c.add_line.new.parts.items within c.add_line.ensures.stays in
     push_on watch _ lines keys told c.args.line c.args.key seen (returns-in-Some-copied-clause-ok c lines keys seen) stays refl refl has late
+
+pub returns-in-Some-copied-clause-far : goal.returns-in-Some-copied-clause-far
+returns-in-Some-copied-clause-far c =
+    let watch = c.args.self.now in
+    let place = c.in-Some-copied.place in
+    let within = (part_of watch c.args.key place (grind (arith, common_steps, c.get.ensures.value, c.copied.ensures, c.number_of.ensures, c.in-Some-copied.is))).0 in
+    far_at place watch.parts.items c.add_line.new.parts.items within c.add_line.ensures.stays
 
 pub returns-clause-told : goal.returns-clause-told
 returns-clause-told c =

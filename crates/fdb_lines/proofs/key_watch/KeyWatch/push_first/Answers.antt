@@ -1,4 +1,4 @@
-use Rattle.std.proofs.Common.{◌≡◌, ◌++◌, ◌∷◌, [], Bool, true, List, Option, ℕ, length, ap, sym, subst, ◌∙◌, arith, length-append}
+use Rattle.std.proofs.Common.{◌≡◌, ◌++◌, ◌∷◌, [], Bool, true, List, Option, Some, ℕ, length, ap, sym, subst, ◌∙◌, arith, length-append}
 use Rattle.std.proofs.lemmas.List.{length-map, map_push}
 use Rattle.std.specs.BTreeMap.{get}
 use Rattle.std.specs.List.{All}
@@ -6,9 +6,11 @@ use Rattle.std.specs.Ordering.{nat_cmp}
 use Rattle.fdb_lines.specs.declared.key_part.KeyPart.{KeyPart}
 use Rattle.fdb_lines.specs.declared.line.Line.{Line}
 use Rattle.fdb_lines.specs.KeyParts.{names_of}
+use Rattle.fdb_lines.specs.KeyWatch.{SettledTo, not_settled, settled_in, settled_of}
 use Rattle.fdb_lines.specs.Watch.{HasSeen}
 use Rattle.fdb_lines.specs.private.Keys.{AreNumbered}
 use Rattle.fdb_lines.specs.private.KeyParts.{flags_of, AreOpen, HasOneMore, IsAlike, BeginsWith}
+use Rattle.fdb_lines.proofs.HowFar.{far_first, far_is}
 use Rattle.fdb_lines.proofs.Opened.{opened_first}
 use Rattle.fdb_lines.proofs.Parted.{numbered_more}
 use Rattle.fdb_lines.proofs.SeenByKey.{alike_first, numbered_same, seen_first, stay_first}
@@ -98,3 +100,16 @@ returns-clause-stays c =
     stay_first c.args.key watch.margin watch.horizon c.args.line watch.count watch.parts.items c.push_reserved-2.new.self.items c.push.new.self (let its = c.new-part.ensures in
     first_part c.new-part.result c.push.new.self c.args.key watch.margin watch.horizon watch.count c.args.line its.key its.seen its.numbers its.alike c.in_default.ensures.ok c.push.ensures.alike c.push.ensures.opened)
     (c.push_reserved-2.ensures.items ∙ ap (λ (ps : List KeyPart). ps ++ c.push.new.self ∷ []) c.reserve-2.ensures.items)
+
+pub returns-clause-far : goal.returns-clause-far
+returns-clause-far c = λ key.
+    let parts = c.args.self.now.parts.items in
+    let part = c.push.new.self in
+    let empty = c.new-part.result in
+    let its = c.new-part.ensures in
+    let low = its.alike.its_from in
+    let at = λ (from come : ℕ). let far : SettledTo = record { to = Some from; come = come } in far in
+    let from : empty.watch.from ≡ 0 = omega arith in
+    let none : settled_of part ≡ not_settled = far_is empty part c.push.ensures.stays ∙ (ap (λ n. at n empty.watch.settled) from ∙ ap (at 0) its.settled) in
+    ap (λ ps. settled_in ps key) (c.push_reserved-2.ensures.items ∙ ap (λ (ps : List KeyPart). ps ++ part ∷ []) c.reserve-2.ensures.items)
+    ∙ far_first parts part none key

@@ -1,15 +1,18 @@
-use Rattle.std.proofs.Common.{◌≡◌, ◌<◌, ◌≤◌, get_or, List, Some, ℕ, length, max, refl, ap, sym, subst, ◌∙◌, arith}
+use Rattle.std.proofs.Common.{◌≡◌, ◌<◌, ◌≤◌, get_or, List, Option, Some, ℕ, length, max, refl, ap, sym, subst, ◌∙◌, arith}
 use Rattle.std.specs.BTreeMap.{get}
 use Rattle.std.specs.List.{All, filter}
 use Rattle.std.specs.Ordering.{nat_cmp}
 use Rattle.fdb_lines.specs.declared.key_part.KeyPart.{KeyPart}
-use Rattle.fdb_lines.specs.KeyWatch.{AreTold, SettlesOrStays}
+use Rattle.fdb_lines.specs.declared.line.Line.{Line}
+use Rattle.fdb_lines.specs.KeyParts.{lines_of_one}
+use Rattle.fdb_lines.specs.KeyWatch.{AreTold, GoesTo, HasSeenByKey, SettlesOrStays, settled_in}
 use Rattle.fdb_lines.specs.private.Keys.{AreNumbered}
 use Rattle.fdb_lines.specs.private.KeyParts.{flag_at, flags_of, AreNext, AreOpen, ArePut}
 use Rattle.fdb_lines.proofs.EntriesTell.{settled_on, told_came}
 use Rattle.fdb_lines.proofs.OnceTold.{told_of_each}
 use Rattle.fdb_lines.proofs.Opened.{open_within, opened_kept}
-use Rattle.fdb_lines.proofs.SettledByKey.{alike_on, entries_on, flags_on, goes_on, keeps_on, names_on, nothing, rest_by_key, seen_on, told_by_key}
+use Rattle.fdb_lines.proofs.HowFar.{far_on}
+use Rattle.fdb_lines.proofs.SettledByKey.{alike_on, entries_on, flags_on, goes_on, keeps_on, names_on, no_entry, nothing, rest_by_key, seen_on, told_by_key}
 use Rattle.fdb_lines.proofs.key_watch.KeyWatch.settle.Goals as goal
 
 pub next_parts-requires : goal.next_parts-requires
@@ -65,19 +68,25 @@ returns c =
     let most : at ≡ max watch.from c.args.at = (let is = c.max-at.ensures in omega arith) in
     let late : watch.from ≤ at = omega arith in
     let are = entries_on at old places nexts entries new given watch.opened next put watch.margin watch.horizon watch.from late watch.alike in
+    let goes = λ (lines : List Line) (keys : List (Option ℕ)) (seen : HasSeenByKey watch lines keys).
+    goes_on at old places nexts entries new given watch.opened next put watch.margin watch.horizon watch.from late watch.alike lines keys
+    (nothing (Some at) old places given watch.opened are lines keys seen.names seen.each)
+    (no_entry (Some at) old places given watch.opened are lines keys seen.names seen.each) in
     record {
       told = λ lines keys seen.
           subst (λ m. AreTold (Some m) lines keys old given) most (told_by_key (Some at) old places given watch.opened are lines keys seen.names seen.each);
       rest = λ lines keys seen i d lt.
           subst (λ m. SettlesOrStays m lines keys given (get_or old i d) (get_or new i d)) most
-          (goes_on at old places nexts entries new given watch.opened next put watch.margin watch.horizon watch.from late watch.alike lines keys
-          (nothing (Some at) old places given watch.opened are lines keys seen.names seen.each) i d lt);
+          (goes lines keys seen i d lt);
+      far = λ lines keys seen key.
+          subst (λ m. GoesTo m (length (lines_of_one lines keys key)) given key (settled_in old key) (settled_in new key)) most
+          (far_on at lines keys given old new key put.as_many seen.names seen.each (goes lines keys seen)
+          (told_by_key (Some at) old places given watch.opened are lines keys seen.names seen.each));
       once = λ lines keys told seen has.
           let tell = told_by_key (Some at) old places given watch.opened are lines keys seen.names seen.each in
           record {
             each = settled_on lines keys seen.as_many old new seen.names seen.each at watch.margin given told tell put.as_many
-                (goes_on at old places nexts entries new given watch.opened next put watch.margin watch.horizon watch.from late watch.alike lines keys
-                (nothing (Some at) old places given watch.opened are lines keys seen.names seen.each))
+                (goes lines keys seen)
                 (λ i d lt. let is = watch.alike i d lt in let low = is.its_from in (is.its_margin, omega arith))
                 (λ i d lt. (alike_on at old places nexts entries new given watch.opened next put watch.margin watch.horizon watch.from late watch.alike i d lt).its_margin)
                 has.each;

@@ -1,0 +1,12 @@
+pub mod RankedCase
+pub mod ByRank
+pub mod InOrder
+pub mod Law
+pub mod ByZones
+pub mod Found
+pub mod Counted
+pub mod ValuesByKey
+pub mod Pushed
+pub mod Fitting
+pub mod Owned
+pub mod Crossing

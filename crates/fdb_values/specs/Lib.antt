@@ -1,0 +1,6 @@
+pub mod ByValue
+pub mod Zones
+pub mod Standings
+pub mod ValuesByKey
+pub mod Fits
+pub mod Owners
