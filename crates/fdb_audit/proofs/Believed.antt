@@ -5,10 +5,9 @@ use Rattle.fdb_lines.specs.declared.line.Line.{Line}
 use Rattle.fdb_lines.specs.Before.{ended}
 use Rattle.fdb_lines.specs.Lines.{same_client}
 use Rattle.fdb_audit.specs.declared.clocks.Clocks.{Clocks}
-use Rattle.fdb_audit.specs.Clocks.{ClocksBefore, ahead_by, ahead_end, ahead_in, ahead_of_end, ahead_with, believed_end, believed_with, count_lines, end_of, end_of_another, floor_of, fold_lines, newer, newest_end, no_clocks, others_end, others_known, others_then, reached, vouched}
+use Rattle.fdb_audit.specs.Clocks.{ClocksBefore, ahead_by, ahead_end, ahead_of_end, ahead_with, believed_end, believed_with, count_lines, end_of, end_of_another, floor_of, fold_lines, newer, newest_end, no_clocks, others_end, others_known, others_then, reached, vouched}
 use Rattle.fdb_audit.specs.Taken.{HasHeard, known_by, others_of}
 use Rattle.fdb_audit.specs.private.Clocks.{Carries, Hears, ahead_of, known_to}
-use Rattle.fdb_audit.specs.private.Followed.{one_more}
 
 -- ---- the newest end of lines
 
@@ -72,10 +71,6 @@ vouched_low client above = by (others_end client above) (others_low client above
     by None low = omega arith
     by (Some end) low = omega (arith, low)
 
-at_most_one : (b : Bool) → cond {A = ℕ} b 1 0 ≤ 1
-at_most_one true = omega arith
-at_most_one false = omega arith
-
 -- ---- one line after another
 
 module _ {S : Type 0} (step : S → List Line → Line → S) where
@@ -103,13 +98,6 @@ module _ {S : Type 0} (step : S → List Line → Line → S) where
         let rest = count_more next (above ++ one ∷ []) lines line in
         let same = ap (λ all. cond {A = ℕ} (test (fold_lines step next (above ++ one ∷ []) lines) all line) 1 0) (append_assoc above (one ∷ []) lines) in
         omega (arith, rest, same)
-
-    count_most : (state : S) (above lines : List Line) → count_lines step test state above lines ≤ length lines
-    count_most state above [] = omega arith
-    count_most state above (line ∷ lines) =
-        let one = at_most_one (test state above line) in
-        let rest = count_most (step state above line) (above ++ line ∷ []) lines in
-        omega (arith, one, rest)
 
 -- ---- what is believed
 
@@ -188,7 +176,7 @@ hears_believed before behind old new above lines line has hears far is =
 
 -- ---- what is ahead
 
-ahead_is : (before : ClocksBefore) (behind ahead : ℕ) (clocks : Clocks) (lines : List Line) (line : Line) → HasHeard before clocks lines → clocks.behind ≡ behind → clocks.ahead ≡ ahead
+pub ahead_is : (before : ClocksBefore) (behind ahead : ℕ) (clocks : Clocks) (lines : List Line) (line : Line) → HasHeard before clocks lines → clocks.behind ≡ behind → clocks.ahead ≡ ahead
     → ahead_of clocks line ≡ ahead_by before behind ahead lines line
 ahead_is before behind ahead clocks lines line has far is =
     ap (λ behind. ahead_of_end behind clocks.ahead (unwrap_or (others_of clocks line.client) 0) (ended line)) far
@@ -205,21 +193,6 @@ hears_ahead before behind old new above lines line has hears far is =
     hears.ahead ∙ (ap (λ n. by n (unwrap_or (others_of old line.client) 0) old.ahead) (ahead_is before behind ahead old all line has far is)
     ∙ (ap (λ end. by (ahead_by before behind ahead all line) (unwrap_or end 0) old.ahead) (has.others line.client)
     ∙ (ap (by (ahead_by before behind ahead all line) others) is ∙ sym (fold_more (ahead_with before behind) before.ahead above lines line))))
-
-one_counted : (b : Bool) (count most : ℕ) → count ≤ most → most + 1 < 2 ^ 64 → one_more b count ≡ count + cond {A = ℕ} b 1 0
-one_counted true count most le few = omega (arith, le, few)
-one_counted false count most le few = omega arith
-
-pub ahead_more : (before : ClocksBefore) (behind count next : ℕ) (clocks : Clocks) (above lines : List Line) (line : Line) → HasHeard before clocks (above ++ lines) → clocks.behind ≡ behind
-    → clocks.ahead ≡ ahead_end before behind above lines → length lines + 1 < 2 ^ 64 → count ≡ ahead_in before behind above lines → next ≡ one_more (nat_lt 0 (ahead_of clocks line)) count
-    → next ≡ ahead_in before behind above (lines ++ line ∷ [])
-ahead_more before behind count next clocks above lines line has far is few was next_is =
-    let test = λ (ahead : ℕ) (above : List Line) (line : Line). nat_lt 0 (ahead_by before behind ahead above line) in
-    let most = count_most (ahead_with before behind) test before.ahead above lines in
-    let more = count_more (ahead_with before behind) test before.ahead above lines line in
-    let same = ap (λ by. cond {A = ℕ} (nat_lt 0 by) 1 0) (ahead_is before behind (ahead_end before behind above lines) clocks (above ++ lines) line has far is) in
-    let one = one_counted (nat_lt 0 (ahead_of clocks line)) count (length lines) (omega (arith, most, was)) few in
-    omega (arith, more, same, one, was, next_is)
 
 -- ---- where a watch goes on
 

@@ -10,7 +10,8 @@ use Rattle.fdb_log_reader.specs.ReadLine.{SaidLine}
 use Rattle.fdb_audit.specs.Following.{Counted, Start, counted_on, lines_since, none_counted, sum_of}
 use Rattle.fdb_audit.specs.Taken.{AreTaken, counted_of}
 use Rattle.fdb_audit.specs.declared.taken_lines.Taking.{Taking}
-use Rattle.fdb_audit.proofs.Following.{counted, since_few}
+use Rattle.fdb_audit.proofs.OddLines.{since_ahead, since_early}
+use Rattle.fdb_audit.proofs.ReadLines.{counted, since_few}
 
 -- each of these has room
 record AreFew (counts : Counted) : Type 0 where
@@ -65,9 +66,11 @@ counted_first start taking read told are =
     let lines = are.counted.lines in
     let all = counted 0 read in
     let refused = ap length are.numbered.above in
-    let early = are.came.most in
+    let early = since_early start read taking.settlings.at in
+    let early_is = are.came.count in
     let judged = are.came.few in
-    let ahead = are.few_ahead in
+    let ahead = since_ahead start read in
+    let ahead_is = are.ahead in
     let kind = λ (is : Kind → Bool). few_kind is (lines_since start read) in
     alone_all (counted_of taking) (record {
       lines = omega (arith, few, since, lines);
@@ -76,7 +79,7 @@ counted_first start taking read told are =
       asks = (let one = kind is_ask in let same = are.counted.asks in omega (arith, few, since, one, same));
       reports = (let one = kind is_report in let same = are.counted.reports in omega (arith, few, since, one, same));
       refused = omega (arith, few, all, refused);
-      early = omega (arith, few, early);
-      judged = omega (arith, few, early, judged);
-      ahead = omega (arith, few, ahead);
+      early = omega (arith, few, early, early_is);
+      judged = omega (arith, few, early, early_is, judged);
+      ahead = omega (arith, few, ahead, ahead_is);
     })

@@ -25,88 +25,17 @@ use Rattle.fdb_audit.specs.declared.taken_lines.Taking.{Taking}
 use Rattle.fdb_audit.specs.Following.{KeptBefore, Start, early_at, keys_taken, last_refused, left_out, lines_before, lines_since, lines_taken, no_line, taken_line, taken, taken_above}
 use Rattle.fdb_audit.specs.Clocks.{believed_end, believed_with, certain_to, out_of_reach}
 use Rattle.fdb_audit.specs.declared.clocks.Clocks.{Clocks}
-use Rattle.fdb_audit.specs.Taken.{AreCounted, AreTaken, HasHeard, HasSettled, IsInReach, kept_by}
-use Rattle.fdb_audit.proofs.KeptTexts.{taken_on}
+use Rattle.fdb_audit.specs.Came.{ahead_lines, ahead_then, early_by, told_when}
+use Rattle.fdb_audit.specs.declared.taken_lines.Settlings.{Settlings}
+use Rattle.fdb_audit.specs.Taken.{AreCounted, AreTaken, HasHeard, HasSettled, HasSettledAt, IsInReach, kept_by}
+use Rattle.fdb_audit.proofs.ReadLines.{above_more, above_same, before_on, counted, keys_more, keys_same, lines_more, lines_same, parted_count, since_few, since_more, since_same, taken_more, taken_same}
 use Rattle.fdb_audit.specs.Warned.{AreEarly}
 use Rattle.fdb_audit.specs.private.Clocks.{ahead_of}
 use Rattle.fdb_audit.specs.private.Followed.{NotesLine, one_more}
 use Rattle.fdb_audit.specs.private.Numbering.{AreTakenLines}
-use Rattle.fdb_audit.proofs.Believed.{ahead_more, count_more, heard_more, hears_ahead, hears_believed}
+use Rattle.fdb_audit.proofs.Believed.{count_more, heard_more, hears_ahead, hears_believed}
+use Rattle.fdb_audit.proofs.OddLines.{early_still, settled_as, settled_at_still, since_left, told_later, told_stays}
 use Rattle.fdb_audit.proofs.Settled.{drop_on, early_push, far_in_all, far_more, in_reach_still, late_more, settled_more, settled_still}
-
--- ---- with one more line
-
-pub taken_more : (read : List (Result SaidLine Why)) (said : SaidLine) → taken (read ++ Ok said ∷ []) ≡ taken read ++ said ∷ []
-taken_more [] said = refl
-taken_more (Ok other ∷ read) said = ap (λ rest. other ∷ rest) (taken_more read said)
-taken_more (Err why ∷ read) said = taken_more read said
-
-pub taken_same : (read : List (Result SaidLine Why)) (why : Why) → taken (read ++ Err why ∷ []) ≡ taken read
-taken_same [] why = refl
-taken_same (Ok other ∷ read) why = ap (λ rest. other ∷ rest) (taken_same read why)
-taken_same (Err other ∷ read) why = taken_same read why
-
-pub lines_more : (read : List (Result SaidLine Why)) (said : SaidLine) → lines_taken (read ++ Ok said ∷ []) ≡ lines_taken read ++ said.line ∷ []
-lines_more read said = ap (map (λ (one : SaidLine). one.line)) (taken_more read said) ∙ map_push (λ (one : SaidLine). one.line) (taken read) said
-
-pub keys_more : (read : List (Result SaidLine Why)) (said : SaidLine) → keys_taken (read ++ Ok said ∷ []) ≡ keys_taken read ++ said.key ∷ []
-keys_more read said = ap (map (λ (one : SaidLine). one.key)) (taken_more read said) ∙ map_push (λ (one : SaidLine). one.key) (taken read) said
-
-pub lines_same : (read : List (Result SaidLine Why)) (why : Why) → lines_taken (read ++ Err why ∷ []) ≡ lines_taken read
-lines_same read why = ap (map (λ (one : SaidLine). one.line)) (taken_same read why)
-
-pub keys_same : (read : List (Result SaidLine Why)) (why : Why) → keys_taken (read ++ Err why ∷ []) ≡ keys_taken read
-keys_same read why = ap (map (λ (one : SaidLine). one.key)) (taken_same read why)
-
-pub above_same : (above : ℕ) (read : List (Result SaidLine Why)) (said : SaidLine) → taken_above above (read ++ Ok said ∷ []) ≡ taken_above above read
-above_same above [] said = refl
-above_same above (Ok other ∷ read) said = above_same (above + 1) read said
-above_same above (Err why ∷ read) said = ap (λ rest. above ∷ rest) (above_same above read said)
-
-pub above_more : (above : ℕ) (read : List (Result SaidLine Why)) (why : Why)
-    → taken_above above (read ++ Err why ∷ []) ≡ taken_above above read ++ (above + length (taken read)) ∷ []
-above_more above [] why = let same : above ≡ above + 0 = omega arith in ap (λ n. n ∷ []) same
-above_more above (Ok other ∷ read) why =
-    let same : (above + 1) + length (taken read) ≡ above + length (other ∷ taken read) = omega arith in
-    above_more (above + 1) read why ∙ ap (λ n. taken_above (above + 1) read ++ n ∷ []) same
-above_more above (Err other ∷ read) why = ap (λ rest. above ∷ rest) (above_more above read why)
-
--- each line is taken or refused
-pub counted : (above : ℕ) (read : List (Result SaidLine Why)) → length read ≡ length (taken read) + length (taken_above above read)
-counted above [] = refl
-counted above (Ok said ∷ read) = let rest = counted (above + 1) read in omega arith
-counted above (Err why ∷ read) = let rest = counted above read in omega arith
-
--- ---- of those that came since, with one more line
-
-since_more : (start : Start) (read : List (Result SaidLine Why)) (said : SaidLine) → start.lines ≤ length read → lines_since start (read ++ Ok said ∷ []) ≡ lines_since start read ++ said.line ∷ []
-since_more start read said le = ap lines_taken (drop_on start.lines read (Ok said ∷ []) le) ∙ lines_more (drop start.lines read) said
-
-since_same : (start : Start) (read : List (Result SaidLine Why)) (why : Why) → start.lines ≤ length read → lines_since start (read ++ Err why ∷ []) ≡ lines_since start read
-since_same start read why le = ap lines_taken (drop_on start.lines read (Err why ∷ []) le) ∙ lines_same (drop start.lines read) why
-
-pub since_few : (start : Start) (read : List (Result SaidLine Why)) → length (lines_since start read) ≤ length read
-since_few start read =
-    let part = drop start.lines read in
-    let one = length-map (taken part) (λ (said : SaidLine). said.line) in
-    let two = counted 0 part in
-    let three = length-drop start.lines read in
-    omega (arith, one, two, three)
-
--- and of those before, which stay
-before_on : (start : Start) (read more : List (Result SaidLine Why)) → start.lines ≤ length read → lines_before start (read ++ more) ≡ lines_before start read
-before_on start read more le = ap lines_taken (take-append-le start.lines read more le)
-
--- both are all
-pub lines_parted : (start : Start) (read : List (Result SaidLine Why)) → lines_before start read ++ lines_since start read ≡ lines_taken read
-lines_parted start read =
-    let line = λ (said : SaidLine). said.line in
-    let front = take start.lines read in
-    let back = drop start.lines read in
-    sym (ap (map line) (taken_on front back) ∙ map-append line (taken front) (taken back)) ∙ ap lines_taken (take-append-drop start.lines read)
-
-pub parted_count : (start : Start) (read : List (Result SaidLine Why)) → length (lines_before start read) + length (lines_since start read) ≡ length (lines_taken read)
-parted_count start read = sym (length-append (lines_before start read) (lines_since start read)) ∙ ap length (lines_parted start read)
 
 -- ---- the last that is refused
 
@@ -220,9 +149,9 @@ early_more least behind newest from began count many low le = by (nat_lt began f
         let one : cond {A = ℕ} (nat_lt began (certain_to least behind newest)) 1 0 ≡ 1 = ap (λ b. cond {A = ℕ} b 1 0) out in
         omega (arith, one, le)
 
-in_reach_more : (start : Start) (old new : Taking) (above since : List Line) (line : Line) → IsInReach start old above since → old.settled ≤ length above + length since → length since + 1 < 2 ^ 64
+in_reach_more : (start : Start) (old new : Taking) (above since : List Line) (line : Line) → IsInReach start old above since → old.settled ≤ length above + length since
     → NotesLine old.watch.from old new line → new.watch.from ≡ old.watch.from → IsInReach start new above (since ++ line ∷ [])
-in_reach_more start old new above since line is come few notes from =
+in_reach_more start old new above since line is come notes from =
     let before = start.clocks in
     let behind = start.behind in
     let low = far_in_all start old above since is.from in
@@ -237,7 +166,6 @@ in_reach_more start old new above since line is come few notes from =
       from = far_more start old new above since line come is.from notes.settled from;
       early = omega (arith, early, more, out);
       ahead_to = hears_ahead before behind old.clocks new.clocks above since line is.heard notes.hears is.behind_is is.ahead_to;
-      ahead = ahead_more before behind old.counts.ahead new.counts.ahead old.clocks above since line is.heard is.behind_is is.ahead_to few is.ahead notes.ahead;
     }
 
 -- which of all a line more is that is taken
@@ -278,15 +206,27 @@ takes_late start old new read said are early =
     let more = late_more start.from old.watch.from (began said.line) old.counts.early (early_at start.from since) 0 low was (omega (arith, most, least, few)) in
     omega (arith, all, push, more, early)
 
+settled_at_more : (start : Start) (old new : Taking) (above since : List Line) (line : Line) → HasSettledAt start old above since → new.settlings ≡ old.settlings → new.watch.from ≡ old.watch.from
+    → HasSettledAt start new above (since ++ line ∷ [])
+settled_at_more start old new above since line is same from =
+    let size = length_push since line in
+    let settled = old.settlings.at in
+    let n = length above + length since in
+    let so : told_when start above (since ++ line ∷ []) settled (length above + length (since ++ line ∷ [])) ≡ told_when start above since settled n =
+    told_stays start above since line settled (length above + length (since ++ line ∷ [])) is.within ∙ told_later start above since settled n (length above + length (since ++ line ∷ [])) is.within (omega (arith, size)) in
+    settled_as start new above (since ++ line ∷ []) settled (ap (λ (settlings : Settlings). settlings.at) same)
+    (λ k d lt. let low = is.within k d lt in omega (arith, low, size))
+    (from ∙ (is.from ∙ sym so))
+
 pub takes : (start : Start) (old new : Taking) (read : List (Result SaidLine Why)) (said : SaidLine) (told : List Found) → AreTaken start old read told
     → old.taken + old.numbering.more + length old.numbering.above.items < 18446744073709551614
     → HasSeenByKey new.watch (lines_taken read ++ said.line ∷ []) (keys_taken read ++ said.key ∷ [])
     → (notes : NotesLine old.watch.from old new said.line) → new.watch.from ≡ old.watch.from
     → (HasTold old.watch (lines_taken read) (keys_taken read) told → old.watch.from ≤ began said.line
     → HasTold new.watch (lines_taken read ++ said.line ∷ []) (keys_taken read ++ said.key ∷ []) told)
-    → AreEarly start.kept.more (read ++ Ok said ∷ []) new.counts.early new.counts.judged new.counts.last_early
+    → AreEarly start (read ++ Ok said ∷ []) new.settlings.at new.counts.early new.counts.judged new.counts.last_early → new.counts.ahead ≡ length (ahead_lines start (read ++ Ok said ∷ []))
     → AreTaken start new (read ++ Ok said ∷ []) told
-takes start old new read said told are room seen notes from tells came =
+takes start old new read said told are room seen notes from tells came ahead =
     let more = read ++ Ok said ∷ [] in
     let all = counted 0 read in
     let above = ap length are.numbered.above in
@@ -315,10 +255,12 @@ takes start old new read said told are room seen notes from tells came =
       reach = subst (λ above. IsInReach start new above (lines_since start more)) (sym (before_on start read (Ok said ∷ []) are.few))
           (subst (IsInReach start new (lines_before start read)) (sym (since_more start read said are.few))
           (in_reach_more start old new (lines_before start read) (lines_since start read) said.line are.reach
-          (let come = are.settled.come in let parts = parted_count start read in omega (arith, come, parts))
-          (let least = since_few start read in omega (arith, least, few)) notes from));
+          (let come = are.settled.come in let parts = parted_count start read in omega (arith, come, parts)) notes from));
+      settled_at = subst (λ above. HasSettledAt start new above (lines_since start more)) (sym (before_on start read (Ok said ∷ []) are.few))
+          (subst (HasSettledAt start new (lines_before start read)) (sym (since_more start read said are.few))
+          (settled_at_more start old new (lines_before start read) (lines_since start read) said.line are.settled_at notes.settlings from));
       came = came;
-      few_ahead = (let was = are.few_ahead in let ahead = notes.ahead in let one = one_at_most (nat_lt 0 (ahead_of old.clocks said.line)) old.counts.ahead in omega (arith, was, ahead, one, size));
+      ahead = ahead;
       once = λ none_before none.
           let is = none_early (nat_lt (began said.line) old.watch.from) old.counts.early (sym early ∙ none) in
           subst (λ lines. HasTold new.watch lines (keys_taken more) told) (sym (lines_more read said))
@@ -345,9 +287,8 @@ pub leaves_out : (start : Start) (old new : Taking) (read : List (Result SaidLin
     → new.watch ≡ old.watch → new.numbering.above.items ≡ old.numbering.above.items ++ old.taken ∷ [] → kept_by new.numbering ≡ kept_by old.numbering
     → new.taken ≡ old.taken → new.counts ≡ old.counts → new.settled ≡ old.settled → new.refused ≡ Some (record { line = number; why = why })
     → number ≡ min (new.taken + new.numbering.more + length new.numbering.above.items) (2 ^ 64 - 1) → new.clocks ≡ old.clocks
-    → AreEarly start.kept.more (read ++ Err why ∷ []) new.counts.early new.counts.judged new.counts.last_early
-    → AreTaken start new (read ++ Err why ∷ []) told
-leaves_out start old new read why told number are room watch above same count counts settled refused is clocks came =
+    → new.settlings ≡ old.settlings → AreTaken start new (read ++ Err why ∷ []) told
+leaves_out start old new read why told number are room watch above same count counts settled refused is clocks settlings =
     let more = read ++ Err why ∷ [] in
     let all = counted 0 read in
     let was_above = ap length are.numbered.above in
@@ -374,8 +315,12 @@ leaves_out start old new read why told number are room watch above same count co
       late = (let was = are.late in let same = ap (λ (counts : Counts). counts.early) counts in let since = ap (early_at start.from) (since_same start read why are.few) in omega (arith, was, same, since));
       settled = subst (HasSettled start new) (sym (lines_same read why))
           (settled_still start old new (lines_taken read) are.settled settled (ap (λ (watch : KeyWatch). watch.from) watch) (ap (λ (counts : Counts). counts.early) counts));
-      came = came;
-      few_ahead = (let was = are.few_ahead in let ahead = ap (λ (counts : Counts). counts.ahead) counts in omega (arith, was, ahead, size));
+      settled_at = subst (λ above. HasSettledAt start new above (lines_since start more)) (sym (before_on start read (Err why ∷ []) are.few))
+          (subst (HasSettledAt start new (lines_before start read)) (sym (since_same start read why are.few))
+          (settled_at_still start old new (lines_before start read) (lines_since start read) are.settled_at settlings (ap (λ (watch : KeyWatch). watch.from) watch)));
+      came = early_still start old new read more are.came settlings counts
+          (λ settled. since_left start read (λ above since. early_by start above since settled) why are.few);
+      ahead = ap (λ (counts : Counts). counts.ahead) counts ∙ (are.ahead ∙ sym (ap length (since_left start read (ahead_then start) why are.few)));
       reach = subst (λ above. IsInReach start new above (lines_since start more)) (sym (before_on start read (Err why ∷ []) are.few))
           (subst (IsInReach start new (lines_before start read)) (sym (since_same start read why are.few))
           (in_reach_still start old new (lines_before start read) (lines_since start read) are.reach clocks (ap (λ (watch : KeyWatch). watch.from) watch) settled counts));

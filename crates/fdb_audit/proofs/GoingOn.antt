@@ -1,7 +1,8 @@
 -- A watch goes on from what it keeps, with what it has counted and told.
 use Rattle.std.specs.Prelude.{◌&&◌}
 use Rattle.std.proofs.lemmas.List.{drop_all, length-append}
-use Rattle.std.proofs.Common.{◌≡◌, ◌∙◌, ◌+◌, ◌≤◌, ◌++◌, ◌∷◌, [], ℕ, Bool, IsPermutation, List, None, Option, Some, Result, ap, append-nil, arith, is_some, length, map, option_map, option_to_list, refl, string_bytes, subst, sym}
+use Rattle.std.proofs.lemmas.List.Elements.{All-nil}
+use Rattle.std.proofs.Common.{◌≡◌, ◌∙◌, ◌+◌, ◌≤◌, ◌++◌, ◌∷◌, [], ℕ, Bool, IsPermutation, List, None, Option, Some, Result, ap, append-nil, arith, drop, is_some, length, map, option_map, option_to_list, refl, string_bytes, subst, sym}
 use Rattle.std.specs.Option.{option_or}
 use Rattle.fdb_lines.specs.declared.fault.Found.{Found}
 use Rattle.fdb_lines.specs.declared.key_watch.KeyWatch.{KeyWatch}
@@ -17,8 +18,10 @@ use Rattle.fdb_log_reader.specs.Reading.{EndsALine, lines_in}
 use Rattle.fdb_audit.specs.Following.{AreInTurn, AreNamed, AreWindows, Before, Counted, Start, Window, counted_on, faults_told, lines_before, lines_since, lines_taken, told_in_all, told_to}
 use Rattle.fdb_audit.specs.GoingOn.{GoesOnBy, MayForget, counted_before, places_staying}
 use Rattle.fdb_audit.specs.Kept.{KeepsLines, KeptSaid, kept_said, lines_kept, start_from, start_of}
+use Rattle.fdb_audit.specs.Came.{ahead_then, early_by, early_lines, last_line}
+use Rattle.fdb_audit.specs.declared.taken_lines.Settlings.{Settlings}
 use Rattle.fdb_audit.specs.Taken.{AreTaken, HasTotals, HasTotalsIn, IsCarried, IsInReach, counted_of, known_by}
-use Rattle.fdb_audit.specs.Watched.{AskForTheSame, HasFollowed, lines_asked, members_asked, names_asked}
+use Rattle.fdb_audit.specs.Watched.{AskForTheSame, HasFollowed, IsAt, lines_asked, members_asked, names_asked}
 use Rattle.fdb_audit.specs.declared.arguments.AuditArguments.{AuditArguments}
 use Rattle.fdb_audit.specs.declared.progress.Carried.{Carried}
 use Rattle.fdb_audit.specs.declared.progress.Counts.{Counts}
@@ -33,7 +36,8 @@ use Rattle.fdb_audit.proofs.Following.{last_on}
 use Rattle.fdb_audit.proofs.Forgotten.{keeps_all}
 use Rattle.fdb_audit.proofs.KeptTexts.{StaysInOne, all_read, ends_so, member_followed}
 use Rattle.fdb_audit.proofs.Believed.{carried_on as heard_on}
-use Rattle.fdb_audit.proofs.SettledOn.{held_else}
+use Rattle.fdb_audit.proofs.SettledOn.{held_else, settled_anew}
+use Rattle.fdb_audit.proofs.Warned.{none_ahead, none_early, none_odd}
 
 -- ---- who asks for the same
 
@@ -101,6 +105,7 @@ module _ (asked other : AuditArguments) (same : AskForTheSame asked other) where
             far = is.far;
             named = is.named;
             in_turn = is.in_turn;
+            at = is.at;
             tells = subst (λ (wanted : Wanted). AreWindows start.kept asked.opts.margin wanted has.read names is.windows text) same.wanted
                 (subst (λ (margin : ℕ). AreWindows start.kept margin other.wanted has.read names is.windows text) margin_same is.tells);
             are = record {
@@ -137,7 +142,6 @@ goes_in_reach begun before old next new some above since none newest many is car
           ahead_to = carries.ahead;
           from = omega (arith, from, moment);
           early = omega (arith, few, early);
-          ahead = ap (λ (counts : Counts). counts.ahead) counts ∙ is.ahead;
         }
 
 -- what a watch has counted is carried to the next
@@ -195,18 +199,22 @@ module _ (asked : AuditArguments) (start : Start) (old next new : Follower) (byt
   -- the next has read what the text keeps, and told nothing
   followed_on : (stays : Option ℕ → Bool)
       → KeepsLines (places_staying stays has.read old.taking) (option_map string_bytes asked.key) (line_names old.reader) start.kept old.taking has.read kept
-      → (restored : HasFollowed asked (start_of asked start.behind kept) next kept []) → restored.telling.windows ≡ [] → next.taking.watch.from ≡ (start_of asked start.behind kept).from
-      → TakesPlace old next new → HasFollowed asked on new kept []
-  followed_on stays keeps restored none moment place =
+      → (restored : HasFollowed asked (start_of asked start.behind kept) next kept []) → restored.telling.windows ≡ [] → next.taking.settlings.at ≡ []
+      → next.taking.watch.from ≡ (start_of asked start.behind kept).from → TakesPlace old next new → HasFollowed asked on new kept []
+  followed_on stays keeps restored none settled moment place =
       let is = restored.telling in
       let begun = start_of asked start.behind kept in
       let read = restored.read in
       let taken : AreTaken begun next.taking read begun.told =
       subst (AreTaken begun next.taking read) (ap (λ (windows : List Window). begun.told ++ told_in_all read windows) none ∙ append-nil begun.told) is.taken in
-      let since : lines_since begun read ≡ [] =
-      ap lines_taken (drop_all begun.lines read
+      let nothing : drop begun.lines read ≡ [] =
+      drop_all begun.lines read
       (let all = ap length (restored.goes []) ∙ length-append read (lines_on next.reader []) in
-      let same = ap (λ text. length (lines_asked asked text)) (append-nil kept) in omega (arith, all, same))) in
+      let same = ap (λ text. length (lines_asked asked text)) (append-nil kept) in omega (arith, all, same)) in
+      let since : lines_since begun read ≡ [] = ap lines_taken nothing in
+      let unsettled : new.taking.settlings.at ≡ [] = ap (λ (settlings : Settlings). settlings.at) place.settlings ∙ settled in
+      let those : early_lines begun read next.taking.settlings.at ≡ [] = none_odd (λ above since. early_by begun above since next.taking.settlings.at) begun read nothing in
+      let no_early : next.taking.counts.early ≡ 0 = taken.came.count ∙ ap length those in
       let tells : AreWindows begun.kept asked.opts.margin asked.wanted read (line_names next.reader).clients [] (string_bytes next.teller.text) =
       subst (λ windows. AreWindows begun.kept asked.opts.margin asked.wanted read (line_names next.reader).clients windows (string_bytes next.teller.text)) none is.tells in
       record {
@@ -221,12 +229,18 @@ module _ (asked : AuditArguments) (start : Start) (old next new : Follower) (byt
               (held_else begun on.clocks on.before next.taking new.taking read begun.told taken
               (goes_in_reach begun on.before old.taking next.taking new.taking _ (lines_before begun read) (lines_since begun read) since refl
               (ap (λ (said : KeptSaid). said.many) keeps.said) taken.reach place.clocks place.watch place.counts moment)
+              (settled_anew on new.taking (lines_before begun read) (lines_since begun read) unsettled (ap (λ (watch : KeyWatch). watch.from) place.watch ∙ moment))
+              (none_early on read new.taking.settlings.at new.taking.counts nothing (ap (λ (counts : Counts). counts.early) place.counts ∙ no_early)
+              (let few = taken.came.few in let same = ap (λ (counts : Counts). counts.judged) place.counts in omega (arith, few, same, no_early))
+              (ap (λ (counts : Counts). counts.last_early) place.counts ∙ (taken.came.last_is ∙ ap (last_line None) those)))
+              (none_ahead on read new.taking.counts.ahead nothing (ap (λ (counts : Counts). counts.ahead) place.counts ∙ (taken.ahead ∙ ap length (none_odd (ahead_then begun) begun read nothing))))
               place.watch place.numbering place.taken place.refused place.counts place.settled);
           margin = ap (λ (watch : KeyWatch). watch.margin) place.watch ∙ is.margin;
           horizon = ap (λ (watch : KeyWatch). watch.horizon) place.watch ∙ is.horizon;
           far = λ key. ap (λ (watch : KeyWatch). settled_in watch.parts.items key) place.watch ∙ (is.far key ∙ ap (λ windows. told_to read begun.far windows key) none);
           named = subst (λ reader. AreNamed (lines_taken read) (line_names reader).clients) (sym place.reader) is.named;
           in_turn = tt;
+          at = All-nil (IsAt on false read new.taking.settlings.at);
           tells = ap string_bytes (ap (λ (teller : Teller). teller.text) place.teller) ∙ tells;
           are = record {
             wanted = ap (λ (teller : Teller). teller.wanted) place.teller ∙ is.are.wanted;
@@ -253,23 +267,23 @@ module _ (asked : AuditArguments) (start : Start) (old next new : Follower) (byt
   pub gone_on : (stays : Option ℕ → Bool) → MayForget asked.forget stays
       → KeepsLines (places_staying stays has.read old.taking) (option_map string_bytes asked.key) (line_names old.reader) start.kept old.taking has.read kept → EndsALine bytes
       → (start_of asked start.behind kept).from ≡ old.taking.watch.from
-      → (restored : HasFollowed asked (start_of asked start.behind kept) next kept []) → restored.telling.windows ≡ [] → next.taking.watch.from ≡ (start_of asked start.behind kept).from
-      → TakesPlace old next new → HasGoneOn asked start new bytes told
-  gone_on stays forgets keeps ends from restored none moment place = (kept, on, goes_on stays forgets keeps ends from, followed_on stays keeps restored none moment place)
+      → (restored : HasFollowed asked (start_of asked start.behind kept) next kept []) → restored.telling.windows ≡ [] → next.taking.settlings.at ≡ []
+      → next.taking.watch.from ≡ (start_of asked start.behind kept).from → TakesPlace old next new → HasGoneOn asked start new bytes told
+  gone_on stays forgets keeps ends from restored none settled moment place = (kept, on, goes_on stays forgets keeps ends from, followed_on stays keeps restored none settled moment place)
 
 -- by one that was restored as this one is asked for
 pub gone_on_by : (asked given : AuditArguments) → AskForTheSame asked given → (start : Start) (old next new : Follower) (bytes told kept : List ℕ) (has : HasFollowed asked start old bytes told) → IsQuiet old
     → (stays : Option ℕ → Bool) → MayForget given.forget stays
     → KeepsLines (places_staying stays has.read old.taking) (option_map string_bytes asked.key) (line_names old.reader) start.kept old.taking has.read kept → EndsALine bytes
-    → (restored : HasFollowed given (start_of given old.behind kept) next kept []) × (restored.telling.windows ≡ []) → next.taking.watch.from ≡ (start_of given old.behind kept).from
+    → (restored : HasFollowed given (start_of given old.behind kept) next kept []) × (restored.telling.windows ≡ []) × (next.taking.settlings.at ≡ []) → next.taking.watch.from ≡ (start_of given old.behind kept).from
     → next.taking.watch.from ≡ old.taking.watch.from → TakesPlace old next new → HasGoneOn asked start new bytes told
 gone_on_by asked given same start old next new bytes told kept has quiet stays forgets keeps ends restored moment still place =
     let begun : start_of given old.behind kept ≡ start_of asked start.behind kept =
     start_same asked given same old.behind kept ∙ ap (λ behind. start_of asked behind kept) has.telling.behind in
-    let (so, none) : (has : HasFollowed given (start_of asked start.behind kept) next kept []) × (has.telling.windows ≡ []) =
-    subst (λ start. (has : HasFollowed given start next kept []) × (has.telling.windows ≡ [])) begun restored in
+    let (so, none, settled) : (has : HasFollowed given (start_of asked start.behind kept) next kept []) × (has.telling.windows ≡ []) × (next.taking.settlings.at ≡ []) =
+    subst (λ start. (has : HasFollowed given start next kept []) × (has.telling.windows ≡ []) × (next.taking.settlings.at ≡ [])) begun restored in
     let (as_asked, windows) = followed_same asked given same (start_of asked start.behind kept) next kept [] so in
-    gone_on asked start old next new bytes told kept has quiet stays (record { unkeyed = forgets.unkeyed; all = λ none. forgets.all (same.forget ∙ none) }) keeps ends (sym (ap (λ (start : Start). start.from) begun) ∙ (sym moment ∙ still)) as_asked (windows ∙ none)
+    gone_on asked start old next new bytes told kept has quiet stays (record { unkeyed = forgets.unkeyed; all = λ none. forgets.all (same.forget ∙ none) }) keeps ends (sym (ap (λ (start : Start). start.from) begun) ∙ (sym moment ∙ still)) as_asked (windows ∙ none) settled
     (moment ∙ ap (λ (start : Start). start.from) begun) place
 
 -- the text that keeps lines keeps those that were read, by the member that has the keys, in whatever order they are named

@@ -1,20 +1,18 @@
 -- What is said of a log that is followed, with what is read next.
 use Rattle.std.proofs.Common.{◌≡◌, ◌∙◌, ◌++◌, ℕ, List, [], Result, ap, Option, append-nil, append_assoc, subst, string_bytes, sym}
-use Rattle.std.specs.Option.{option_or}
 use Rattle.fdb_lines.specs.declared.fault.Found.{Found}
 use Rattle.fdb_log_reader.specs.declared.error.Why.{Why}
 use Rattle.fdb_log_reader.specs.LineReader.{lines_on}
 use Rattle.fdb_log_reader.specs.ReadLine.{SaidLine}
 use Rattle.fdb_audit.specs.declared.arguments.AuditArguments.{AuditArguments}
-use Rattle.fdb_audit.specs.declared.progress.Carried.{Carried}
-use Rattle.fdb_audit.specs.declared.progress.Counts.{Counts}
 use Rattle.fdb_audit.specs.declared.follower.Follower.{Follower}
+use Rattle.fdb_audit.specs.declared.taken_lines.Settlings.{Settlings}
 use Rattle.fdb_audit.specs.declared.taken_lines.Taking.{Taking}
 use Rattle.fdb_audit.specs.Following.{Start}
 use Rattle.fdb_audit.specs.Taken.{AreTaken, HasWarned, IsCarried}
 use Rattle.fdb_audit.specs.Warned.{IsSaid}
 use Rattle.fdb_audit.specs.Watched.{HasSaid, HasSaidAll, lines_asked}
-use Rattle.fdb_audit.specs.private.Followed.{AreEarlyIn, IsUnread, SaysNext, SettlesOn}
+use Rattle.fdb_audit.specs.private.Followed.{IsUnread, SaysNext, SettlesOn}
 
 pub unsaid : (asked : AuditArguments) (start : Start) (follower : Follower) → IsUnread asked start follower → HasSaid asked start follower [] []
 unsaid asked start follower is = record { read = []; goes = is.goes; behind = is.at; carried = is.carried; told = start.told; taken = is.taken; said = is.warned }
@@ -51,10 +49,10 @@ said_next start asked old new settled bytes warned warnings has settles says is 
       carried = subst (IsCarried start.before) (sym carries) has.carried;
       told = has.told ++ more;
       taken = says.taken start has.read (has.told ++ more) taken;
-      said = subst (λ (counts : Counts). IsSaid start has.read counts.early counts.ahead ((warned ++ warnings) ++ string_bytes new.taking.warnings)) (sym (says.counts ∙ settles.counts))
-          (subst (IsSaid start has.read old.taking.counts.early old.taking.counts.ahead)
-          (ap (λ (text : List ℕ). warned ++ text) (sym (is ∙ ap string_bytes settles.warnings)) ∙ (sym (append-nil (warned ++ warnings)) ∙ ap (λ text. (warned ++ warnings) ++ text) (sym says.warnings)))
-          has.said);
+      said = subst (λ (settlings : Settlings). IsSaid start has.read settlings.at ((warned ++ warnings) ++ string_bytes new.taking.warnings)) (sym says.settlings)
+          (subst (IsSaid start has.read settled.settlings.at)
+          (ap (λ (text : List ℕ). warned ++ text) (sym is) ∙ (sym (append-nil (warned ++ warnings)) ∙ ap (λ text. (warned ++ warnings) ++ text) (sym says.warnings)))
+          (settles.said start has.read has.told warned has.taken has.said));
     }
 
 -- with the line that had not ended, or none
@@ -62,22 +60,14 @@ pub said_last : (start : Start) (asked : AuditArguments) (old : Follower) (new :
     → lines_on old.reader [] ≡ further
     → ((read : List (Result SaidLine Why)) (told : List Found) → AreTaken start old.taking read told → AreTaken start new (read ++ further) told)
     → ((read : List (Result SaidLine Why)) (told : List Found) (warned : List ℕ) → AreTaken start old.taking read told → HasWarned start old.taking read warned → HasWarned start new (read ++ further) warned)
-    → HasWarned start new (lines_asked asked bytes) warned × AreEarlyIn start (lines_asked asked bytes) new.counts
+    → (told : List Found) × AreTaken start new (lines_asked asked bytes) told × HasWarned start new (lines_asked asked bytes) warned
 said_last start asked old new bytes warned further has last takes warns =
     let read = has.read in
     let all : read ++ further ≡ lines_asked asked bytes = sym (ap (lines_asked asked) (sym (append-nil bytes)) ∙ (has.goes [] ∙ ap (λ l. read ++ l) last)) in
-    subst (λ read. HasWarned start new read warned × AreEarlyIn start read new.counts) all
-    (warns read has.told warned has.taken has.said, (takes read has.told has.taken).came)
+    (has.told, subst (λ read. AreTaken start new read has.told) all (takes read has.told has.taken), subst (λ read. HasWarned start new read warned) all (warns read has.told warned has.taken has.said))
 
 -- and at the end
-pub said_all : (start : Start) (asked : AuditArguments) (taking : Taking) (before : Carried) (bytes warned warnings : List ℕ) (last : Option ℕ)
-    → HasWarned start taking (lines_asked asked bytes) warned × AreEarlyIn start (lines_asked asked bytes) taking.counts → IsCarried start.before before
-    → warnings ≡ string_bytes taking.warnings → last ≡ option_or taking.counts.last_early before.counts.last_early → HasSaidAll asked start bytes last (warned ++ warnings)
-said_all start asked taking before bytes warned warnings last (was, are) carried is last_is = (
-  taking.counts.early,
-  taking.counts.ahead,
-  taking.counts.last_early,
-  subst (IsSaid start (lines_asked asked bytes) taking.counts.early taking.counts.ahead) (ap (λ text. warned ++ text) (sym is)) was,
-  are.some,
-  last_is ∙ ap (option_or taking.counts.last_early) carried.last_early,
-)
+pub said_all : (start : Start) (asked : AuditArguments) (taking : Taking) (settled : List ℕ) (bytes warned warnings : List ℕ) → HasWarned start taking (lines_asked asked bytes) warned
+    → warnings ≡ string_bytes taking.warnings → settled ≡ taking.settlings.at → HasSaidAll asked start bytes settled (warned ++ warnings)
+said_all start asked taking settled bytes warned warnings was is same =
+    subst (λ at. IsSaid start (lines_asked asked bytes) at (warned ++ warnings)) (sym same) (subst (IsSaid start (lines_asked asked bytes) taking.settlings.at) (ap (λ text. warned ++ text) (sym is)) was)

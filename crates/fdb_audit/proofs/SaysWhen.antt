@@ -28,7 +28,7 @@ use Rattle.fdb_audit.specs.Kept.{KeptSaid, Keeps, Rise, named_at, start_of}
 use Rattle.fdb_audit.specs.Taken.{AreTaken}
 use Rattle.fdb_audit.specs.Watched.{lines_asked, names_asked}
 use Rattle.fdb_audit.proofs.Calls.{IsCall, calls_asked}
-use Rattle.fdb_audit.proofs.Following.{counted}
+use Rattle.fdb_audit.proofs.ReadLines.{counted}
 use Rattle.fdb_audit.proofs.Believed.{believed_low}
 use Rattle.fdb_audit.proofs.KeptSome.{one_ended, one_kept}
 use Rattle.fdb_audit.proofs.KeptTexts.{as_many, drop_mapped, none_at}

@@ -128,5 +128,4 @@ in_reach_still start old new above since was clocks from settled counts =
       ahead_to = ap (λ (clocks : Clocks). clocks.ahead) clocks ∙ was.ahead_to;
       from = omega (arith, low, from, part);
       early = omega (arith, few, early);
-      ahead = ap (λ (counts : Counts). counts.ahead) counts ∙ was.ahead;
     }

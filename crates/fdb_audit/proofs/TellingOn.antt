@@ -1,7 +1,7 @@
 -- What a follower has told stays told while it reads on, and what it tells next comes behind it.
-use Rattle.std.proofs.Common.{◌≡◌, ◌≢◌, ◌∙◌, ◌<◌, ◌≤◌, ℕ, List, [], ◌++◌, Bool, false, IsPermutation, ap, append-nil, append_assoc, arith, is_some, true, length, not, refl, string_bytes, subst, sym, ◌&&◌, None, Option, Result, Some}
+use Rattle.std.proofs.Common.{◌≡◌, ◌≢◌, ◌∙◌, ◌<◌, ◌≤◌, ℕ, List, [], ◌∷◌, ◌++◌, Bool, false, IsPermutation, ap, append-nil, append_assoc, arith, is_some, true, length, not, refl, string_bytes, subst, sym, ◌&&◌, None, Option, Result, Some}
 use Rattle.std.specs.Prelude.{IfSome}
-use Rattle.std.specs.List.{AllPairs}
+use Rattle.std.specs.List.{All, AllPairs}
 use Rattle.std.specs.Option.{option_or}
 use Rattle.std.proofs.lemmas.List.Elements.{All-nil}
 use Rattle.fdb_lines.specs.declared.fault.Found.{Found}
@@ -20,10 +20,13 @@ use Rattle.fdb_audit.specs.declared.arguments.AuditArguments.{AuditArguments}
 use Rattle.fdb_audit.specs.declared.printer.LogFault.{LogFault}
 use Rattle.fdb_audit.specs.declared.follower.Follower.{Follower}
 use Rattle.fdb_audit.specs.declared.teller.Teller.{Teller}
-use Rattle.fdb_audit.specs.Following.{AreNamed, AreWindows, Before, Counted, FollowArguments, IsCounted, IsEnd, Start, Window, ahead_since, certain_in, counted_on, early_at, faults_told, first_told, keys_taken, lines_since, lines_taken, out_of_reach_in, told_in_all, told_to}
-use Rattle.fdb_audit.specs.Watched.{HasFollowed, HasToldAll, IsComplete, IsFollowed, IsTelling, IsTellerOf, followed_by, lines_asked, members_asked, names_asked}
+use Rattle.fdb_audit.specs.Following.{AreNamed, AreWindows, Before, Counted, FollowArguments, IsCounted, IsEnd, Start, Window, certain_in, counted_on, early_at, faults_told, first_told, keys_taken, lines_since, lines_taken, out_of_reach_in, told_in_all, told_to}
+use Rattle.fdb_audit.specs.Watched.{HasFollowed, HasToldAll, IsAt, IsComplete, IsFollowed, IsTelling, IsTellerOf, followed_by, lines_asked, members_asked, names_asked}
 use Rattle.fdb_audit.specs.private.Followed.{AreTaken, HasTotals, IsCarried, IsUnread, StaysAsFar, TellsOn, counted_in, counted_of, told_with}
-use Rattle.fdb_audit.specs.Warned.{AreEarly}
+use Rattle.fdb_audit.specs.Came.{ahead_lines}
+use Rattle.fdb_audit.specs.declared.taken_lines.Settlings.{Settlings}
+use Rattle.fdb_audit.proofs.AtSettlings.{at_end, at_now, at_stays}
+use Rattle.fdb_audit.proofs.OddLines.{early_still}
 use Rattle.fdb_audit.proofs.InTurn.{far_now, in_turn_stays, keys_apart, named_on, to_on, to_stays, turns_on}
 use Rattle.fdb_audit.proofs.Windows.{first_on, faults_on as all_faults_on, faults_stay, first_stays, told_on, told_stays, windows_on, windows_stay, windows_within}
 
@@ -44,6 +47,7 @@ unread asked start follower is = record {
     named = All-nil (λ (line : Line). IfSome line.client (λ client. client < length (line_names follower.reader).clients));
     tells = is.text;
     in_turn = tt;
+    at = All-nil (IsAt start false [] follower.taking.settlings.at);
     are = is.are;
   };
 }
@@ -53,8 +57,9 @@ pub takes_on : (start : Start) (asked : AuditArguments) (old new : Follower) (re
     → AreMore (line_names old.reader) (line_names new.reader)
     → AreNamed (lines_taken further) (line_names new.reader).clients
     → ((told : List Found) → AreTaken start old.taking read told → AreTaken start new.taking (read ++ further) told) → StaysAsFar old.taking.watch new.taking.watch
-    → new.taking.watch.margin ≡ old.taking.watch.margin → new.teller ≡ old.teller → new.behind ≡ old.behind → new.before ≡ old.before → IsTelling asked start new (read ++ further) told
-takes_on start asked old new read further told has more named takes stays margin teller behind before =
+    → new.taking.watch.margin ≡ old.taking.watch.margin → new.taking.settlings ≡ old.taking.settlings → new.teller ≡ old.teller → new.behind ≡ old.behind → new.before ≡ old.before
+    → IsTelling asked start new (read ++ further) told
+takes_on start asked old new read further told has more named takes stays margin settlings teller behind before =
     let margin_asked = asked.opts.margin in
     let names = (line_names old.reader).clients in
     let text = told ++ string_bytes old.teller.text in
@@ -70,6 +75,8 @@ takes_on start asked old new read further told has more named takes stays margin
       far = λ key. stays.far key ∙ (has.far key ∙ ap (λ (far : Option ℕ → SettledTo). far key) (sym (to_stays read further start.far windows within)));
       named = named_on read further names (line_names new.reader).clients has.named more.0 named;
       in_turn = in_turn_stays start.behind read further start.far windows within has.in_turn;
+      at = subst (λ (settlings : Settlings). All (IsAt start false (read ++ further) settlings.at) windows) (sym settlings)
+          (at_stays start read further old.taking.settlings.at windows has.taken.few within has.at);
       tells = subst (λ teller. AreWindows start.kept margin_asked asked.wanted (read ++ further) (line_names new.reader).clients windows (told ++ string_bytes teller.text)) (sym teller)
           (windows_stay start.kept margin_asked asked.wanted read further names (line_names new.reader).clients windows text has.tells more.0);
       are = subst (λ teller. IsTellerOf asked start teller (read ++ further) windows) (sym teller) (record {
@@ -87,16 +94,16 @@ pub fed : (start : Start) (asked : AuditArguments) (old new : Follower) (before 
     → ((text : List ℕ) → names_on old.reader (bytes ++ text) ≡ names_on new.reader text)
     → AreMore (line_names old.reader) (line_names new.reader) → AreNamed (lines_taken further) (line_names new.reader).clients
     → ((read : List (Result SaidLine Why)) (told : List Found) → AreTaken start old.taking read told → AreTaken start new.taking (read ++ further) told) → StaysAsFar old.taking.watch new.taking.watch
-    → new.taking.watch.margin ≡ old.taking.watch.margin → new.teller ≡ old.teller → new.behind ≡ old.behind → new.before ≡ old.before
+    → new.taking.watch.margin ≡ old.taking.watch.margin → new.taking.settlings ≡ old.taking.settlings → new.teller ≡ old.teller → new.behind ≡ old.behind → new.before ≡ old.before
     → HasFollowed asked start new (before ++ bytes) told
-fed start asked old new before bytes told further has goes behind more named takes stays margin teller far carries =
+fed start asked old new before bytes told further has goes behind more named takes stays margin settlings teller far carries =
     let read = has.read in
     record {
       read = read ++ further;
       goes = λ text. ap (lines_asked asked) (append_assoc before bytes text)
           ∙ (has.goes (bytes ++ text) ∙ (ap (λ l. read ++ l) (goes text) ∙ sym (append_assoc read further (lines_on new.reader text))));
       behind = λ text. ap (names_asked asked) (append_assoc before bytes text) ∙ (has.behind (bytes ++ text) ∙ behind text);
-      telling = takes_on start asked old new read further told has.telling more named (takes read) stays margin teller far carries;
+      telling = takes_on start asked old new read further told has.telling more named (takes read) stays margin settlings teller far carries;
     }
 
 -- with lines that were kept, the first of all
@@ -123,6 +130,7 @@ fed_first before start asked old new bytes lines is far numbers same goes behind
       far = so_far;
       named = named;
       in_turn = tt;
+      at = All-nil (IsAt start false lines new.taking.settlings.at);
       tells = ap (λ (teller : Teller). string_bytes teller.text) teller ∙ is.text;
       are = subst (λ teller. IsTellerOf asked start teller lines []) (sym teller)
           (record {
@@ -141,12 +149,12 @@ fed_first before start asked old new bytes lines is far numbers same goes behind
 pub ended : (start : Start) (asked : AuditArguments) (old new : Follower) (bytes told : List ℕ) (further : List (Result SaidLine Why)) → HasFollowed asked start old bytes told
     → lines_on old.reader [] ≡ further → AreMore (line_names old.reader) (line_names new.reader) → AreNamed (lines_taken further) (line_names new.reader).clients
     → ((read : List (Result SaidLine Why)) (told : List Found) → AreTaken start old.taking read told → AreTaken start new.taking (read ++ further) told) → StaysAsFar old.taking.watch new.taking.watch
-    → new.taking.watch.margin ≡ old.taking.watch.margin → new.teller ≡ old.teller → new.behind ≡ old.behind → new.before ≡ old.before
+    → new.taking.watch.margin ≡ old.taking.watch.margin → new.taking.settlings ≡ old.taking.settlings → new.teller ≡ old.teller → new.behind ≡ old.behind → new.before ≡ old.before
     → IsTelling asked start new (lines_asked asked bytes) told
-ended start asked old new bytes told further has last more named takes stays margin teller far carries =
+ended start asked old new bytes told further has last more named takes stays margin settlings teller far carries =
     let read = has.read in
     let all : read ++ further ≡ lines_asked asked bytes = sym (ap (lines_asked asked) (sym (append-nil bytes)) ∙ (has.goes [] ∙ ap (λ l. read ++ l) last)) in
-    subst (λ read. IsTelling asked start new read told) all (takes_on start asked old new read further told has.telling more named (takes read) stays margin teller far carries)
+    subst (λ read. IsTelling asked start new read told) all (takes_on start asked old new read further told has.telling more named (takes read) stays margin settlings teller far carries)
 
 -- with what is told more
 tells_on : (start : Start) (asked : AuditArguments) (old : Follower) (new : Teller) (read : List (Result SaidLine Why)) (far : Option ℕ → SettledTo) (to : Option ℕ) (told : List ℕ) (windows : List Window)
@@ -196,9 +204,9 @@ pub settled : (start : Start) (asked : AuditArguments) (old new : Follower) (rea
     → ((key : Option ℕ) → GoesTo to (length (lines_of_one (lines_taken read) (keys_taken read) key)) entries key (settled_in old.taking.watch.parts.items key) (settled_in new.taking.watch.parts.items key))
     → AllPairs (λ (one other : SettledKey). one.key ≢ other.key) entries
     → TellsOn start.kept old.teller new.teller asked.opts.margin start.behind read (line_names old.reader).clients (settled_in old.taking.watch.parts.items) (Some to) entries
-    → new.behind ≡ old.behind → new.before ≡ old.before
+    → new.behind ≡ old.behind → new.before ≡ old.before → new.taking.settlings.at ≡ old.taking.taken ∷ old.taking.settlings.at → to ≡ certain_in start read
     → IsTelling asked start new read told
-settled start asked old new read to told entries is reader takes margin horizon goes once more behind before =
+settled start asked old new read to told entries is reader takes margin horizon goes once more behind before settlings certain =
     let names = (line_names old.reader).clients in
     let far = settled_in old.taking.watch.parts.items in
     let within = windows_within start.kept asked.opts.margin asked.wanted read names is.windows (told ++ string_bytes old.teller.text) is.tells in
@@ -216,6 +224,8 @@ settled start asked old new read to told entries is reader takes margin horizon 
       tells = subst (λ reader. AreWindows start.kept asked.opts.margin asked.wanted read (line_names reader).clients (is.windows ++ more.windows) (told ++ string_bytes new.teller.text)) (sym reader)
           (tells_on start asked old new.teller read far (Some to) told is.windows entries is.tells more is.are.wanted);
       in_turn = turns_on start.behind read names (Some to) start.far far is.windows more.windows is.in_turn within is.named is.far more.each (keys_apart entries more.windows more.keys once);
+      at = subst (λ at. All (IsAt start false read at) (is.windows ++ more.windows)) (sym settlings)
+          (at_now start read old.taking.settlings.at old.taking.taken to start.behind names far is.windows more.windows is.taken.count certain is.at more.each);
       are = are_on start asked old.teller new.teller asked.opts.margin read names far (Some to) is.windows entries is.are more;
     }
 
@@ -238,8 +248,8 @@ early_for start old read are new counts =
     omega (arith, le, same)
 
 ahead_for : (start : Start) (old : Follower) (read : List (Result SaidLine Why)) {told : List Found} → AreTaken start old.taking read told → (new : Follower)
-    → new.taking.counts ≡ old.taking.counts → new.taking.counts.ahead ≡ ahead_since start read
-ahead_for start old read are new counts = ap (λ (counts : Counts). counts.ahead) counts ∙ are.reach.ahead
+    → new.taking.counts ≡ old.taking.counts → new.taking.counts.ahead ≡ length (ahead_lines start read)
+ahead_for start old read are new counts = ap (λ (counts : Counts). counts.ahead) counts ∙ are.ahead
 
 late_for : (start : Start) (old : Follower) (read : List (Result SaidLine Why)) {told : List Found} → AreTaken start old.taking read told → (new : Follower)
     → new.taking.counts ≡ old.taking.counts → early_at start.from (lines_since start read) ≤ new.taking.counts.early
@@ -249,13 +259,13 @@ late_for start old read are new counts =
     omega (arith, le, same)
 
 -- and when it settles for good
-pub settled_all : (start : Start) (asked : AuditArguments) (ends : Bool) (old new : Follower) (read : List (Result SaidLine Why)) (told : List ℕ) (entries : List SettledKey) → (is : IsTelling asked start old read told)
+pub settled_all : (start : Start) (asked : AuditArguments) (old new : Follower) (read : List (Result SaidLine Why)) (told : List ℕ) (entries : List SettledKey) → (is : IsTelling asked start old read told)
     → new.reader ≡ old.reader → AllPairs (λ (one other : SettledKey). one.key ≢ other.key) entries
     → TellsOn start.kept old.teller new.teller asked.opts.margin start.behind read (line_names old.reader).clients (settled_in old.taking.watch.parts.items) None entries → new.behind ≡ old.behind → new.before ≡ old.before
-    → new.taking.counts ≡ old.taking.counts → new.taking.numbering ≡ old.taking.numbering
-    → (start.early ≡ 0 → old.taking.counts.early ≡ 0 → IsComplete ends asked.opts.margin start read ((start.told ++ told_in_all read is.windows) ++ told_by_all entries))
-    → HasToldAll asked start ends new read told
-settled_all start asked ends old new read told entries is reader once more behind before counts numbering whole =
+    → new.taking.counts ≡ old.taking.counts → new.taking.numbering ≡ old.taking.numbering → new.taking.settlings ≡ old.taking.settlings
+    → (start.early ≡ 0 → old.taking.counts.early ≡ 0 → IsComplete true asked.opts.margin start read ((start.told ++ told_in_all read is.windows) ++ told_by_all entries))
+    → HasToldAll asked start true new read told
+settled_all start asked old new read told entries is reader once more behind before counts numbering settlings whole =
     let names = (line_names old.reader).clients in
     let far = settled_in old.taking.watch.parts.items in
     let within = windows_within start.kept asked.opts.margin asked.wanted read names is.windows (told ++ string_bytes old.teller.text) is.tells in
@@ -271,9 +281,11 @@ settled_all start asked ends old new read told entries is reader once more behin
       before = is.taken.before;
       early = early_for start old read is.taken new counts;
       ahead = ahead_for start old read is.taken new counts;
-      came = subst (λ (counts : Counts). AreEarly start.kept.more read counts.early counts.judged counts.last_early) (sym counts) is.taken.came;
+      came = early_still start old.taking new.taking read read is.taken.came settlings counts (λ settled. refl);
+      at = subst (λ (settlings : Settlings). All (IsAt start true read settlings.at) (is.windows ++ more.windows)) (sym settlings)
+          (at_end start read old.taking.settlings.at start.behind names far is.windows more.windows is.at more.each);
       late = late_for start old read is.taken new counts;
-      whole = λ none_before none. subst (IsComplete ends asked.opts.margin start read) (faults_on start old.teller new.teller asked.opts.margin read names far None is.windows entries more)
+      whole = λ none_before none. subst (IsComplete true asked.opts.margin start read) (faults_on start old.teller new.teller asked.opts.margin read names far None is.windows entries more)
           (whole none_before (sym (ap (λ (counts : Counts). counts.early) counts) ∙ none));
     }
 
@@ -301,6 +313,7 @@ told_so_far start asked old read told is to each_once = (
     before = is.taken.before;
     early = early_for start old read is.taken old refl;
     ahead = ahead_for start old read is.taken old refl;
+    at = is.at;
     came = is.taken.came;
     late = late_for start old read is.taken old refl;
   },
@@ -323,6 +336,7 @@ pub all_told : (asked : AuditArguments) (start : Start) (ends : Bool) (last : Fo
     → IsEnd (not (is_some last.teller.first) && not last.teller.wanted.json) last.teller.wanted.totals last.teller.wanted.json all (told_with last.behind last.teller (members_asked asked))
     (start.before.told ++ faults_told (lines_asked asked bytes) is.windows) end
     → (followed : IsFollowed asked start ends bytes (told ++ text) found last_early) × (followed.windows ≡ is.windows) × (followed.counts ≡ counted_of last.taking)
+    × (followed.settled ≡ last.taking.settlings.at)
 all_told asked start ends last bytes told text end all found last_early is names texts first counts early end_is =
     let read = lines_asked asked bytes in
     let faults = start.before.told ++ faults_told read is.windows in
@@ -349,11 +363,14 @@ all_told asked start ends last bytes told text end all found last_early is names
         before = is.before;
         early = is.early;
         ahead = is.ahead;
+        settled = last.taking.settlings.at;
+        at = is.at;
         last = last.taking.counts.last_early;
         came = is.came;
         last_is = early ∙ ap (option_or last.taking.counts.last_early) is.carried.last_early;
         late = is.late;
       },
+      refl,
       refl,
       refl,
     )

@@ -114,7 +114,3 @@ ahead_with before behind ahead above line = if nat_lt 0 (ahead_by before behind 
 -- and with all of some lines
 abbrev pub ahead_end : ClocksBefore → ℕ → (above lines : List Line) → ℕ
 ahead_end before behind above lines = fold_lines (ahead_with before behind) before.ahead above lines
-
--- how many ends were found to be ahead: of so many lines others above them were
-abbrev pub ahead_in : ClocksBefore → ℕ → (above lines : List Line) → ℕ
-ahead_in before behind above lines = count_lines (ahead_with before behind) (λ ahead above line. nat_lt 0 (ahead_by before behind ahead above line)) before.ahead above lines

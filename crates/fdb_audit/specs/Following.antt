@@ -20,7 +20,7 @@ use Rattle.fdb_log_reader.specs.declared.error.Why.TheVariants.{Empty}
 use Rattle.fdb_log_reader.specs.Numbers.{IsMore}
 use Rattle.fdb_log_reader.specs.Printed.{printed}
 use Rattle.fdb_log_reader.specs.ReadLine.{SaidLine}
-use Rattle.fdb_audit.specs.Clocks.{ClocksBefore, ahead_in, believed_end, certain_to, no_clocks, out_of_reach}
+use Rattle.fdb_audit.specs.Clocks.{ClocksBefore, believed_end, certain_to, no_clocks, out_of_reach}
 use Rattle.fdb_audit.specs.Figures.{Figure, figure, figures_words}
 use Rattle.fdb_audit.specs.Judged.{list_text}
 use Rattle.fdb_audit.specs.Objects.{total_object}
@@ -145,10 +145,6 @@ certain_in start read = certain_to start.from start.behind (believed_end start.c
 -- how many of those that came since began before that when they came
 abbrev pub out_of_reach_in : Start → List (Result SaidLine Why) → ℕ
 out_of_reach_in start read = out_of_reach start.clocks start.from start.behind (lines_before start read) (lines_since start read)
-
--- and of how many of them others were ahead
-abbrev pub ahead_since : Start → List (Result SaidLine Why) → ℕ
-ahead_since start read = ahead_in start.clocks start.behind (lines_before start read) (lines_since start read)
 
 -- nothing had been read
 pub record IsAnew (start : Start) : Type 0 where

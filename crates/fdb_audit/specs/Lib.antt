@@ -8,6 +8,7 @@ pub mod ToldFaults
 pub mod Judged
 pub mod Clocks
 pub mod Following
+pub mod Came
 pub mod Warned
 pub mod Tallied
 pub mod Taken

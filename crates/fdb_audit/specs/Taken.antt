@@ -19,7 +19,8 @@ use Rattle.fdb_audit.specs.Tallied.{HasKinds, HasTexts, HasTextsIn}
 use Rattle.fdb_audit.specs.ToldFaults.{ToldFault, client_of}
 use Rattle.fdb_audit.specs.Warned.{AreEarly, IsSaid}
 use Rattle.fdb_audit.specs.Following.{Before, Counted, KeptBefore, Start, early_at, keys_taken, last_refused, lines_before, lines_since, lines_taken, taken, taken_above}
-use Rattle.fdb_audit.specs.Clocks.{ClocksBefore, ahead_end, ahead_in, believed_end, certain_to, newest_end, others_known, out_of_reach}
+use Rattle.fdb_audit.specs.Came.{ahead_lines, told_when}
+use Rattle.fdb_audit.specs.Clocks.{ClocksBefore, ahead_end, believed_end, certain_to, newest_end, others_known, out_of_reach}
 use Rattle.fdb_audit.specs.declared.clocks.Clocks.{Clocks}
 use Rattle.fdb_audit.specs.declared.clocks.Leader.{Leader}
 
@@ -74,7 +75,11 @@ pub record IsInReach (start : Start) (taking : Taking) (above since : List Line)
   pub ahead_to : taking.clocks.ahead ≡ ahead_end start.clocks start.behind above since
   pub from : taking.watch.from ≤ certain_to start.from start.behind (believed_end start.clocks start.behind above (take (taking.settled - length above) since))
   pub early : taking.counts.early ≤ out_of_reach start.clocks start.from start.behind above since
-  pub ahead : taking.counts.ahead ≡ ahead_in start.clocks start.behind above since
+
+-- It has settled each time that so many lines had been taken, and up to when all might be told then.
+pub record HasSettledAt (start : Start) (taking : Taking) (above since : List Line) : Type 0 where
+  pub within : All (λ at. at ≤ length above + length since) taking.settlings.at
+  pub from : taking.watch.from ≡ told_when start above since taking.settlings.at (length above + length since)
 
 -- So many lines had come when it settled last; of those that came since no more began before that than came early.
 pub record HasSettled (start : Start) (taking : Taking) (lines : List Line) : Type 0 where
@@ -96,13 +101,14 @@ pub record AreTaken (start : Start) (taking : Taking) (read : List (Result SaidL
   pub late : early_at start.from (lines_since start read) ≤ taking.counts.early
   pub settled : HasSettled start taking (lines_taken read)
   pub reach : IsInReach start taking (lines_before start read) (lines_since start read)
-  pub came : AreEarly start.kept.more read taking.counts.early taking.counts.judged taking.counts.last_early
-  pub few_ahead : taking.counts.ahead ≤ length read
+  pub settled_at : HasSettledAt start taking (lines_before start read) (lines_since start read)
+  pub came : AreEarly start read taking.settlings.at taking.counts.early taking.counts.judged taking.counts.last_early
+  pub ahead : taking.counts.ahead ≡ length (ahead_lines start read)
   pub once : start.early ≡ 0 → taking.counts.early ≡ 0 → HasTold taking.watch (lines_taken read) (keys_taken read) told
 
 -- This was said on standard error of those that came since, but for what is said next.
 abbrev pub HasWarned : Start → Taking → List (Result SaidLine Why) → List ℕ → Type 0
-HasWarned start taking read warned = IsSaid start read taking.counts.early taking.counts.ahead (warned ++ string_bytes taking.warnings)
+HasWarned start taking read warned = IsSaid start read taking.settlings.at (warned ++ string_bytes taking.warnings)
 
 -- These faults are counted: in all, by their clients, and by what was printed of these members.
 pub record HasCounted (members : List (List ℕ)) (faults : ToldFaults) (told : List ToldFault) : Type 0 where

@@ -17,6 +17,7 @@ use Rattle.fdb_audit.specs.declared.refusal.Warning.{Warning}
 use Rattle.fdb_audit.specs.declared.refusal.Warning.TheVariants.{Refused, Ahead}
 use Rattle.fdb_audit.specs.declared.refusal.Warning.TheVariants.{Early as Of_early}
 use Rattle.fdb_audit.specs.Following.{Start}
+use Rattle.fdb_audit.specs.Came.{ahead_lines, early_lines, last_line}
 use Rattle.fdb_audit.specs.Text.{line}
 
 -- ---- why a line, or what was kept, is refused
@@ -103,33 +104,24 @@ as_ahead (Refused error) = None
 as_ahead (Of_early it) = None
 as_ahead (Ahead it) = Some it
 
--- this line, counted from 1, was taken, where so many more were read
-abbrev pub IsTakenLine : ℕ → List (Result SaidLine Why) → ℕ → Type 0
-IsTakenLine more read line = (place : ℕ) × (said : SaidLine) × (slice_get read place ≡ Some (Ok said)) × (line ≡ more + place + 1)
-
--- How many lines came early, how many of these were judged, and the last.
-pub record AreEarly (more : ℕ) (read : List (Result SaidLine Why)) (early judged : ℕ) (last : Option ℕ) : Type 0 where
+-- How many lines came early of those that came since, how many of these were judged, and the last, where it settled when so many had
+-- been taken.
+pub record AreEarly (start : Start) (read : List (Result SaidLine Why)) (settled : List ℕ) (early judged : ℕ) (last : Option ℕ) : Type 0 where
+  pub count : early ≡ length (early_lines start read settled)
   pub few : judged ≤ early
-  pub most : early ≤ length read
-  pub some : is_some last ≡ nat_lt 0 early
-  pub taken : IfSome last (IsTakenLine more read)
+  pub last_is : last ≡ last_line None (early_lines start read settled)
 
--- Of so many lines that were counted the first, second, fourth and so on are told, each by more than 0.
-pub record AreDoubled (more : ℕ) (read : List (Result SaidLine Why)) (count : ℕ) (told : List CountedLine) : Type 0 where
-  pub counts : map (λ (it : CountedLine). it.count) told ≡ filter is_power_of_two (range_with_len 1 count)
-  pub taken : All (λ (it : CountedLine). IsTakenLine more read it.line × (0 < it.by)) told
+-- of lines that are counted the first, second, fourth and so on are told
+abbrev pub doubled : List CountedLine → List CountedLine
+doubled lines = filter (λ (it : CountedLine). is_power_of_two it.count) lines
 
--- What is said of lines that were read, of which so many came early, and so many were ahead: of each that is refused, in their order,
--- and of the first, second, fourth and so on that came early, or was ahead.
-pub record AreWarnings (more : ℕ) (read : List (Result SaidLine Why)) (early ahead : ℕ) (warnings : List Warning) : Type 0 where
-  pub refused : filter_map as_refused warnings ≡ all_refused (more + 1) read
-  pub early_are : AreDoubled more read early (filter_map as_early warnings)
-  pub ahead_are : AreDoubled more read ahead (filter_map as_ahead warnings)
+-- What is said of the lines that came since: of each that is refused, in their order; and of the first, second, fourth and so on that
+-- came early, or of which others were ahead, with how long before what had been told it began, or by how much they were.
+pub record AreWarnings (start : Start) (read : List (Result SaidLine Why)) (settled : List ℕ) (warnings : List Warning) : Type 0 where
+  pub refused : filter_map as_refused warnings ≡ all_refused (start.kept.more + start.lines + 1) (drop start.lines read)
+  pub early_are : filter_map as_early warnings ≡ doubled (early_lines start read settled)
+  pub ahead_are : filter_map as_ahead warnings ≡ doubled (ahead_lines start read)
 
 -- and this is their text
-abbrev pub IsWarned : ℕ → List (Result SaidLine Why) → (early ahead : ℕ) → List ℕ → Type 0
-IsWarned more read early ahead text = (warnings : List Warning) × AreWarnings more read early ahead warnings × (text ≡ flat_map warning_line warnings)
-
--- of a log that is followed on it is said of the lines that came since
-abbrev pub IsSaid : Start → List (Result SaidLine Why) → (early ahead : ℕ) → List ℕ → Type 0
-IsSaid start read early ahead text = IsWarned (start.kept.more + start.lines) (drop start.lines read) early ahead text
+abbrev pub IsSaid : Start → List (Result SaidLine Why) → (settled : List ℕ) → List ℕ → Type 0
+IsSaid start read settled text = (warnings : List Warning) × AreWarnings start read settled warnings × (text ≡ flat_map warning_line warnings)

@@ -1,5 +1,6 @@
 -- What has been told of a text whose log is followed. (this product's own)
-use Rattle.std.specs.Prelude.{◌≡◌, ℕ, ◌<◌, ◌≤◌, ◌&&◌, ◌++◌, Bool, true, false, not, All, IsPermutation, List, Option, is_some, map, nat_lt, option_map, option_to_list, string_bytes, Result}
+use Rattle.std.specs.Prelude.{◌≡◌, ℕ, ◌<◌, ◌≤◌, ◌&&◌, ◌++◌, Bool, true, false, not, All, IfSome, IsPermutation, List, None, Option, is_some, length, map, take, nat_lt, option_map, option_to_list, string_bytes, Result}
+use Rattle.std.specs.List.{Contains}
 use Rattle.std.specs.Option.{option_or}
 use Rattle.fdb_lines.specs.declared.fault.Found.{Found}
 use Rattle.fdb_lines.specs.KeyWatch.{settled_in}
@@ -13,7 +14,8 @@ use Rattle.fdb_audit.specs.declared.arguments.AuditArguments.{AuditArguments}
 use Rattle.fdb_audit.specs.declared.printer.LogFault.{LogFault}
 use Rattle.fdb_audit.specs.declared.follower.Follower.{Follower}
 use Rattle.fdb_audit.specs.declared.teller.Teller.{Teller}
-use Rattle.fdb_audit.specs.Following.{AreInTurn, AreNamed, AreWindows, Counted, FollowArguments, IsCounted, IsEnd, Start, Window, ahead_since, certain_in, counted_on, early_at, faults_told, first_told, keys_taken, lines_since, lines_taken, out_of_reach_in, told_in_all, told_to}
+use Rattle.fdb_audit.specs.Following.{AreInTurn, AreNamed, AreWindows, Counted, FollowArguments, IsCounted, IsEnd, Start, Window, certain_in, counted_on, early_at, faults_told, first_told, keys_taken, lines_before, lines_since, lines_taken, out_of_reach_in, taken, told_in_all, told_to}
+use Rattle.fdb_audit.specs.Came.{ahead_lines, certain_with}
 use Rattle.fdb_audit.specs.Taken.{AreTaken, HasTotals, HasWarned, IsCarried, counted_of}
 use Rattle.fdb_audit.specs.Warned.{AreEarly, IsSaid}
 
@@ -50,6 +52,18 @@ pub record IsTellerOf (asked : AuditArguments) (start : Start) (teller : Teller)
   pub first : teller.first ≡ option_or start.before.first (first_told start.kept read windows)
   pub totals : HasTotals (members_asked asked) teller (start.before.told ++ faults_told read windows)
 
+-- A window told of a key when a watch settled, as far as all might be told then; or, where the log has ended, of all.
+pub record IsAt (start : Start) (ends : Bool) (read : List (Result SaidLine Why)) (settled : List ℕ) (window : Window) : Type 0 where
+  pub to : IfSome window.to (λ to. let come = length (taken (take window.read read)) in
+      Contains settled come × (to ≡ certain_with start (lines_before start read) (lines_since start read) come))
+  pub last : window.to ≡ None → (ends ≡ true) × (window.read ≡ length read)
+
+-- At the end of a log has been told, each fault once, what an audit of all lines finds; where it is to be followed on, what that
+-- finds at lines that began before all may be told.
+abbrev pub IsComplete : Bool → ℕ → Start → List (Result SaidLine Why) → List Found → Type 0
+IsComplete true margin start read told = IsPermutation told (audited margin (lines_taken read) (keys_taken read))
+IsComplete false margin start read told = IsPermutation told (audited_to margin (certain_in start read) (lines_taken read) (keys_taken read))
+
 -- These lines were read, and this text has been told of them, but for what is told next.
 pub record IsTelling (asked : AuditArguments) (start : Start) (follower : Follower) (read : List (Result SaidLine Why)) (told : List ℕ) : Type 0 where
   pub behind : follower.behind ≡ start.behind
@@ -62,6 +76,7 @@ pub record IsTelling (asked : AuditArguments) (start : Start) (follower : Follow
   pub named : AreNamed (lines_taken read) (line_names follower.reader).clients
   pub tells : AreWindows start.kept asked.opts.margin asked.wanted read (line_names follower.reader).clients windows (told ++ string_bytes follower.teller.text)
   pub in_turn : AreInTurn start.behind read start.far windows
+  pub at : All (IsAt start false read follower.taking.settlings.at) windows
   pub are : IsTellerOf asked start follower.teller read windows
 
 -- These bytes have been read, whatever comes after them, and this text has been told of their lines.
@@ -80,18 +95,6 @@ pub record HasSaid (asked : AuditArguments) (start : Start) (follower : Follower
   pub told : List Found
   pub taken : AreTaken start follower.taking read told
   pub said : HasWarned start follower.taking read warned
-
--- At its end this was said of all lines, and this is the last that came early, if one did.
-abbrev pub HasSaidAll : AuditArguments → Start → List ℕ → Option ℕ → List ℕ → Type 0
-HasSaidAll asked start bytes last_early text =
-    (early ahead : ℕ) × (last : Option ℕ) × IsSaid start (lines_asked asked bytes) early ahead text
-    × (is_some last ≡ nat_lt 0 early) × (last_early ≡ option_or last start.before.last_early)
-
--- At the end of a log has been told, each fault once, what an audit of all lines finds; where it is to be followed on, what that
--- finds at lines that began before all may be told.
-abbrev pub IsComplete : Bool → ℕ → Start → List (Result SaidLine Why) → List Found → Type 0
-IsComplete true margin start read told = IsPermutation told (audited margin (lines_taken read) (keys_taken read))
-IsComplete false margin start read told = IsPermutation told (audited_to margin (certain_in start read) (lines_taken read) (keys_taken read))
 
 -- What is told of all lines of a text, window by window, and at the end how much was read, with what an earlier piece has counted;
 -- the first fault, if one was told, and the last line that came early, if one did. Where none came early, it is whole; no more came early
@@ -112,11 +115,17 @@ pub record IsFollowed (asked : AuditArguments) (start : Start) (ends : Bool) (by
       (followed_by asked start.behind) (start.before.told ++ faults_told (lines_asked asked bytes) windows) end
   pub whole : start.early ≡ 0 → counts.early ≡ 0 → IsComplete ends asked.opts.margin start (lines_asked asked bytes) (start.told ++ told_in_all (lines_asked asked bytes) windows)
   pub early : counts.early ≤ out_of_reach_in start (lines_asked asked bytes)
-  pub ahead : counts.ahead ≡ ahead_since start (lines_asked asked bytes)
+  pub ahead : counts.ahead ≡ length (ahead_lines start (lines_asked asked bytes))
+  pub settled : List ℕ
+  pub at : All (IsAt start ends (lines_asked asked bytes) settled) windows
   pub last : Option ℕ
-  pub came : AreEarly start.kept.more (lines_asked asked bytes) counts.early counts.judged last
+  pub came : AreEarly start (lines_asked asked bytes) settled counts.early counts.judged last
   pub last_is : last_early ≡ option_or last start.before.last_early
   pub late : early_at start.from (lines_since start (lines_asked asked bytes)) ≤ counts.early
+
+-- At the end this was said of all lines on standard error, where it had settled when so many had been taken.
+abbrev pub HasSaidAll : AuditArguments → Start → List ℕ → (settled : List ℕ) → List ℕ → Type 0
+HasSaidAll asked start bytes settled text = IsSaid start (lines_asked asked bytes) settled text
 
 -- all that is told of these lines has been told, but for what is told next
 pub record HasToldAll (asked : AuditArguments) (start : Start) (ends : Bool) (follower : Follower) (read : List (Result SaidLine Why)) (told : List ℕ) : Type 0 where
@@ -130,6 +139,7 @@ pub record HasToldAll (asked : AuditArguments) (start : Start) (ends : Bool) (fo
   pub counted : IsCounted start read (counted_of follower.taking)
   pub whole : start.early ≡ 0 → follower.taking.counts.early ≡ 0 → IsComplete ends asked.opts.margin start read (start.told ++ told_in_all read windows)
   pub early : follower.taking.counts.early ≤ out_of_reach_in start read
-  pub ahead : follower.taking.counts.ahead ≡ ahead_since start read
-  pub came : AreEarly start.kept.more read follower.taking.counts.early follower.taking.counts.judged follower.taking.counts.last_early
+  pub ahead : follower.taking.counts.ahead ≡ length (ahead_lines start read)
+  pub at : All (IsAt start ends read follower.taking.settlings.at) windows
+  pub came : AreEarly start read follower.taking.settlings.at follower.taking.counts.early follower.taking.counts.judged follower.taking.counts.last_early
   pub late : early_at start.from (lines_since start read) ≤ follower.taking.counts.early

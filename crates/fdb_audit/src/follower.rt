@@ -58,7 +58,7 @@ impl Follower {
     ghost use Rattle.fdb_audit.specs.Kept.{IsStopped};
     ghost use Rattle.fdb_audit.specs.Progress.{counted_by};
     ghost use Rattle.fdb_audit.specs.Taken.{counted_of, kept_by};
-    ghost use Rattle.fdb_audit.specs.private.Followed.{AreEarlyIn, HasGoneOn, HasWarned, IsQuiet};
+    ghost use Rattle.fdb_audit.specs.private.Followed.{HasGoneOn, HasWarned, IsQuiet};
     ghost use Rattle.fdb_audit.specs.private.Followed.{IsUnread, SaysNext, TakesPlace};
     ghost use Rattle.fdb_audit.specs.private.Followed.{SettlesOn};
     ghost use Rattle.fdb_log_reader.specs.Reading.{EndsALine};
@@ -125,7 +125,7 @@ impl Follower {
             (start_of asked.now behind text.now) follower text.now [])) }
         ensures none_told { IfOk result (λ it. IfOk it (λ follower. (has : HasFollowed asked.now
             (start_of asked.now behind text.now) follower text.now [])
-            × (has.telling.windows ≡ []))) }
+            × (has.telling.windows ≡ []) × (follower.taking.settlings.at ≡ []))) }
         ensures settled { IfOk result (λ it. IfOk it (λ follower. follower.taking.watch.from
             ≡ (start_of asked.now behind text.now).from)) }
     {
@@ -217,7 +217,8 @@ impl Follower {
             → (kept : KeptSaid) → kept.told ≡ told → kept.settled ≡ settled
             → kept.many ≡ are_many → EndsALine bytes.now → IsUnread asked (start_with behind kept.front) self.old
             → let start = start_from behind asked.opts.margin kept (lines_asked asked bytes.now) in
-            (has : HasFollowed asked start self.new bytes.now []) × (has.telling.windows ≡ [])) }
+            (has : HasFollowed asked start self.new bytes.now []) × (has.telling.windows ≡ [])
+            × (self.new.taking.settlings.at ≡ [])) }
     {
         a_space_more_is_of_one_line();
         let lines = self.reader.feed(self.alloc, bytes)?;

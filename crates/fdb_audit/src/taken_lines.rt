@@ -3,6 +3,7 @@
 ghost use Rattle.std.specs.Prelude.{◌≡◌, ℕ, ◌+◌, ◌-◌, ◌^◌, ◌<◌, ◌≤◌, ◌++◌, ◌∷◌, [], All, List, Err};
 ghost use Rattle.std.specs.Prelude.{IfOk, Ok, OnOk, Result, false, length, map, max, min, nat_lt};
 ghost use Rattle.std.specs.Prelude.{Option, string_bytes, take, unwrap_or};
+ghost use Rattle.std.specs.Borrow.{ftrue};
 ghost use Rattle.fdb_log_reader.specs.Printed.{printed};
 ghost use Rattle.fdb_log_reader.specs.ReadLine.{IsTimed, SaidLine, said_by, said_in};
 ghost use Rattle.fdb_log_reader.specs.declared.error.Why.{Why};
@@ -20,6 +21,7 @@ use crate::refusal::{CountedLine, Warning, push_doubled, push_warning};
 use fdb_lines::{KeyWatch, Line, SettledKey, WatchError, laws};
 use fdb_log_reader::{ReadError, ReadLine, Why};
 use std::alloc::{AllocError, Global};
+use std::marker::Model;
 
 /// The lines that were taken, as far as they may yet come to matter, and how the others came.
 #[derive(Drop)]
@@ -33,6 +35,8 @@ pub(crate) struct Taking {
     pub(crate) taken: u64,
     /// How many of them had come when it settled last.
     pub(crate) settled: u64,
+    /// How many had each time that it settled.
+    pub(crate) settlings: Settlings,
     /// How far the ends of lines are believed.
     pub(crate) clocks: Clocks,
     /// The lines that came since it settled.
@@ -48,6 +52,33 @@ pub(crate) struct Taking {
     ghost above: { All (λ above. above ≤ taken) numbering.above.items },
 }
 
+/// How many lines had been taken each time that a watch settled, the last first. Clauses alone read
+/// it, and it takes no memory.
+#[derive(Drop)]
+pub(crate) struct Settlings {
+    pub(crate) ghost at: { List ℕ },
+}
+
+impl Model for Settlings {
+    ghost also_owns = { λ _. ftrue };
+}
+
+impl Settlings {
+    /// It has not settled.
+    fn none() -> Self
+        ensures { result.at ≡ [] }
+    {
+        Settlings {}
+    }
+
+    /// It has once more, when so many had been taken.
+    fn with(_before: &Settlings, _taken: &u64) -> Self
+        ensures { result.at ≡ _taken.now ∷ _before.now.at }
+    {
+        Settlings {}
+    }
+}
+
 impl Taking {
     ghost use Rattle.fdb_audit.specs.Following.{Start, keys_taken, left_out, lines_taken};
     ghost use Rattle.fdb_audit.specs.Following.{early_at, no_line, start_with, taken};
@@ -55,7 +86,7 @@ impl Taking {
     ghost use Rattle.fdb_audit.specs.Kept.{KeptSaid, far_with, start_from};
     ghost use Rattle.fdb_audit.specs.Taken.{AreCounted, HasWarned, IsCarried, kept_by};
     ghost use Rattle.fdb_audit.specs.private.Followed.{AreTaken, NotesLine, counted_line};
-    ghost use Rattle.fdb_audit.specs.private.Followed.{StaysAsFar, noted, odd_text, settled_at};
+    ghost use Rattle.fdb_audit.specs.private.Followed.{HasNoted, StaysAsFar, odd_text, settled_at};
 
     /// No line has been taken; those that were kept of others come first. It fails only where
     /// memory is refused.
@@ -90,6 +121,7 @@ impl Taking {
             counts: Counts::new(),
             taken: 0,
             settled: 0,
+            settlings: Settlings::none(),
             clocks: Clocks::new(behind),
             unsettled: Unsettled::new(),
             kept: 0,
@@ -115,6 +147,7 @@ impl Taking {
         ensures stays { OnOk result (StaysAsFar self.old.watch self.new.watch) }
         ensures from { self.new.watch.from ≡ self.old.watch.from }
         ensures margin { self.new.watch.margin ≡ self.old.watch.margin }
+        ensures settlings { self.new.settlings ≡ self.old.settlings }
     {
         for line in lines {
             self.take(line)?;
@@ -147,12 +180,14 @@ impl Taking {
         ensures from { OnOk result (self.new.watch.from ≡ max self.old.watch.from settled) }
         ensures margin { self.new.watch.margin ≡ self.old.watch.margin }
         ensures horizon { OnOk result (self.new.watch.horizon ≡ self.old.watch.horizon) }
+        ensures settlings { OnOk result (self.new.settlings.at ≡ []) }
     {
         let since = lines.split_off(told.min(lines.len()))?;
         self.take_all(lines)?;
         self.settle_untold(settled)?;
         self.take_all(since)?;
         self.counts = Counts::new();
+        self.settlings = Settlings::none();
         self.warnings = String::new(self.alloc);
         self.clocks.go_on(settled, are_many);
         Ok(())
@@ -173,6 +208,7 @@ impl Taking {
         ensures stays { OnOk result (StaysAsFar self.old.watch self.new.watch) }
         ensures from { self.new.watch.from ≡ self.old.watch.from }
         ensures margin { self.new.watch.margin ≡ self.old.watch.margin }
+        ensures settlings { self.new.settlings ≡ self.old.settlings }
     {
         // No more lines are read than can be counted.
         if self.line_count() >= u64::MAX - 1 {
@@ -210,21 +246,18 @@ impl Taking {
         laws::all_is_told_up_to_where_it_settled();
         self.counts = Counts::new();
         self.note_settled(&told);
+        self.settlings = Settlings::none();
         Ok(())
     }
 
     /// Notes that it has settled, and told this.
     pub(crate) fn note_settled(&mut self, told: &[SettledKey])
-        ensures taken { (start : Start) → (lines : List (Result SaidLine Why))
-            → (told : List Found) → AreTaken start (noted self.old) lines told
-            → AreTaken start self.new lines told }
-        ensures watch { self.new.watch ≡ self.old.watch }
-        ensures counts { self.new.counts ≡ self.old.counts }
-        ensures warnings { self.new.warnings ≡ self.old.warnings }
+        ensures { HasNoted self.old self.new }
     {
         self.unsettled = Unsettled::since(self.watch.settled_to(), told);
         self.kept = self.kept.saturating_sub(let_go(told));
         self.settled = self.taken;
+        self.settlings = Settlings::with(&self.settlings, &self.taken);
     }
 
     /// The last line that was refused, if one was, or that none was taken, behind what an earlier piece
@@ -279,6 +312,7 @@ impl Taking {
         ensures stays { OnOk result (StaysAsFar self.old.watch self.new.watch) }
         ensures from { self.new.watch.from ≡ self.old.watch.from }
         ensures margin { self.new.watch.margin ≡ self.old.watch.margin }
+        ensures settlings { self.new.settlings ≡ self.old.settlings }
     {
         let ReadLine { line, key, shown } = read;
         let is_judged = line.began() >= self.judged_from(key, &line);
@@ -310,6 +344,7 @@ impl Taking {
         ensures noted { OnOk result
             (NotesLine self.old.watch.from self.old self.new line.now) }
         ensures watch { self.new.watch ≡ self.old.watch }
+        ensures settlings { self.new.settlings ≡ self.old.settlings }
     {
         let from = self.watch.settled_to();
         let ahead_by = self.clocks.hear(line);
@@ -365,6 +400,7 @@ impl Taking {
         ensures stays { OnOk result (StaysAsFar self.old.watch self.new.watch) }
         ensures from { self.new.watch.from ≡ self.old.watch.from }
         ensures margin { self.new.watch.margin ≡ self.old.watch.margin }
+        ensures settlings { self.new.settlings ≡ self.old.settlings }
     {
         self.numbering.leave_out(self.taken)?;
         let line = self.line_count();

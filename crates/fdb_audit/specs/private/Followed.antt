@@ -53,6 +53,7 @@ pub record TakesPlace (old next new : Follower) : Type 0 where
   pub refused : new.taking.refused ≡ next.taking.refused
   pub counts : new.taking.counts ≡ next.taking.counts
   pub settled : new.taking.settled ≡ next.taking.settled
+  pub settlings : new.taking.settlings ≡ next.taking.settlings
   pub clocks : Carries old.taking.clocks next.taking.clocks new.taking.clocks
   pub teller : new.teller ≡ record next.teller { told = old.teller.told; first = old.teller.first }
   pub behind : new.behind ≡ next.behind
@@ -137,6 +138,7 @@ pub record NotesLine (from : ℕ) (old new : Taking) (line : Line) : Type 0 wher
   pub count : new.taken ≡ old.taken + 1
   pub refused : new.refused ≡ old.refused
   pub settled : new.settled ≡ old.settled
+  pub settlings : new.settlings ≡ old.settlings
   pub hears : Hears old.clocks new.clocks line
   pub counted : (lines : List Line) → length lines + 1 < 2 ^ 64 → AreCounted old.counts lines → AreCounted new.counts (lines ++ line ∷ [])
   pub is_its : its_line ≡ min (new.taken + new.numbering.more + length new.numbering.above.items) (2 ^ 64 - 1)
@@ -145,9 +147,17 @@ pub record NotesLine (from : ℕ) (old new : Taking) (line : Line) : Type 0 wher
   pub warned : string_bytes new.warnings ≡ odd_text (counted_line its_line (from - began line) new.counts.early)
       (counted_line its_line (ahead_of old.clocks line) new.counts.ahead) (string_bytes old.warnings)
 
--- the same, once it is noted that it has settled
-abbrev pub noted : Taking → Taking
-noted taking = record taking { settled = taking.taken }
+-- it is noted that it has settled
+pub record HasNoted (old new : Taking) : Type 0 where
+  pub watch : new.watch ≡ old.watch
+  pub numbering : new.numbering ≡ old.numbering
+  pub taken : new.taken ≡ old.taken
+  pub refused : new.refused ≡ old.refused
+  pub counts : new.counts ≡ old.counts
+  pub clocks : new.clocks ≡ old.clocks
+  pub warnings : new.warnings ≡ old.warnings
+  pub settled : new.settled ≡ old.taken
+  pub settlings : new.settlings.at ≡ old.taken ∷ old.settlings.at
 
 -- From where it is followed on that has settled up to a moment, by when this had been told of what was read: what comes then is
 -- counted anew.
@@ -165,13 +175,15 @@ abbrev pub told_with : ℕ → Teller → List (List ℕ) → FollowArguments
 told_with behind teller members = record { behind = behind; margin = teller.margin; by_key = is_some teller.key; members = members }
 
 -- how lines came, by the counts
-abbrev pub AreEarlyIn : Start → List (Result SaidLine Why) → Counts → Type 0
-AreEarlyIn start read counts = AreEarly start.kept.more read counts.early counts.judged counts.last_early
+abbrev pub AreEarlyIn : Start → List (Result SaidLine Why) → List ℕ → Counts → Type 0
+AreEarlyIn start read settled counts = AreEarly start read settled counts.early counts.judged counts.last_early
 
 -- The lines that were taken have settled further; nothing was said of them.
 pub record SettlesOn (old new : Taking) : Type 0 where
   pub taken : (start : Start) (read : List (Result SaidLine Why)) (told : List Found) → AreTaken start old read told
       → (more : List Found) × AreTaken start new read (told ++ more)
+  pub said : (start : Start) (read : List (Result SaidLine Why)) (told : List Found) (warned : List ℕ) → AreTaken start old read told → HasWarned start old read warned
+      → HasWarned start new read warned
   pub warnings : new.warnings ≡ old.warnings
   pub counts : new.counts ≡ old.counts
 
@@ -179,6 +191,7 @@ pub record SettlesOn (old new : Taking) : Type 0 where
 pub record SaysNext (old new : Taking) : Type 0 where
   pub taken : (start : Start) (read : List (Result SaidLine Why)) (told : List Found) → AreTaken start old read told → AreTaken start new read told
   pub warnings : string_bytes new.warnings ≡ []
+  pub settlings : new.settlings ≡ old.settlings
   pub counts : new.counts ≡ old.counts
 
 -- nothing has been read

@@ -12,7 +12,9 @@ ghost use Rattle.fdb_audit.specs.Kept.{IsStopped};
 ghost use Rattle.fdb_audit.specs.Taken.{HasWarned, counted_of};
 ghost use Rattle.fdb_audit.specs.Watched.{HasFollowed, HasSaid, HasSaidAll, HasToldAll, IsFollowed};
 ghost use Rattle.fdb_audit.specs.Watched.{IsTelling, lines_asked, names_asked, AskForTheSame};
-ghost use Rattle.fdb_audit.specs.private.Followed.{AreEarlyIn, HasGoneOn, IsQuiet, TakesPlace};
+ghost use Rattle.fdb_lines.specs.declared.fault.Found.{Found};
+ghost use Rattle.fdb_audit.specs.Taken.{AreTaken};
+ghost use Rattle.fdb_audit.specs.private.Followed.{HasGoneOn, IsQuiet, TakesPlace};
 ghost use Rattle.fdb_audit.specs.declared.arguments.AuditArguments.{AuditArguments};
 
 use crate::arguments::AuditArguments;
@@ -33,8 +35,11 @@ impl Follower {
             → (bytes told : List ℕ) → HasFollowed asked start self bytes told → IsFollowed asked
             start true bytes (told ++ string_bytes it.said.text) it.found it.last_early) }
         ensures said { IfOk result (λ it. (asked : AuditArguments) → (start : Start)
-            → (bytes warned : List ℕ) → HasSaid asked start self bytes warned → HasSaidAll asked
-            start bytes it.last_early (warned ++ string_bytes it.said.warnings)) }
+            → (bytes told warned : List ℕ) → HasFollowed asked start self bytes told
+            → HasSaid asked start self bytes warned → (all : IsFollowed asked start true bytes
+            (told ++ string_bytes it.said.text) it.found it.last_early)
+            × HasSaidAll asked start bytes all.settled
+            (warned ++ string_bytes it.said.warnings)) }
         ensures refused { IfOk result (λ it. (asked : AuditArguments) → (start : Start)
             → (bytes told : List ℕ) → HasFollowed asked start self bytes told
             → it.refused ≡ left_out start (lines_asked asked bytes)) }
@@ -54,8 +59,10 @@ impl Follower {
             → IsFollowed asked start false bytes (told ++ string_bytes it.followed.said.text)
             it.followed.found it.followed.last_early) }
         ensures said { IfOk result (λ it. (asked : AuditArguments) → (start : Start)
-            → (bytes warned : List ℕ) → HasSaid asked start self bytes warned
-            → HasSaidAll asked start bytes it.followed.last_early
+            → (bytes told warned : List ℕ) → HasFollowed asked start self bytes told
+            → HasSaid asked start self bytes warned → (all : IsFollowed asked start false bytes
+            (told ++ string_bytes it.followed.said.text) it.followed.found it.followed.last_early)
+            × HasSaidAll asked start bytes all.settled
             (warned ++ string_bytes it.followed.said.warnings)) }
         ensures refused { IfOk result (λ it. (asked : AuditArguments) → (start : Start)
             → (bytes told : List ℕ) → HasFollowed asked start self bytes told
@@ -82,8 +89,8 @@ impl Follower {
             → IsTelling asked start self.new (lines_asked asked bytes) told) }
         ensures said { OnOk result ((asked : AuditArguments) → (start : Start)
             → (bytes warned : List ℕ) → HasSaid asked start self.old bytes warned
-            → HasWarned start self.new.taking (lines_asked asked bytes) warned
-            × AreEarlyIn start (lines_asked asked bytes) self.new.taking.counts) }
+            → (told : List Found) × AreTaken start self.new.taking (lines_asked asked bytes) told
+            × HasWarned start self.new.taking (lines_asked asked bytes) warned) }
         ensures names { OnOk result ((asked : AuditArguments) → (start : Start)
             → (bytes told : List ℕ) → HasFollowed asked start self.old bytes told
             → names_asked asked bytes ≡ line_names self.new.reader) }
@@ -104,7 +111,7 @@ impl Follower {
             → IsTelling asked start self.old read told
             → HasToldAll asked start true self.new read told) }
         ensures warnings { (self.new.taking.warnings ≡ self.old.taking.warnings)
-            × (self.new.taking.counts ≡ self.old.taking.counts) }
+            × (self.new.taking.settlings ≡ self.old.taking.settlings) }
         ensures before { self.new.before ≡ self.old.before }
     {
         let none = KeyWatch::new(self.alloc, 0, 0);
@@ -123,10 +130,9 @@ impl Follower {
             → names_asked asked bytes ≡ line_names self.reader → (followed : IsFollowed asked
             start ends bytes (told ++ string_bytes it.said.text) it.found it.last_early)
             × (followed.windows ≡ all.windows)
-            × (followed.counts ≡ counted_of self.taking)) }
+            × (followed.counts ≡ counted_of self.taking)
+            × (followed.settled ≡ self.taking.settlings.at)) }
         ensures refused { IfOk result (λ it. it.refused ≡ refused) }
-        ensures early { IfOk result (λ it. it.last_early
-            ≡ option_or self.taking.counts.last_early self.before.counts.last_early) }
         ensures warnings { IfOk result (λ it. it.said.warnings ≡ self.taking.warnings) }
     {
         let all = self.before.with(&self.taking);

@@ -3,7 +3,7 @@ use Rattle.std.specs.Prelude.{◌&&◌, count_by}
 use Rattle.std.proofs.lemmas.List.Elements.{All-weaker}
 use Rattle.fdb_audit.specs.Following.{KeptBefore, taken_line, taken}
 use Rattle.fdb_audit.specs.private.Numbering.{AreTakenLines}
-use Rattle.fdb_audit.proofs.Following.{counted}
+use Rattle.fdb_audit.proofs.ReadLines.{counted}
 use Rattle.fdb_audit.proofs.KeptTexts.{said_same}
 use Rattle.fdb_audit.proofs.read_back.says_kept.Goals as goal
 

@@ -41,7 +41,7 @@ returns-clause-read c = λ asked behind kept told_is settled_is many_is ends is.
     fed_first (start_with behind kept.front) start asked c.args.self.now _ bytes lines is refl refl refl
     c.in_ok-lines.ensures.read c.in_ok-lines.ensures.behind
     (named_in c.in_ok-lines.lines.items (line_names reader) c.in_ok-lines.ensures.numbers)
-    (taken_beside start c.take_kept.new.self _ lines start.told took_so refl refl refl refl refl refl refl)
+    (taken_beside start c.take_kept.new.self _ lines start.told took_so refl refl refl refl refl refl refl refl)
     (λ key. so_far c.args.told c.args.settled lines (lines_asked asked bytes) kept key (settled_in c.take_kept.new.self.watch.parts.items key) told_is settled_is whole
     (c.in_ok-take_kept.ensures.far behind kept.front is.taken is.far key)) c.in_ok-take_kept.ensures.horizon
     c.take_kept.ensures.margin refl refl refl in (
@@ -52,7 +52,7 @@ returns-clause-read c = λ asked behind kept told_is settled_is many_is ends is.
         behind = is.at;
         carried = is.carried;
         told = start.told;
-        taken = taken_beside start c.take_kept.new.self _ lines start.told took_so refl refl refl refl refl refl refl;
+        taken = taken_beside start c.take_kept.new.self _ lines start.told took_so refl refl refl refl refl refl refl refl;
         said = said_so;
       },
     )
@@ -72,10 +72,12 @@ returns-clause-none_told c = λ asked behind kept told_is settled_is many_is end
     let start = start_from behind margin kept read in AreTaken start c.take_kept.new.self lines start.told × HasWarned start c.take_kept.new.self lines [] in
     let (took_so, said_so) : Took (lines_asked asked bytes) asked.opts.margin =
     subst (λ (read : List (Result SaidLine Why)). Took read asked.opts.margin) whole (subst (Took lines) is.margin took) in
+    let (has, none) =
     fed_first (start_with behind kept.front) start asked c.args.self.now _ bytes lines is refl refl refl
     c.in_ok-lines.ensures.read c.in_ok-lines.ensures.behind
     (named_in c.in_ok-lines.lines.items (line_names reader) c.in_ok-lines.ensures.numbers)
-    (taken_beside start c.take_kept.new.self _ lines start.told took_so refl refl refl refl refl refl refl)
+    (taken_beside start c.take_kept.new.self _ lines start.told took_so refl refl refl refl refl refl refl refl)
     (λ key. so_far c.args.told c.args.settled lines (lines_asked asked bytes) kept key (settled_in c.take_kept.new.self.watch.parts.items key) told_is settled_is whole
     (c.in_ok-take_kept.ensures.far behind kept.front is.taken is.far key)) c.in_ok-take_kept.ensures.horizon
-    c.take_kept.ensures.margin refl refl refl
+    c.take_kept.ensures.margin refl refl refl in
+    (has, none, c.in_ok-take_kept.ensures.settlings)

@@ -11,6 +11,7 @@ returns c = record {
   refused = refl;
   counts = refl;
   settled = refl;
+  settlings = refl;
   clocks = c.carry.ensures;
   teller = ap (λ (told : Option ToldFaults). record c.args.next.teller { told = told; first = c.args.self.now.teller.first }) c.replace.ensures.value;
   behind = refl;

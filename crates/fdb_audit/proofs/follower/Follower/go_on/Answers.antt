@@ -36,9 +36,9 @@ returns-clause-gone_on c = λ _ asked start bytes told same has.
     → KeepsLines (map number_of c.deref.result.now) (member_in names) names start.kept old.taking read (string_bytes text))) c.in-Ok.is c.in_ok-text.ensures
     start has.read (start.told ++ told_in_all has.read has.telling.windows) has.telling.taken
     (subst (λ (list : List KeptLine). All (IsKept (lines_taken has.read) (keys_taken has.read)) list) (sym c.deref.ensures.value) each)) in
-    let Restored = λ (text : List ℕ). (has : HasFollowed given (start_of given old.behind text) next text []) × (has.telling.windows ≡ []) in
+    let Restored = λ (text : List ℕ). (has : HasFollowed given (start_of given old.behind text) next text []) × (has.telling.windows ≡ []) × (next.taking.settlings.at ≡ []) in
     let restored : Restored kept = subst Restored c.as_bytes.ensures.value
-    (subst (λ it. IfOk it (λ follower. let text = c.as_bytes.result.now in (has : HasFollowed given (start_of given old.behind text) follower text []) × (has.telling.windows ≡ []))) c.in-Ok-next.is c.in_ok-next.ensures.none_told) in
+    (subst (λ it. IfOk it (λ follower. let text = c.as_bytes.result.now in (has : HasFollowed given (start_of given old.behind text) follower text []) × (has.telling.windows ≡ []) × (follower.taking.settlings.at ≡ []))) c.in-Ok-next.is c.in_ok-next.ensures.none_told) in
     let moment : next.taking.watch.from ≡ (start_of given old.behind kept).from =
     subst (λ it. IfOk it (λ follower. follower.taking.watch.from ≡ (start_of given old.behind c.as_bytes.result.now).from)) c.in-Ok-next.is c.in_ok-next.ensures.settled
     ∙ ap (λ text. (start_of given old.behind text).from) c.as_bytes.ensures.value in

@@ -40,7 +40,8 @@ pub returns-clause-none_told : goal.returns-clause-none_told
 returns-clause-none_told c =
     let asked = c.args.asked.now in
     let text = c.args.text.now in
-    subst (λ said. (has : HasFollowed asked (start_from c.args.behind asked.opts.margin said (lines_asked asked text)) c.feed_kept.new.self text []) × (has.telling.windows ≡ [])) (said c)
+    subst (λ said. (has : HasFollowed asked (start_from c.args.behind asked.opts.margin said (lines_asked asked text)) c.feed_kept.new.self text []) × (has.telling.windows ≡ [])
+    × (c.feed_kept.new.self.taking.settlings.at ≡ [])) (said c)
     (c.in_ok-feed_kept.ensures.none_told asked c.args.behind (kept c) refl refl refl (ends c) (unread c))
 
 pub returns-clause-settled : goal.returns-clause-settled

@@ -19,13 +19,13 @@ returns-clause-told c = λ asked start read told is.
     let faults = start.told ++ told_in_all read is.windows in
     let seen : HasSeenByKey c.replace-watch.result lines keys = subst (λ (w : KeyWatch). HasSeenByKey w lines keys) (sym same) is.taken.seen in
     let all : AreTold None lines keys watch.parts.items entries = subst (λ (w : KeyWatch). AreTold None lines keys w.parts.items entries) same (c.in_ok-told.ensures.told lines keys seen) in
-    settled_all start asked true old _ read told entries is refl all.once
+    settled_all start asked old _ read told entries is refl all.once
     (subst (TellsOn start.kept old.teller c.tell_all.new.self asked.opts.margin start.behind read (line_names old.reader).clients (settled_in watch.parts.items) None) c.deref.ensures.value
     (c.in_ok-tell_all.ensures start.kept read None watch.parts.items asked.opts.margin start.behind
     (record { above = is.taken.numbered.above; front = is.taken.numbered.front; few = is.taken.numbered.few })
     (λ k d lt. let part = watch.alike k d lt in record { its_margin = part.its_margin ∙ is.margin; its_horizon = part.its_horizon ∙ is.horizon; its_from = tt })
     (subst (AreTold None lines keys watch.parts.items) (sym c.deref.ensures.value) all)))
-    refl refl refl refl
+    refl refl refl refl refl
     (λ none_before none.
     let has : HasTold c.replace-watch.result lines keys faults = subst (λ (w : KeyWatch). HasTold w lines keys faults) (sym same) (is.taken.once none_before none) in
     let whole = c.in_ok-told.ensures.once lines keys faults seen has in

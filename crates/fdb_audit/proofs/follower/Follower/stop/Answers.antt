@@ -1,13 +1,10 @@
 use Rattle.std.proofs.Common.{◌∙◌, ◌++◌, List, ap, false, string_bytes, subst, sym}
 use Rattle.std.proofs.lemmas.Result.{IfOk-weaker}
-use Rattle.std.specs.Option.{option_or}
 use Rattle.fdb_log_reader.specs.LineReader.{line_names}
 use Rattle.fdb_log_reader.specs.ReadLine.{LineNames, member_in}
 use Rattle.fdb_audit.specs.Following.{Counted, Window, told_in_all}
 use Rattle.fdb_audit.specs.Kept.{Keeps}
 use Rattle.fdb_audit.specs.Taken.{AreTaken}
-use Rattle.fdb_audit.specs.declared.progress.Carried.{Carried}
-use Rattle.fdb_audit.specs.declared.progress.Counts.{Counts}
 use Rattle.fdb_audit.specs.Watched.{lines_asked, names_asked}
 use Rattle.fdb_audit.proofs.KeptTexts.{member_asked}
 use Rattle.fdb_audit.proofs.SaidOn.{said_all}
@@ -41,7 +38,7 @@ returns-clause-kept c =
     let to = settles_to start _ read _ _ was.taken c.in_ok-settle.ensures.to in
     let same = c.in_ok-take_last.ensures.names asked start bytes told has ∙ ap line_names (sym c.settle.ensures.reader) in
     let (all, windows) = told_so_far start asked _ read told is to c.all_is_told_up_to_where_it_settled.ensures.each_once in
-    let (followed, as_all, counts) = c.in_ok-followed.ensures.told asked start bytes told false all same in
+    let (followed, as_all, counts, settled) = c.in_ok-followed.ensures.told asked start bytes told false all same in
     record {
       followed = followed;
       taking = taking;
@@ -55,9 +52,17 @@ returns-clause-kept c =
     }) c.in_ok-kept.ensures
 
 pub returns-clause-said : goal.returns-clause-said
-returns-clause-said c = λ asked start bytes warned has.
-    said_all start asked c.take_last.new.self.taking c.args.self.before bytes warned _ _ (c.in_ok-take_last.ensures.said asked start bytes warned has) has.carried
-    (ap string_bytes (c.in_ok-followed.ensures.warnings ∙ c.in_ok-settle.ensures.taken.warnings))
-    (c.in_ok-followed.ensures.early
-    ∙ (ap (λ (counts : Counts). option_or counts.last_early c.settle.new.self.before.counts.last_early) c.in_ok-settle.ensures.taken.counts
-    ∙ ap (λ (before : Carried). option_or c.take_last.new.self.taking.counts.last_early before.counts.last_early) (c.settle.ensures.before ∙ c.take_last.ensures.before)))
+returns-clause-said c = λ asked start bytes told warned has says.
+    let read = lines_asked asked bytes in
+    let was = c.in_ok-take_last.ensures.told asked start bytes told has in
+    let to = settles_to start _ read _ _ was.taken c.in_ok-settle.ensures.to in
+    let (all, windows, counts, settled) =
+    c.in_ok-followed.ensures.told asked start bytes told false
+    (told_so_far start asked _ read told (c.in_ok-settle.ensures.told asked start read told was) to c.all_is_told_up_to_where_it_settled.ensures.each_once).0
+    (c.in_ok-take_last.ensures.names asked start bytes told has ∙ ap line_names (sym c.settle.ensures.reader)) in
+    let (found, taken, said) = c.in_ok-take_last.ensures.said asked start bytes warned says in (
+      all,
+      said_all start asked c.settle.new.self.taking all.settled bytes warned _ (c.in_ok-settle.ensures.taken.said start read found warned taken said)
+          (ap string_bytes c.in_ok-followed.ensures.warnings)
+          settled,
+    )

@@ -7,7 +7,7 @@ use Rattle.fdb_audit.specs.Following.{keys_taken, lines_taken}
 use Rattle.fdb_audit.specs.private.Followed.{NotesLine}
 use Rattle.fdb_audit.proofs.Following.{takes}
 use Rattle.fdb_audit.proofs.SettledOn.{taken_beside}
-use Rattle.fdb_audit.proofs.Warned.{early_more, noted_more}
+use Rattle.fdb_audit.proofs.Warned.{ahead_more, early_more, noted_more}
 use Rattle.fdb_audit.proofs.taken_lines.Taking.add.Goals as goal
 
 notes : (c : goal.In_ok-hear) → NotesLine c.args.self.now.watch.from c.args.self.now c.note.new.self (said_by c.args.read).line
@@ -20,6 +20,7 @@ notes c =
       count = its.count;
       refused = its.refused;
       settled = its.settled;
+      settlings = its.settlings;
       hears = record { newest = its.hears.newest; others = its.hears.others; believed = its.hears.believed; ahead = its.hears.ahead; behind = its.hears.behind };
       ahead = its.ahead;
       counted = its.counted;
@@ -39,11 +40,11 @@ returns-clause-taken c = λ start lines told are.
     (subst (λ watch. HasSeenByKey watch more keys) (sym c.note.ensures.watch) (c.in-Ok.ensures.ok (lines_taken lines) (keys_taken lines) are.seen))
     (notes c) (ap (λ (watch : KeyWatch). watch.from) c.note.ensures.watch ∙ c.push.ensures.settled)
     (λ has late. subst (λ watch. HasTold watch more keys told) (sym c.note.ensures.watch) (c.in-Ok.ensures.told (lines_taken lines) (keys_taken lines) told are.seen has late))
-    (early_more start old new lines said told are c.requires.room (notes c) are.came)) refl refl refl refl refl refl refl
+    (early_more start old new lines said told are c.requires.room (notes c)) (ahead_more start old new lines said told are c.requires.room (notes c))) refl refl refl refl refl refl refl refl
 
 pub returns-clause-warned : goal.returns-clause-warned
 returns-clause-warned c = λ start lines told warned are was.
-    noted_more start c.args.self.now c.note.new.self lines (said_by c.args.read) told warned are c.requires.room (notes c) was
+    noted_more start c.args.self.now c.note.new.self lines (said_by c.args.read) told are c.requires.room (notes c) warned was
 
 pub returns-clause-stays : goal.returns-clause-stays
 returns-clause-stays c = record {

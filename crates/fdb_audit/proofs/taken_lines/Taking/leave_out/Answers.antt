@@ -1,13 +1,12 @@
 use Rattle.std.proofs.Common.{ap, refl}
 use Rattle.fdb_log_reader.specs.declared.error.ReadError.{ReadError}
 use Rattle.fdb_audit.proofs.Following.{leaves_out, left_number}
-use Rattle.fdb_audit.proofs.Warned.{early_same, left_more}
+use Rattle.fdb_audit.proofs.Warned.{left_more}
 use Rattle.fdb_audit.proofs.taken_lines.Taking.leave_out.Goals as goal
 
 pub returns-clause-taken : goal.returns-clause-taken
 returns-clause-taken c = λ start lines told are.
-    leaves_out start c.args.self.now _ lines c.args.why told c.line_count-line.result are c.requires.room refl c.in_ok-leave_out.ensures.ok c.leave_out.ensures.kept refl refl refl refl c.line_count-line.ensures refl
-    (early_same start lines c.args.why c.args.self.now.counts _ refl are.came)
+    leaves_out start c.args.self.now _ lines c.args.why told c.line_count-line.result are c.requires.room refl c.in_ok-leave_out.ensures.ok c.leave_out.ensures.kept refl refl refl refl c.line_count-line.ensures refl refl
 
 pub returns-clause-warned : goal.returns-clause-warned
 returns-clause-warned c = λ start lines told warned are was.

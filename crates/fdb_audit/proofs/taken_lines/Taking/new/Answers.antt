@@ -6,4 +6,4 @@ use Rattle.fdb_audit.proofs.taken_lines.Taking.new.Goals as goal
 
 pub returns-clause-warned : goal.returns-clause-warned
 returns-clause-warned c =
-    none_said (start_with c.args.behind (kept_by c.args.numbering)) [] c.new-3.result (string_bytes c.new-6.result) refl c.new-3.ensures.early c.new-3.ensures.none.2 c.new-6.ensures.bytes
+    none_said (start_with c.args.behind (kept_by c.args.numbering)) [] c.none.result.at (string_bytes c.new-6.result) refl c.new-6.ensures.bytes

@@ -19,6 +19,7 @@ returns-clause-noted c =
       count = search rules;
       refused = search rules;
       settled = search rules;
+      settlings = search rules;
       hears = search rules;
       counted = search rules;
       is_its = search rules;

@@ -34,6 +34,7 @@ loop-line-preserved c =
       stays = let more = c.in_ok-take.ensures.stays in record { horizon = more.horizon ∙ inv.stays.horizon; far = λ key. more.far key ∙ inv.stays.far key };
       from = c.take.ensures.from ∙ inv.from;
       margin = c.take.ensures.margin ∙ inv.margin;
+      settlings = c.take.ensures.settlings ∙ inv.settlings;
     }
 
 pub returns-clause-taken : goal.returns-clause-taken

@@ -16,4 +16,5 @@ invariant-loop-line l = record {
   stays : StaysAsFar l.fn.self.watch l.self.watch;
   from : l.self.watch.from ≡ l.fn.self.watch.from;
   margin : l.self.watch.margin ≡ l.fn.self.watch.margin;
+  settlings : l.self.settlings ≡ l.fn.self.settlings;
 }

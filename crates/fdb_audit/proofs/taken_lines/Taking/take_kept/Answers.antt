@@ -11,11 +11,11 @@ use Rattle.fdb_audit.specs.Kept.{far_with, start_from}
 use Rattle.fdb_audit.specs.Taken.{AreCounted}
 use Rattle.fdb_audit.specs.private.Followed.{AreTaken, settled_at}
 use Rattle.fdb_audit.proofs.Believed.{fold_on}
-use Rattle.fdb_audit.proofs.Following.{counted, lines_parted}
+use Rattle.fdb_audit.proofs.ReadLines.{counted, lines_parted}
 use Rattle.fdb_audit.proofs.Settled.{far_in_all}
-use Rattle.fdb_audit.proofs.SettledOn.{in_reach_anew}
+use Rattle.fdb_audit.proofs.SettledOn.{in_reach_anew, settled_anew}
 use Rattle.fdb_audit.proofs.KeptTexts.{drop_least, drop_mapped, none_at, take_least, take_mapped}
-use Rattle.fdb_audit.proofs.Warned.{none_early, none_said}
+use Rattle.fdb_audit.proofs.Warned.{none_ahead, none_early, none_said}
 use Rattle.fdb_audit.proofs.taken_lines.Taking.take_kept.Goals as goal
 
 -- lines in two parts are all lines
@@ -65,6 +65,7 @@ returns-clause-taken c = λ behind kept told_is settled_is many_is are.
     ∙ ap (λ (part : List (Result SaidLine Why)). early_at kept.settled (lines_taken part)) (ap (λ (part : List (Result ReadLine Why)). map said_in part) c.in_ok-since.ensures.tail ∙ last_same) in
     omega (arith, most, still, same)) in
     let none : drop (length all) all ≡ [] = drop_all (length all) all (omega arith) in
+    let moved : three.watch.from ≡ kept.settled = (let still = c.take_all-2.ensures.from in let moment = c.in_ok-settle_untold.ensures.from in omega (arith, still, moment, at)) in
     let goes = c.go_on.ensures in
     let step = ahead_with no_clocks behind in
     let told_first : take (length told) all ≡ told =
@@ -100,13 +101,13 @@ returns-clause-taken c = λ behind kept told_is settled_is many_is are.
             })
             (goes.believed ∙ (ap (λ n. believed_from n three.clocks.behind) (sym settled_is) ∙ ap (believed_from kept.settled) last.reach.behind_is))
             (goes.ahead ∙ (last.reach.ahead_to ∙ ahead_so))
-            (let still = c.take_all-2.ensures.from in let moment = c.in_ok-settle_untold.ensures.from in omega (arith, still, moment, at))
-            c.new-self.ensures.early c.new-self.ensures.none.2 refl;
-        came = none_early start all c.new-self.result c.new-self.ensures.early c.new-self.ensures.none.0 c.new-self.ensures.none.1;
-        few_ahead = (let none = c.new-self.ensures.none.2 in omega (arith, none));
+            moved c.new-self.ensures.early refl;
+        settled_at = settled_anew start _ (lines_before start all) (lines_since start all) c.none-self.ensures moved;
+        came = none_early start all c.none-self.result.at c.new-self.result none c.new-self.ensures.early c.new-self.ensures.none.0 c.new-self.ensures.none.1;
+        ahead = none_ahead start all c.new-self.result.ahead none c.new-self.ensures.none.2;
         once = λ none_before none_since. last.once refl (omega (arith, most_last, none_before));
       },
-      none_said start all c.new-self.result (string_bytes c.new.result) none c.new-self.ensures.early c.new-self.ensures.none.2 c.new.ensures.bytes,
+      none_said start all c.none-self.result.at (string_bytes c.new.result) none c.new.ensures.bytes,
     )
 
 pub returns-clause-far : goal.returns-clause-far
