@@ -1,7 +1,7 @@
 -- What a follower has told stays told while it reads on, and what it tells next comes behind it.
-use Rattle.std.proofs.Common.{◌≡◌, ◌≢◌, ◌∙◌, ◌<◌, ◌≤◌, ℕ, List, [], ◌∷◌, ◌++◌, Bool, false, IsPermutation, ap, append-nil, append_assoc, arith, is_some, true, length, not, refl, string_bytes, subst, sym, ◌&&◌, None, Option, Result, Some}
+use Rattle.std.proofs.Common.{◌≡◌, ◌≢◌, ◌∙◌, ◌<◌, ◌≤◌, ℕ, List, [], ◌∷◌, ◌++◌, Bool, false, IsPermutation, ap, append-nil, append_assoc, arith, is_some, true, length, map, not, refl, string_bytes, subst, sym, ◌&&◌, None, Option, Result, Some}
 use Rattle.std.specs.Prelude.{IfSome}
-use Rattle.std.specs.List.{All, AllPairs}
+use Rattle.std.specs.List.{All, AllPairs, Contains}
 use Rattle.std.specs.Option.{option_or}
 use Rattle.std.proofs.lemmas.List.Elements.{All-nil}
 use Rattle.fdb_lines.specs.declared.fault.Found.{Found}
@@ -20,14 +20,14 @@ use Rattle.fdb_audit.specs.declared.arguments.AuditArguments.{AuditArguments}
 use Rattle.fdb_audit.specs.declared.printer.LogFault.{LogFault}
 use Rattle.fdb_audit.specs.declared.follower.Follower.{Follower}
 use Rattle.fdb_audit.specs.declared.teller.Teller.{Teller}
-use Rattle.fdb_audit.specs.Following.{AreNamed, AreWindows, Before, Counted, FollowArguments, IsCounted, IsEnd, Start, Window, certain_in, counted_on, early_at, faults_told, first_told, keys_taken, lines_since, lines_taken, out_of_reach_in, told_in_all, told_to}
+use Rattle.fdb_audit.specs.Following.{AreNamed, AreWindows, Before, Counted, FollowArguments, IsCounted, IsEnd, IsToldOff, Start, Window, certain_in, counted_on, early_at, faults_told, first_told, keys_taken, lines_since, lines_taken, out_of_reach_in, told_in_all, told_to}
 use Rattle.fdb_audit.specs.Watched.{HasFollowed, HasToldAll, IsAt, IsComplete, IsFollowed, IsTelling, IsTellerOf, followed_by, lines_asked, members_asked, names_asked}
 use Rattle.fdb_audit.specs.private.Followed.{AreTaken, HasTotals, IsCarried, IsUnread, StaysAsFar, TellsOn, counted_in, counted_of, told_with}
 use Rattle.fdb_audit.specs.Came.{ahead_lines}
 use Rattle.fdb_audit.specs.declared.taken_lines.Settlings.{Settlings}
 use Rattle.fdb_audit.proofs.AtSettlings.{at_end, at_now, at_stays}
 use Rattle.fdb_audit.proofs.OddLines.{early_still}
-use Rattle.fdb_audit.proofs.InTurn.{far_now, in_turn_stays, keys_apart, named_on, to_on, to_stays, turns_on}
+use Rattle.fdb_audit.proofs.InTurn.{entry_key, far_now, in_turn_stays, keys_apart, named_on, to_on, to_stays, turns_on, window_key}
 use Rattle.fdb_audit.proofs.Windows.{first_on, faults_on as all_faults_on, faults_stay, first_stays, told_on, told_stays, windows_on, windows_stay, windows_within}
 
 -- nothing has been read
@@ -263,9 +263,11 @@ pub settled_all : (start : Start) (asked : AuditArguments) (old new : Follower) 
     → new.reader ≡ old.reader → AllPairs (λ (one other : SettledKey). one.key ≢ other.key) entries
     → TellsOn start.kept old.teller new.teller asked.opts.margin start.behind read (line_names old.reader).clients (settled_in old.taking.watch.parts.items) None entries → new.behind ≡ old.behind → new.before ≡ old.before
     → new.taking.counts ≡ old.taking.counts → new.taking.numbering ≡ old.taking.numbering → new.taking.settlings ≡ old.taking.settlings
+    → ((windows : List Window) → All (λ (window : Window). (window.read ≡ length read) × (window.to ≡ None)) windows → map window_key windows ≡ map entry_key entries → (key : Option ℕ)
+    → Contains (keys_taken read) key → IsToldOff asked.opts.margin start.behind None (lines_of_one (lines_taken read) (keys_taken read) key) (told_to read (told_to read start.far is.windows) windows key))
     → (start.early ≡ 0 → old.taking.counts.early ≡ 0 → IsComplete true asked.opts.margin start read ((start.told ++ told_in_all read is.windows) ++ told_by_all entries))
     → HasToldAll asked start true new read told
-settled_all start asked old new read told entries is reader once more behind before counts numbering settlings whole =
+settled_all start asked old new read told entries is reader once more behind before counts numbering settlings off whole =
     let names = (line_names old.reader).clients in
     let far = settled_in old.taking.watch.parts.items in
     let within = windows_within start.kept asked.opts.margin asked.wanted read names is.windows (told ++ string_bytes old.teller.text) is.tells in
@@ -276,6 +278,10 @@ settled_all start asked old new read told entries is reader once more behind bef
       tells = subst (λ reader. AreWindows start.kept asked.opts.margin asked.wanted read (line_names reader).clients (is.windows ++ more.windows) (told ++ string_bytes new.teller.text)) (sym reader)
           (tells_on start asked old new.teller read far None told is.windows entries is.tells more is.are.wanted);
       in_turn = turns_on start.behind read names None start.far far is.windows more.windows is.in_turn within is.named is.far more.each (keys_apart entries more.windows more.keys once);
+      all = λ key has.
+          subst (IsToldOff asked.opts.margin start.behind None (lines_of_one (lines_taken read) (keys_taken read) key))
+          (ap (λ (far : Option ℕ → SettledTo). far key) (sym (to_on read start.far is.windows more.windows)))
+          (off more.windows (λ k d lt. let it = more.each k d lt in (it.all, it.to_is)) more.keys key has);
       are = are_on start asked old.teller new.teller asked.opts.margin read names far None is.windows entries is.are more;
       counted = counted_for start old read is.taken new counts numbering;
       before = is.taken.before;
@@ -292,16 +298,21 @@ settled_all start asked old new read told entries is reader once more behind bef
 -- and where it is to be followed on, and has settled as far as all may be told
 pub told_so_far : (start : Start) (asked : AuditArguments) (old : Follower) (read : List (Result SaidLine Why)) (told : List ℕ) → (is : IsTelling asked start old read told)
     → old.taking.watch.from ≡ certain_in start read
+    → ((key : Option ℕ) → Contains (keys_taken read) key
+    → IsToldOff asked.opts.margin start.behind (Some old.taking.watch.from) (lines_of_one (lines_taken read) (keys_taken read) key) (settled_in old.taking.watch.parts.items key))
     → ((watch : KeyWatch) (lines : List Line) (keys : List (Option ℕ)) (told : List Found) → HasSeenByKey watch lines keys → HasTold watch lines keys told
     → IsPermutation told (audited_to watch.margin watch.from lines keys))
     → (all : HasToldAll asked start false old read told) × (all.windows ≡ is.windows)
-told_so_far start asked old read told is to each_once = (
+told_so_far start asked old read told is to off each_once = (
   record {
     behind = is.behind;
     carried = is.carried;
     windows = is.windows;
     tells = is.tells;
     in_turn = is.in_turn;
+    all = λ key has.
+        subst (λ (at : ℕ). IsToldOff asked.opts.margin start.behind (Some at) (lines_of_one (lines_taken read) (keys_taken read) key) (told_to read start.far is.windows key)) to
+        (subst (IsToldOff asked.opts.margin start.behind (Some old.taking.watch.from) (lines_of_one (lines_taken read) (keys_taken read) key)) (is.far key) (off key has));
     are = is.are;
     counted = counted_for start old read is.taken old refl refl;
     whole = λ none_before none.
@@ -349,6 +360,7 @@ all_told asked start ends last bytes told text end all found last_early is names
         text_is = ap (λ text. told ++ text) texts ∙ sym (append_assoc told (string_bytes last.teller.text) end);
         tells = subst (λ names. AreWindows start.kept asked.opts.margin asked.wanted read names.clients is.windows (told ++ string_bytes last.teller.text)) (sym names) is.tells;
         in_turn = is.in_turn;
+        all = is.all;
         first = first ∙ is.are.first;
         counted = is.counted;
         end_is =

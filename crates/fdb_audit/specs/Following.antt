@@ -1,5 +1,5 @@
 -- What is told of a log that is followed as it grows. (this product's own)
-use Rattle.std.specs.Prelude.{◌≡◌, ◌==◌, ℕ, zero, suc, ◌+◌, ◌-◌, ◌^◌, ◌<◌, ◌≤◌, ◌||◌, nat_le, not, Bool, true, false, List, [], ◌∷◌, ◌++◌, All, IfSome, ⊤, Option, None, Some, codes, count_by, drop, length, map, min, nat_lt, option_map, slice_get, slice_index, take, unwrap_or, Result, Ok, Err, if◌then◌else◌}
+use Rattle.std.specs.Prelude.{◌≡◌, ◌⊎◌, ◌==◌, ℕ, zero, suc, ◌+◌, ◌-◌, ◌^◌, ◌<◌, ◌≤◌, ◌||◌, nat_le, not, Bool, true, false, List, [], ◌∷◌, ◌++◌, All, IfSome, ⊤, Option, None, Some, codes, count_by, drop, length, map, min, nat_lt, option_map, slice_get, slice_index, take, unwrap_or, Result, Ok, Err, if◌then◌else◌}
 use Rattle.std.specs.List.{flat_map}
 use Rattle.std.specs.Option.{option_eq, option_or}
 use Rattle.fdb_lines.specs.declared.fault.Found.{Found}
@@ -13,7 +13,7 @@ use Rattle.fdb_lines.specs.Lines.{is_ask, is_commit, is_read, is_report, lines_i
 use Rattle.fdb_lines.specs.Reasons.{found_of}
 use Rattle.fdb_lines.specs.Summary.{how_many}
 use Rattle.fdb_lines.specs.Watch.{AreFindingsDue}
-use Rattle.fdb_lines.specs.Watching.{is_due}
+use Rattle.fdb_lines.specs.Watching.{is_due, told_of}
 use Rattle.fdb_log_reader.specs.declared.error.ReadError.{ReadError}
 use Rattle.fdb_log_reader.specs.declared.error.Why.{Why}
 use Rattle.fdb_log_reader.specs.declared.error.Why.TheVariants.{Empty}
@@ -279,6 +279,13 @@ AreInTurn behind read far [] = ⊤
 AreInTurn behind read far (window ∷ windows) =
     GoesOnFrom behind (far window.key) (lines_taken (take window.read read)) window × All (λ (next : Window). window.read ≤ next.read) windows
     × AreInTurn behind read (told_on (take window.read read) window far) windows
+
+-- All that there is to tell of a key's lines, up to a moment or in all, has been told: of all of them up to then; or a window that went on
+-- from where the key was told of would tell nothing.
+abbrev pub IsToldOff : (margin behind : ℕ) (to : Option ℕ) (lines : List Line) → SettledTo → Type 0
+IsToldOff margin behind to lines far =
+    (far ≡ record { to = to; come = length lines })
+    ⊎ ((from : ℕ) × (far.to ≡ Some from) × (told_of margin (is_due from (from - behind) far.come to) lines ≡ []))
 
 -- Of no line of a key that one window tells of does the other: each by its number among the lines of the key.
 abbrev pub TellApart : List (Result SaidLine Why) → Window → Window → Type 0

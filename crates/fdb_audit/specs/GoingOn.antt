@@ -1,15 +1,16 @@
 -- A watch that goes on from what it keeps, where the names that it holds have become many. (this product's own)
-use Rattle.std.specs.Prelude.{◌≡◌, ℕ, ◌+◌, ◌++◌, Bool, List, None, Option, Result, option_map, string_bytes, true}
+use Rattle.std.specs.Prelude.{All, false, ◌≡◌, ℕ, ◌+◌, ◌++◌, Bool, List, None, Option, Result, option_map, string_bytes, true}
 use Rattle.std.specs.List.{filter}
 use Rattle.std.specs.Option.{option_or}
+use Rattle.fdb_lines.specs.KeyWatch.{settled_in}
 use Rattle.fdb_lines.specs.Keys.{key_at}
 use Rattle.fdb_log_reader.specs.declared.error.Why.{Why}
 use Rattle.fdb_log_reader.specs.ReadLine.{SaidLine}
 use Rattle.fdb_log_reader.specs.Reading.{EndsALine}
-use Rattle.fdb_audit.specs.Following.{AreInTurn, AreWindows, Before, Start, Window, counted_on, faults_told, first_told, keys_taken, last_refused, told_in_all}
+use Rattle.fdb_audit.specs.Following.{AreInTurn, AreWindows, Before, Start, Window, counted_on, faults_told, first_told, keys_taken, last_refused, told_in_all, told_to}
 use Rattle.fdb_audit.specs.Kept.{KeepsLines, places_kept, start_of}
 use Rattle.fdb_audit.specs.Taken.{AreTaken, counted_of, known_by}
-use Rattle.fdb_audit.specs.Watched.{lines_asked, names_asked}
+use Rattle.fdb_audit.specs.Watched.{IsAt, lines_asked, names_asked}
 use Rattle.fdb_audit.specs.declared.arguments.AuditArguments.{AuditArguments}
 use Rattle.fdb_audit.specs.declared.taken_lines.Taking.{Taking}
 
@@ -38,9 +39,12 @@ pub record GoesOnBy (asked : AuditArguments) (start : Start) (bytes told kept : 
   pub taking : Taking
   pub windows : List Window
   pub margin : taking.watch.margin ≡ asked.opts.margin
+  pub horizon : taking.watch.horizon ≡ start.behind
+  pub far : (key : Option ℕ) → settled_in taking.watch.parts.items key ≡ told_to (lines_asked asked bytes) start.far windows key
   pub taken : AreTaken start taking (lines_asked asked bytes) (start.told ++ told_in_all (lines_asked asked bytes) windows)
   pub tells : AreWindows start.kept asked.opts.margin asked.wanted (lines_asked asked bytes) (names_asked asked bytes).clients windows told
   pub in_turn : AreInTurn start.behind (lines_asked asked bytes) start.far windows
+  pub at : All (IsAt start false (lines_asked asked bytes) taking.settlings.at) windows
   pub stays : Option ℕ → Bool
   pub forgets : MayForget asked.forget stays
   pub keeps : KeepsLines (places_staying stays (lines_asked asked bytes) taking) (option_map string_bytes asked.key) (names_asked asked bytes) start.kept taking (lines_asked asked bytes) kept

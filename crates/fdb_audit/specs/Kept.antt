@@ -5,7 +5,7 @@ use Rattle.std.specs.Option.{option_flatten}
 use Rattle.fdb_lines.specs.declared.key_part.KeyPart.{KeyPart}
 use Rattle.fdb_lines.specs.declared.key_watch.KeyWatch.{KeyWatch}
 use Rattle.fdb_lines.specs.KeyParts.{lines_of_one}
-use Rattle.fdb_lines.specs.KeyWatch.{SettledTo, not_settled}
+use Rattle.fdb_lines.specs.KeyWatch.{SettledTo, not_settled, settled_in}
 use Rattle.fdb_lines.specs.Keys.{key_at}
 use Rattle.fdb_lines.specs.Lines.{line_at}
 use Rattle.fdb_lines.specs.ToldByKey.{audited_to}
@@ -18,7 +18,7 @@ use Rattle.fdb_audit.specs.declared.arguments.AuditArguments.{AuditArguments}
 use Rattle.fdb_audit.specs.declared.printer.LogFault.{LogFault}
 use Rattle.fdb_audit.specs.declared.taken_lines.Taking.{Taking}
 use Rattle.fdb_audit.specs.Clocks.{ahead_end, believed_from, no_clocks}
-use Rattle.fdb_audit.specs.Following.{KeptBefore, Start, certain_in, early_at, keys_taken, lines_taken, none_before, taken_line, taken, told_in_all}
+use Rattle.fdb_audit.specs.Following.{KeptBefore, Start, certain_in, early_at, keys_taken, lines_taken, none_before, taken_line, taken, told_in_all, told_to}
 use Rattle.fdb_audit.specs.Taken.{AreTaken}
 use Rattle.fdb_audit.specs.Watched.{IsFollowed, lines_asked, names_asked}
 
@@ -151,6 +151,8 @@ pub record IsStopped (asked : AuditArguments) (start : Start) (bytes text : List
   pub followed : IsFollowed asked start false bytes text found last_early
   pub taking : Taking
   pub margin : taking.watch.margin ≡ asked.opts.margin
+  pub horizon : taking.watch.horizon ≡ start.behind
+  pub far : (key : Option ℕ) → settled_in taking.watch.parts.items key ≡ told_to (lines_asked asked bytes) start.far followed.windows key
   pub early : followed.counts.early ≡ taking.counts.early
   pub taken : AreTaken start taking (lines_asked asked bytes) (start.told ++ told_in_all (lines_asked asked bytes) followed.windows)
   pub to : taking.watch.from ≡ certain_in start (lines_asked asked bytes)

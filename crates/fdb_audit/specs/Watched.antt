@@ -1,8 +1,9 @@
 -- What has been told of a text whose log is followed. (this product's own)
-use Rattle.std.specs.Prelude.{◌≡◌, ℕ, ◌<◌, ◌≤◌, ◌&&◌, ◌++◌, Bool, true, false, not, All, IfSome, IsPermutation, List, None, Option, is_some, length, map, take, nat_lt, option_map, option_to_list, string_bytes, Result}
+use Rattle.std.specs.Prelude.{◌≡◌, ℕ, ◌<◌, ◌≤◌, ◌&&◌, ◌++◌, Bool, true, false, not, All, IfSome, IsPermutation, List, None, Option, Some, is_some, length, map, take, nat_lt, option_map, option_to_list, string_bytes, Result}
 use Rattle.std.specs.List.{Contains}
 use Rattle.std.specs.Option.{option_or}
 use Rattle.fdb_lines.specs.declared.fault.Found.{Found}
+use Rattle.fdb_lines.specs.KeyParts.{lines_of_one}
 use Rattle.fdb_lines.specs.KeyWatch.{settled_in}
 use Rattle.fdb_lines.specs.ToldByKey.{audited, audited_to}
 use Rattle.fdb_log_reader.specs.declared.error.Why.{Why}
@@ -14,7 +15,7 @@ use Rattle.fdb_audit.specs.declared.arguments.AuditArguments.{AuditArguments}
 use Rattle.fdb_audit.specs.declared.printer.LogFault.{LogFault}
 use Rattle.fdb_audit.specs.declared.follower.Follower.{Follower}
 use Rattle.fdb_audit.specs.declared.teller.Teller.{Teller}
-use Rattle.fdb_audit.specs.Following.{AreInTurn, AreNamed, AreWindows, Counted, FollowArguments, IsCounted, IsEnd, Start, Window, certain_in, counted_on, early_at, faults_told, first_told, keys_taken, lines_before, lines_since, lines_taken, out_of_reach_in, taken, told_in_all, told_to}
+use Rattle.fdb_audit.specs.Following.{AreInTurn, AreNamed, AreWindows, Counted, FollowArguments, IsCounted, IsEnd, IsToldOff, Start, Window, certain_in, counted_on, early_at, faults_told, first_told, keys_taken, lines_before, lines_since, lines_taken, out_of_reach_in, taken, told_in_all, told_to}
 use Rattle.fdb_audit.specs.Came.{ahead_lines, certain_with}
 use Rattle.fdb_audit.specs.Taken.{AreTaken, HasTotals, HasWarned, IsCarried, counted_of}
 use Rattle.fdb_audit.specs.Warned.{AreEarly, IsSaid}
@@ -57,6 +58,17 @@ pub record IsAt (start : Start) (ends : Bool) (read : List (Result SaidLine Why)
   pub to : IfSome window.to (λ to. let come = length (taken (take window.read read)) in
       Contains settled come × (to ≡ certain_with start (lines_before start read) (lines_since start read) come))
   pub last : window.to ≡ None → (ends ≡ true) × (window.read ≡ length read)
+
+-- up to when all is told at the end: in all, or up to when all may be told, where the log is to be followed on
+abbrev pub told_up_to : Bool → Start → List (Result SaidLine Why) → Option ℕ
+told_up_to true start read = None
+told_up_to false start read = Some (certain_in start read)
+
+-- Of each key that a line has all has been told that there is to tell.
+abbrev pub AreToldOff : (margin : ℕ) → Start → (ends : Bool) → List (Result SaidLine Why) → List Window → Type 0
+AreToldOff margin start ends read windows =
+    (key : Option ℕ) → Contains (keys_taken read) key
+    → IsToldOff margin start.behind (told_up_to ends start read) (lines_of_one (lines_taken read) (keys_taken read) key) (told_to read start.far windows key)
 
 -- At the end of a log has been told, each fault once, what an audit of all lines finds; where it is to be followed on, what that
 -- finds at lines that began before all may be told.
@@ -109,6 +121,7 @@ pub record IsFollowed (asked : AuditArguments) (start : Start) (ends : Bool) (by
   pub text_is : text ≡ told ++ end
   pub tells : AreWindows start.kept asked.opts.margin asked.wanted (lines_asked asked bytes) (names_asked asked bytes).clients windows told
   pub in_turn : AreInTurn start.behind (lines_asked asked bytes) start.far windows
+  pub all : AreToldOff asked.opts.margin start ends (lines_asked asked bytes) windows
   pub first : found ≡ option_or start.before.first (first_told start.kept (lines_asked asked bytes) windows)
   pub counted : IsCounted start (lines_asked asked bytes) counts
   pub end_is : IsEnd (not (is_some found) && not asked.wanted.json) asked.wanted.totals asked.wanted.json (counted_on start.before.counts counts)
@@ -134,6 +147,7 @@ pub record HasToldAll (asked : AuditArguments) (start : Start) (ends : Bool) (fo
   pub windows : List Window
   pub tells : AreWindows start.kept asked.opts.margin asked.wanted read (line_names follower.reader).clients windows (told ++ string_bytes follower.teller.text)
   pub in_turn : AreInTurn start.behind read start.far windows
+  pub all : AreToldOff asked.opts.margin start ends read windows
   pub are : IsTellerOf asked start follower.teller read windows
   pub before : start.early ≡ 0 → All (λ (found : Found). found.place < start.lines) start.told
   pub counted : IsCounted start read (counted_of follower.taking)

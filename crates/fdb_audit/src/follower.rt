@@ -54,7 +54,11 @@ impl Follower {
     ghost use Rattle.fdb_audit.specs.Watched.{lines_asked, names_asked, HasFollowed, HasSaid};
     ghost use Rattle.fdb_audit.specs.Watched.{AskForTheSame, HasSaidAll};
     ghost use Rattle.fdb_audit.specs.Watched.{HasToldAll, IsTelling};
-    ghost use Rattle.fdb_audit.specs.Following.{AreCountedOn, IsCounted};
+    ghost use Rattle.std.specs.Prelude.{Option, Some};
+    ghost use Rattle.std.specs.List.{Contains};
+    ghost use Rattle.fdb_lines.specs.KeyParts.{lines_of_one};
+    ghost use Rattle.fdb_lines.specs.KeyWatch.{settled_in};
+    ghost use Rattle.fdb_audit.specs.Following.{AreCountedOn, IsCounted, IsToldOff};
     ghost use Rattle.fdb_audit.specs.Kept.{IsStopped};
     ghost use Rattle.fdb_audit.specs.Progress.{counted_by};
     ghost use Rattle.fdb_audit.specs.Taken.{counted_of, kept_by};
@@ -344,6 +348,13 @@ impl Follower {
     /// Settles as far as lines that come may not begin any more.
     fn settle(&mut self) -> Result<(), AllocError>
         ensures reader { self.new.reader ≡ self.old.reader }
+        ensures off { OnOk result ((asked : AuditArguments) → (start : Start)
+            → (read : List (Result SaidLine Why)) → (told : List ℕ)
+            → IsTelling asked start self.old read told
+            → (key : Option ℕ) → Contains (keys_taken read) key
+            → let watch = self.new.taking.watch in IsToldOff asked.opts.margin start.behind
+            (Some watch.from) (lines_of_one (lines_taken read) (keys_taken read) key)
+            (settled_in watch.parts.items key)) }
         ensures to { OnOk result (self.new.taking.watch.from ≡ max self.old.taking.watch.from
             (self.old.taking.clocks.believed - self.old.taking.clocks.behind)) }
         ensures told { OnOk result ((asked : AuditArguments) → (start : Start)

@@ -2,7 +2,7 @@ use Rattle.std.proofs.Common.{◌∙◌, ◌++◌, List, ap, false, string_bytes
 use Rattle.std.proofs.lemmas.Result.{IfOk-weaker}
 use Rattle.fdb_log_reader.specs.LineReader.{line_names}
 use Rattle.fdb_log_reader.specs.ReadLine.{LineNames, member_in}
-use Rattle.fdb_audit.specs.Following.{Counted, Window, told_in_all}
+use Rattle.fdb_audit.specs.Following.{Counted, Window, told_in_all, told_to}
 use Rattle.fdb_audit.specs.Kept.{Keeps}
 use Rattle.fdb_audit.specs.Taken.{AreTaken}
 use Rattle.fdb_audit.specs.Watched.{lines_asked, names_asked}
@@ -18,7 +18,7 @@ returns-clause-told c = λ asked start bytes told has.
     let was = c.in_ok-take_last.ensures.told asked start bytes told has in
     let to = settles_to start _ read _ _ was.taken c.in_ok-settle.ensures.to in
     (c.in_ok-followed.ensures.told asked start bytes told false
-    (told_so_far start asked _ read told (c.in_ok-settle.ensures.told asked start read told was) to c.all_is_told_up_to_where_it_settled.ensures.each_once).0
+    (told_so_far start asked _ read told (c.in_ok-settle.ensures.told asked start read told was) to (c.in_ok-settle.ensures.off asked start read told was) c.all_is_told_up_to_where_it_settled.ensures.each_once).0
     (c.in_ok-take_last.ensures.names asked start bytes told has ∙ ap line_names (sym c.settle.ensures.reader))).0
 
 pub returns-clause-refused : goal.returns-clause-refused
@@ -37,12 +37,14 @@ returns-clause-kept c =
     let is = c.in_ok-settle.ensures.told asked start read told was in
     let to = settles_to start _ read _ _ was.taken c.in_ok-settle.ensures.to in
     let same = c.in_ok-take_last.ensures.names asked start bytes told has ∙ ap line_names (sym c.settle.ensures.reader) in
-    let (all, windows) = told_so_far start asked _ read told is to c.all_is_told_up_to_where_it_settled.ensures.each_once in
+    let (all, windows) = told_so_far start asked _ read told is to (c.in_ok-settle.ensures.off asked start read told was) c.all_is_told_up_to_where_it_settled.ensures.each_once in
     let (followed, as_all, counts, settled) = c.in_ok-followed.ensures.told asked start bytes told false all same in
     record {
       followed = followed;
       taking = taking;
       margin = is.margin;
+      horizon = is.horizon;
+      far = λ key. is.far key ∙ ap (λ (windows : List Window). told_to read start.far windows key) (sym (as_all ∙ windows));
       to = to;
       early = ap (λ (counts : Counted). counts.early) counts;
       taken = subst (λ (windows : List Window). AreTaken start taking read (start.told ++ told_in_all read windows)) (sym (as_all ∙ windows)) is.taken;
@@ -58,7 +60,7 @@ returns-clause-said c = λ asked start bytes told warned has says.
     let to = settles_to start _ read _ _ was.taken c.in_ok-settle.ensures.to in
     let (all, windows, counts, settled) =
     c.in_ok-followed.ensures.told asked start bytes told false
-    (told_so_far start asked _ read told (c.in_ok-settle.ensures.told asked start read told was) to c.all_is_told_up_to_where_it_settled.ensures.each_once).0
+    (told_so_far start asked _ read told (c.in_ok-settle.ensures.told asked start read told was) to (c.in_ok-settle.ensures.off asked start read told was) c.all_is_told_up_to_where_it_settled.ensures.each_once).0
     (c.in_ok-take_last.ensures.names asked start bytes told has ∙ ap line_names (sym c.settle.ensures.reader)) in
     let (found, taken, said) = c.in_ok-take_last.ensures.said asked start bytes warned says in (
       all,
