@@ -11,6 +11,7 @@ pub mod Following
 pub mod Warned
 pub mod Tallied
 pub mod Taken
+pub mod Recent
 pub mod Watched
 pub mod Kept
 pub mod GoingOn

@@ -22,6 +22,7 @@ use Rattle.fdb_lines.specs.Before.{began}
 use Rattle.fdb_audit.specs.declared.taken_lines.Taking.{Taking}
 use Rattle.fdb_audit.specs.declared.teller.Teller.{Teller}
 use Rattle.fdb_audit.specs.declared.clocks.Clocks.{Clocks}
+use Rattle.fdb_audit.specs.declared.clocks.KeyTimes.{KeyTimes}
 use Rattle.fdb_audit.specs.declared.refusal.CountedLine.{CountedLine}
 use Rattle.fdb_audit.specs.declared.refusal.Warning.{Warning}
 use Rattle.fdb_audit.specs.declared.refusal.Warning.TheVariants.{Ahead, Early}
@@ -44,8 +45,8 @@ pub record IsQuiet (follower : Follower) : Type 0 where
   pub names : names_on follower.reader [] ≡ line_names follower.reader
   pub text : string_bytes follower.teller.text ≡ []
 
--- another takes its place, with what it has counted and told
-pub record TakesPlace (old next new : Follower) : Type 0 where
+-- another takes its place, with what it has counted and told, and by when the lines of its keys came
+pub record TakesPlace (old next new : Follower) (times : KeyTimes) : Type 0 where
   pub reader : new.reader ≡ next.reader
   pub watch : new.taking.watch ≡ next.taking.watch
   pub numbering : new.taking.numbering ≡ next.taking.numbering
@@ -54,6 +55,7 @@ pub record TakesPlace (old next new : Follower) : Type 0 where
   pub counts : new.taking.counts ≡ next.taking.counts
   pub settled : new.taking.settled ≡ next.taking.settled
   pub clocks : Carries old.taking.clocks next.taking.clocks new.taking.clocks
+  pub times_are : new.taking.times ≡ times
   pub teller : new.teller ≡ record next.teller { told = old.teller.told; first = old.teller.first }
   pub behind : new.behind ≡ next.behind
   pub before : CountsBehind old.before old.taking new.before
@@ -194,3 +196,4 @@ pub record IsUnread (asked : AuditArguments) (start : Start) (follower : Followe
   pub far : (key : Option ℕ) → settled_in follower.taking.watch.parts.items key ≡ start.far key
   pub text : string_bytes follower.teller.text ≡ []
   pub are : IsTellerOf asked start follower.teller [] []
+  pub times : follower.taking.times.are_wanted ≡ is_some asked.forget

@@ -36,7 +36,7 @@ returns-clause-told c = λ asked start read told is.
     (λ k d lt. let part = watch.alike k d lt in let low = part.its_from in
     record { its_margin = part.its_margin ∙ is.margin; its_horizon = part.its_horizon ∙ is.horizon; its_from = omega (arith, low) })
     (subst (AreTold (Some to) lines keys watch.parts.items) (sym c.deref.ensures.value) tell)))
-    refl refl
+    refl refl c.note_settled.ensures.times
 
 pub returns-clause-taken : goal.returns-clause-taken
 returns-clause-taken c =
