@@ -3,6 +3,7 @@
 
 ghost use Rattle.std.specs.Prelude.{◌≡◌, ◌-◌, ◌≤◌, if◌then◌else◌, ℕ, [], IfSome, None, Option};
 ghost use Rattle.std.specs.Prelude.{Some, is_some, option_map, unwrap_or, List, IfOk, OnOk};
+ghost use Rattle.std.specs.Prelude.{slice_get};
 ghost use Rattle.std.proofs.Props.{props};
 ghost use Rattle.std.specs.List.{filter};
 ghost use Rattle.fdb_audit.specs.Clocks.{believed_from};
@@ -231,6 +232,7 @@ pub(crate) struct KeyTimes {
 
 impl KeyTimes {
     ghost use Rattle.fdb_audit.specs.private.KeyTimes.{is_staying, HearsKey, NotesKey, last_line};
+    ghost use Rattle.fdb_audit.specs.private.KeyTimes.{seen_when};
 
     /// No line has come.
     pub(crate) fn new(alloc: Global, are_wanted: bool) -> Self
@@ -288,7 +290,9 @@ impl KeyTimes {
 
     /// Notes of all keys that a line of theirs has just come.
     pub(crate) fn refresh(&mut self, believed: u64)
-        ensures { self.new.are_wanted ≡ self.old.are_wanted }
+        ensures seen { (key : ℕ) → slice_get self.new.last.items key
+            ≡ option_map (seen_when believed) (slice_get self.old.last.items key) }
+        ensures wanted { self.new.are_wanted ≡ self.old.are_wanted }
     {
         for last in self.last.iter_mut() {
             last.seen = believed;

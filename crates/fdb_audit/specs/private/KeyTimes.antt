@@ -30,6 +30,10 @@ abbrev pub latest : Option LastLine → LastLine → LastLine
 latest None line = line
 latest (Some last) line = record { seen = line.seen; end = max last.end line.end }
 
+-- as if it had just come
+abbrev pub seen_when : (believed : ℕ) → LastLine → LastLine
+seen_when believed last = record { seen = believed; end = last.end }
+
 -- A line of a key came: of others there is what there was, or they came in with it.
 pub record NotesKey (key : ℕ) (line : LastLine) (old new : KeyTimes) : Type 0 where
   pub its : slice_get new.last.items key ≡ Some (latest (slice_get old.last.items key) line)

@@ -40,7 +40,7 @@ returns-clause-read c = λ asked behind kept told_is settled_is many_is ends is.
     subst (λ (read : List (Result SaidLine Why)). Took read asked.opts.margin) whole (subst (Took lines) is.margin took) in
     let (has, none_told) =
     fed_first (start_with behind kept.front) start asked c.args.self.now _ bytes lines is refl refl refl
-    (drop_all (length (lines_asked asked bytes)) lines (omega (arith, ap length whole))) (c.refresh.ensures ∙ c.take_kept.ensures.wanted)
+    (drop_all (length (lines_asked asked bytes)) lines (omega (arith, ap length whole))) (c.refresh.ensures.wanted ∙ c.take_kept.ensures.wanted)
     c.in_ok-lines.ensures.read c.in_ok-lines.ensures.behind
     (named_in c.in_ok-lines.lines.items (line_names reader) c.in_ok-lines.ensures.numbers)
     (taken_beside start c.take_kept.new.self _ lines start.told took_so refl refl refl refl refl refl refl)
@@ -75,7 +75,7 @@ returns-clause-none_told c = λ asked behind kept told_is settled_is many_is end
     let (took_so, said_so) : Took (lines_asked asked bytes) asked.opts.margin =
     subst (λ (read : List (Result SaidLine Why)). Took read asked.opts.margin) whole (subst (Took lines) is.margin took) in
     fed_first (start_with behind kept.front) start asked c.args.self.now _ bytes lines is refl refl refl
-    (drop_all (length (lines_asked asked bytes)) lines (omega (arith, ap length whole))) (c.refresh.ensures ∙ c.take_kept.ensures.wanted)
+    (drop_all (length (lines_asked asked bytes)) lines (omega (arith, ap length whole))) (c.refresh.ensures.wanted ∙ c.take_kept.ensures.wanted)
     c.in_ok-lines.ensures.read c.in_ok-lines.ensures.behind
     (named_in c.in_ok-lines.lines.items (line_names reader) c.in_ok-lines.ensures.numbers)
     (taken_beside start c.take_kept.new.self _ lines start.told took_so refl refl refl refl refl refl refl)
