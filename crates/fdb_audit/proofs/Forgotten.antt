@@ -1,5 +1,5 @@
 -- Which lines are kept where keys are forgotten.
-use Rattle.std.proofs.Common.{◌≡◌, ◌∙◌, ◌∷◌, [], ℕ, suc, Bool, true, false, IsPermutation, List, None, Option, Result, Some, ap, arith, cond, map, refl}
+use Rattle.std.proofs.Common.{◌≡◌, ◌∙◌, ◌∷◌, [], ℕ, ◌+◌, suc, Bool, true, false, IsPermutation, List, None, Option, Result, Some, ap, arith, cond, map, refl, slice_get}
 use Rattle.std.specs.List.{All, filter}
 use Rattle.std.proofs.lemmas.List.Sorted.{IsPermutation-trans}
 use Rattle.fdb_lines.specs.declared.key_part.KeptLine.{KeptLine}
@@ -10,19 +10,32 @@ use Rattle.fdb_log_reader.specs.declared.error.Why.{Why}
 use Rattle.fdb_log_reader.specs.ReadLine.{LineNames, SaidLine}
 use Rattle.fdb_audit.specs.declared.clocks.KeyTimes.{KeyTimes}
 use Rattle.fdb_audit.specs.declared.taken_lines.Taking.{Taking}
-use Rattle.fdb_audit.specs.Following.{KeptBefore}
+use Rattle.fdb_audit.specs.Following.{KeptBefore, Start}
 use Rattle.fdb_audit.specs.GoingOn.{MayForget}
 use Rattle.fdb_audit.specs.Kept.{KeepsLines}
 use Rattle.fdb_audit.specs.private.KeptTexts.{number_of}
+use Rattle.fdb_audit.specs.Recent.{KnowsTimes, believed_by, believed_now}
 use Rattle.fdb_audit.specs.private.KeyTimes.{is_staying}
+use Rattle.fdb_audit.proofs.Recent.{new_since}
 
--- lines without a key stay, and all where none is to be forgotten
-pub may_forget : (times : KeyTimes) (forget : Option ℕ) (believed : ℕ) → MayForget forget (is_staying times forget believed)
-may_forget times None believed = record { unkeyed = refl; all = λ _ key. refl }
-may_forget times (Some after) believed = record { unkeyed = refl; all = λ none. absurd (some_is none) }
+-- Lines without a key stay, and all where none is to be forgotten; and those of keys of which a line has come within a while.
+pub may_forget : (times : KeyTimes) (forget : Option ℕ) (start : Start) (read : List (Result SaidLine Why)) (believed : ℕ) → KnowsTimes forget start times read → believed ≡ believed_now start read
+    → MayForget forget start read (is_staying times forget believed)
+may_forget times None start read believed knows now = record { unkeyed = refl; all = λ _ key. refl; recent = λ _ place key _ _ _. refl }
+may_forget times (Some after) start read believed knows now = record {
+  unkeyed = refl;
+  all = λ none. absurd (some_is none);
+  recent = λ within place key is get near.
+      let at = believed_by start read (place + 1) in
+      let same : after ≡ within = same_some is in
+      new_since after believed at (slice_get times.last.items key) (knows.seen refl place key get) (omega (arith, near, now, same));
+}
   where
     some_is : Some after ≡ None → ⊥
     some_is is = cc
+
+    same_some : {within : ℕ} → Some after ≡ Some within → after ≡ within
+    same_some is = cc
 
 -- what keeps some lines keeps those that are the same in another order
 pub keeps_all : {key : Option (List ℕ)} {names : LineNames} {before : KeptBefore} {taking : Taking} {read : List (Result SaidLine Why)} {text wanted : List ℕ} (are : List ℕ)

@@ -2,7 +2,7 @@
 use Rattle.std.specs.Prelude.{◌&&◌}
 use Rattle.std.proofs.lemmas.List.{drop_all, length-append}
 use Rattle.std.proofs.lemmas.List.Elements.{All-nil}
-use Rattle.std.proofs.Common.{◌≡◌, ◌∙◌, ◌+◌, ◌≤◌, ◌++◌, ◌∷◌, [], ℕ, Bool, IsPermutation, List, None, Option, Some, Result, ap, append-nil, arith, drop, is_some, length, map, option_map, option_to_list, refl, string_bytes, subst, sym}
+use Rattle.std.proofs.Common.{false, All, ◌≡◌, ◌∙◌, ◌+◌, ◌≤◌, ◌++◌, ◌∷◌, [], ℕ, Bool, IsPermutation, List, None, Option, Some, Result, ap, append-nil, arith, drop, is_some, length, map, option_map, option_to_list, refl, string_bytes, subst, sym}
 use Rattle.std.specs.Option.{option_or}
 use Rattle.fdb_lines.specs.declared.fault.Found.{Found}
 use Rattle.fdb_lines.specs.declared.key_watch.KeyWatch.{KeyWatch}
@@ -22,7 +22,9 @@ use Rattle.fdb_audit.specs.Came.{ahead_then, early_by, early_lines, last_line}
 use Rattle.fdb_audit.specs.declared.taken_lines.Settlings.{Settlings}
 use Rattle.fdb_audit.specs.Taken.{AreTaken, HasTotals, HasTotalsIn, IsCarried, IsInReach, counted_of, known_by}
 use Rattle.fdb_audit.specs.Watched.{AskForTheSame, HasFollowed, IsAt, lines_asked, members_asked, names_asked}
+use Rattle.fdb_audit.specs.Recent.{KnowsTimes}
 use Rattle.fdb_audit.specs.declared.arguments.AuditArguments.{AuditArguments}
+use Rattle.fdb_audit.specs.declared.clocks.KeyTimes.{KeyTimes}
 use Rattle.fdb_audit.specs.declared.progress.Carried.{Carried}
 use Rattle.fdb_audit.specs.declared.progress.Counts.{Counts}
 use Rattle.fdb_audit.specs.declared.follower.Follower.{Follower}
@@ -38,6 +40,7 @@ use Rattle.fdb_audit.proofs.KeptTexts.{StaysInOne, all_read, ends_so, member_fol
 use Rattle.fdb_audit.proofs.Believed.{carried_on as heard_on}
 use Rattle.fdb_audit.proofs.SettledOn.{held_else, settled_anew}
 use Rattle.fdb_audit.proofs.Warned.{none_ahead, none_early, none_odd}
+use Rattle.fdb_audit.proofs.Recent.{none_known}
 
 -- ---- who asks for the same
 
@@ -106,6 +109,7 @@ module _ (asked other : AuditArguments) (same : AskForTheSame asked other) where
             named = is.named;
             in_turn = is.in_turn;
             at = is.at;
+            times = subst (λ (forget : Option ℕ). KnowsTimes forget start follower.taking.times has.read) same.forget is.times;
             tells = subst (λ (wanted : Wanted). AreWindows start.kept asked.opts.margin wanted has.read names is.windows text) same.wanted
                 (subst (λ (margin : ℕ). AreWindows start.kept margin other.wanted has.read names is.windows text) margin_same is.tells);
             are = record {
@@ -166,7 +170,7 @@ module _ (asked : AuditArguments) (start : Start) (old next new : Follower) (byt
   abbrev on : Start
   on = record (start_of asked start.behind kept) { clocks = known_by old.taking.clocks; before = counted_before start has.read has.telling.windows old.taking }
 
-  goes_on : (stays : Option ℕ → Bool) → MayForget asked.forget stays
+  goes_on : (stays : Option ℕ → Bool) → MayForget asked.forget start has.read stays
       → KeepsLines (places_staying stays has.read old.taking) (option_map string_bytes asked.key) (line_names old.reader) start.kept old.taking has.read kept → EndsALine bytes
       → (start_of asked start.behind kept).from ≡ old.taking.watch.from → GoesOnBy asked start bytes told kept on
   goes_on stays forgets keeps ends from =
@@ -174,34 +178,40 @@ module _ (asked : AuditArguments) (start : Start) (old next new : Follower) (byt
       let Its = λ (read : List (Result SaidLine Why)) (names : LineNames). AreTaken start old.taking read (start.told ++ told_in_all read is.windows)
       × (AreWindows start.kept asked.opts.margin asked.wanted read names.clients is.windows told
       × (AreInTurn start.behind read start.far is.windows
+      × (((key : Option ℕ) → settled_in old.taking.watch.parts.items key ≡ told_to read start.far is.windows key)
+      × (All (IsAt start false read old.taking.settlings.at) is.windows
+      × (MayForget asked.forget start read stays
       × (KeepsLines (places_staying stays read old.taking) (option_map string_bytes asked.key) names start.kept old.taking read kept
-      × (on ≡ record (start_of asked start.behind kept) { clocks = known_by old.taking.clocks; before = counted_before start read is.windows old.taking })))) in
+      × (on ≡ record (start_of asked start.behind kept) { clocks = known_by old.taking.clocks; before = counted_before start read is.windows old.taking }))))))) in
       let silent : told ++ string_bytes old.teller.text ≡ told = ap (λ text. told ++ text) quiet.text ∙ append-nil told in
       let all : Its (lines_asked asked bytes) (names_asked asked bytes) =
       subst (λ names. Its (lines_asked asked bytes) names) (sym named)
       (subst (λ read. Its read (line_names old.reader)) (sym whole)
-      (is.taken, (subst (AreWindows start.kept asked.opts.margin asked.wanted has.read (line_names old.reader).clients is.windows) silent is.tells, (is.in_turn, (keeps, refl))))) in
+      (is.taken, (subst (AreWindows start.kept asked.opts.margin asked.wanted has.read (line_names old.reader).clients is.windows) silent is.tells, (is.in_turn, (is.far, (is.at, (forgets, (keeps, refl)))))))) in
       record {
         taking = old.taking;
         windows = is.windows;
         margin = is.margin;
+        horizon = is.horizon;
         taken = all.0;
         tells = all.1.0;
         in_turn = all.1.1.0;
+        far = all.1.1.1.0;
+        at = all.1.1.1.1.0;
         stays = stays;
-        forgets = forgets;
-        keeps = all.1.1.1.0;
+        forgets = all.1.1.1.1.1.0;
+        keeps = all.1.1.1.1.1.1.0;
         ends = ends;
         from = from;
-        next_is = all.1.1.1.1;
+        next_is = all.1.1.1.1.1.1.1;
       }
 
   -- the next has read what the text keeps, and told nothing
-  followed_on : (stays : Option ℕ → Bool)
+  followed_on : (stays : Option ℕ → Bool) (times : KeyTimes) → times.are_wanted ≡ old.taking.times.are_wanted
       → KeepsLines (places_staying stays has.read old.taking) (option_map string_bytes asked.key) (line_names old.reader) start.kept old.taking has.read kept
       → (restored : HasFollowed asked (start_of asked start.behind kept) next kept []) → restored.telling.windows ≡ [] → next.taking.settlings.at ≡ []
-      → next.taking.watch.from ≡ (start_of asked start.behind kept).from → TakesPlace old next new → HasFollowed asked on new kept []
-  followed_on stays keeps restored none settled moment place =
+      → next.taking.watch.from ≡ (start_of asked start.behind kept).from → TakesPlace old next new times → HasFollowed asked on new kept []
+  followed_on stays times wanted keeps restored none settled moment place =
       let is = restored.telling in
       let begun = start_of asked start.behind kept in
       let read = restored.read in
@@ -241,6 +251,7 @@ module _ (asked : AuditArguments) (start : Start) (old next new : Follower) (byt
           named = subst (λ reader. AreNamed (lines_taken read) (line_names reader).clients) (sym place.reader) is.named;
           in_turn = tt;
           at = All-nil (IsAt on false read new.taking.settlings.at);
+          times = none_known asked.forget on new.taking.times read (ap (λ (times : KeyTimes). times.are_wanted) place.times_are ∙ (wanted ∙ has.telling.times.wanted)) nothing;
           tells = ap string_bytes (ap (λ (teller : Teller). teller.text) place.teller) ∙ tells;
           are = record {
             wanted = ap (λ (teller : Teller). teller.wanted) place.teller ∙ is.are.wanted;
@@ -264,26 +275,28 @@ module _ (asked : AuditArguments) (start : Start) (old next new : Follower) (byt
           subst (λ (counted : Option ToldFaults). HasTotalsIn new.teller.wanted.totals (members_asked asked) counted told_all) (sym (ap (λ (teller : Teller). teller.told) place.teller))
           (subst (λ (wanted : Wanted). HasTotalsIn wanted.totals (members_asked asked) old.teller.told told_all) (sym wanted) has.telling.are.totals)
 
-  pub gone_on : (stays : Option ℕ → Bool) → MayForget asked.forget stays
+  pub gone_on : (stays : Option ℕ → Bool) (times : KeyTimes) → times.are_wanted ≡ old.taking.times.are_wanted → MayForget asked.forget start has.read stays
       → KeepsLines (places_staying stays has.read old.taking) (option_map string_bytes asked.key) (line_names old.reader) start.kept old.taking has.read kept → EndsALine bytes
       → (start_of asked start.behind kept).from ≡ old.taking.watch.from
       → (restored : HasFollowed asked (start_of asked start.behind kept) next kept []) → restored.telling.windows ≡ [] → next.taking.settlings.at ≡ []
-      → next.taking.watch.from ≡ (start_of asked start.behind kept).from → TakesPlace old next new → HasGoneOn asked start new bytes told
-  gone_on stays forgets keeps ends from restored none settled moment place = (kept, on, goes_on stays forgets keeps ends from, followed_on stays keeps restored none settled moment place)
+      → next.taking.watch.from ≡ (start_of asked start.behind kept).from → TakesPlace old next new times → HasGoneOn asked start new bytes told
+  gone_on stays times wanted forgets keeps ends from restored none settled moment place =
+      (kept, on, goes_on stays forgets keeps ends from, followed_on stays times wanted keeps restored none settled moment place)
 
 -- by one that was restored as this one is asked for
 pub gone_on_by : (asked given : AuditArguments) → AskForTheSame asked given → (start : Start) (old next new : Follower) (bytes told kept : List ℕ) (has : HasFollowed asked start old bytes told) → IsQuiet old
-    → (stays : Option ℕ → Bool) → MayForget given.forget stays
+    → (stays : Option ℕ → Bool) (times : KeyTimes) → times.are_wanted ≡ old.taking.times.are_wanted → MayForget given.forget start has.read stays
     → KeepsLines (places_staying stays has.read old.taking) (option_map string_bytes asked.key) (line_names old.reader) start.kept old.taking has.read kept → EndsALine bytes
     → (restored : HasFollowed given (start_of given old.behind kept) next kept []) × (restored.telling.windows ≡ []) × (next.taking.settlings.at ≡ []) → next.taking.watch.from ≡ (start_of given old.behind kept).from
-    → next.taking.watch.from ≡ old.taking.watch.from → TakesPlace old next new → HasGoneOn asked start new bytes told
-gone_on_by asked given same start old next new bytes told kept has quiet stays forgets keeps ends restored moment still place =
+    → next.taking.watch.from ≡ old.taking.watch.from → TakesPlace old next new times → HasGoneOn asked start new bytes told
+gone_on_by asked given same start old next new bytes told kept has quiet stays times wanted forgets keeps ends restored moment still place =
     let begun : start_of given old.behind kept ≡ start_of asked start.behind kept =
     start_same asked given same old.behind kept ∙ ap (λ behind. start_of asked behind kept) has.telling.behind in
     let (so, none, settled) : (has : HasFollowed given (start_of asked start.behind kept) next kept []) × (has.telling.windows ≡ []) × (next.taking.settlings.at ≡ []) =
     subst (λ start. (has : HasFollowed given start next kept []) × (has.telling.windows ≡ []) × (next.taking.settlings.at ≡ [])) begun restored in
     let (as_asked, windows) = followed_same asked given same (start_of asked start.behind kept) next kept [] so in
-    gone_on asked start old next new bytes told kept has quiet stays (record { unkeyed = forgets.unkeyed; all = λ none. forgets.all (same.forget ∙ none) }) keeps ends (sym (ap (λ (start : Start). start.from) begun) ∙ (sym moment ∙ still)) as_asked (windows ∙ none) settled
+    gone_on asked start old next new bytes told kept has quiet stays times wanted
+    (subst (λ (forget : Option ℕ). MayForget forget start has.read stays) same.forget forgets) keeps ends (sym (ap (λ (start : Start). start.from) begun) ∙ (sym moment ∙ still)) as_asked (windows ∙ none) settled
     (moment ∙ ap (λ (start : Start). start.from) begun) place
 
 -- the text that keeps lines keeps those that were read, by the member that has the keys, in whatever order they are named

@@ -1,5 +1,5 @@
 -- What a follower has told stays told while it reads on, and what it tells next comes behind it.
-use Rattle.std.proofs.Common.{◌≡◌, ◌≢◌, ◌∙◌, ◌<◌, ◌≤◌, ℕ, List, [], ◌∷◌, ◌++◌, Bool, false, IsPermutation, ap, append-nil, append_assoc, arith, is_some, true, length, map, not, refl, string_bytes, subst, sym, ◌&&◌, None, Option, Result, Some}
+use Rattle.std.proofs.Common.{◌≡◌, ◌≢◌, ◌∙◌, ◌<◌, ◌≤◌, ℕ, List, [], ◌∷◌, ◌++◌, Bool, false, IsPermutation, ap, append-nil, append_assoc, arith, drop, is_some, true, length, map, not, refl, string_bytes, subst, sym, ◌&&◌, None, Option, Result, Some}
 use Rattle.std.specs.Prelude.{IfSome}
 use Rattle.std.specs.List.{All, AllPairs, Contains}
 use Rattle.std.specs.Option.{option_or}
@@ -14,6 +14,7 @@ use Rattle.fdb_lines.specs.ToldByKey.{HasTold, audited_to, told_by_all}
 use Rattle.fdb_log_reader.specs.declared.error.Why.{Why}
 use Rattle.fdb_log_reader.specs.LineReader.{AreMore, line_names, lines_on, names_on}
 use Rattle.fdb_log_reader.specs.ReadLine.{SaidLine}
+use Rattle.fdb_audit.specs.declared.clocks.KeyTimes.{KeyTimes}
 use Rattle.fdb_audit.specs.declared.progress.Counts.{Counts}
 use Rattle.fdb_audit.specs.declared.members.Numbering.{Numbering}
 use Rattle.fdb_audit.specs.declared.arguments.AuditArguments.{AuditArguments}
@@ -28,6 +29,8 @@ use Rattle.fdb_audit.specs.declared.taken_lines.Settlings.{Settlings}
 use Rattle.fdb_audit.proofs.AtSettlings.{at_end, at_now, at_stays}
 use Rattle.fdb_audit.proofs.OddLines.{early_still}
 use Rattle.fdb_audit.proofs.InTurn.{entry_key, far_now, in_turn_stays, keys_apart, named_on, to_on, to_stays, turns_on, window_key}
+use Rattle.fdb_audit.specs.Recent.{KnowsTimes}
+use Rattle.fdb_audit.proofs.Recent.{none_known, none_read}
 use Rattle.fdb_audit.proofs.Windows.{first_on, faults_on as all_faults_on, faults_stay, first_stays, told_on, told_stays, windows_on, windows_stay, windows_within}
 
 -- nothing has been read
@@ -39,6 +42,7 @@ unread asked start follower is = record {
   telling = record {
     behind = is.at;
     carried = is.carried;
+    times = none_read asked.forget start follower.taking.times is.times;
     windows = [];
     taken = subst (AreTaken start follower.taking []) (sym (append-nil start.told)) is.taken;
     margin = is.margin;
@@ -56,10 +60,12 @@ unread asked start follower is = record {
 pub takes_on : (start : Start) (asked : AuditArguments) (old new : Follower) (read further : List (Result SaidLine Why)) (told : List ℕ) → IsTelling asked start old read told
     → AreMore (line_names old.reader) (line_names new.reader)
     → AreNamed (lines_taken further) (line_names new.reader).clients
-    → ((told : List Found) → AreTaken start old.taking read told → AreTaken start new.taking (read ++ further) told) → StaysAsFar old.taking.watch new.taking.watch
+    → ((told : List Found) → AreTaken start old.taking read told → AreTaken start new.taking (read ++ further) told)
+    → ((told : List Found) → AreTaken start old.taking read told → KnowsTimes asked.forget start old.taking.times read → KnowsTimes asked.forget start new.taking.times (read ++ further))
+    → StaysAsFar old.taking.watch new.taking.watch
     → new.taking.watch.margin ≡ old.taking.watch.margin → new.taking.settlings ≡ old.taking.settlings → new.teller ≡ old.teller → new.behind ≡ old.behind → new.before ≡ old.before
     → IsTelling asked start new (read ++ further) told
-takes_on start asked old new read further told has more named takes stays margin settlings teller behind before =
+takes_on start asked old new read further told has more named takes hears stays margin settlings teller behind before =
     let margin_asked = asked.opts.margin in
     let names = (line_names old.reader).clients in
     let text = told ++ string_bytes old.teller.text in
@@ -77,6 +83,7 @@ takes_on start asked old new read further told has more named takes stays margin
       in_turn = in_turn_stays start.behind read further start.far windows within has.in_turn;
       at = subst (λ (settlings : Settlings). All (IsAt start false (read ++ further) settlings.at) windows) (sym settlings)
           (at_stays start read further old.taking.settlings.at windows has.taken.few within has.at);
+      times = hears (start.told ++ told_in_all read windows) has.taken has.times;
       tells = subst (λ teller. AreWindows start.kept margin_asked asked.wanted (read ++ further) (line_names new.reader).clients windows (told ++ string_bytes teller.text)) (sym teller)
           (windows_stay start.kept margin_asked asked.wanted read further names (line_names new.reader).clients windows text has.tells more.0);
       are = subst (λ teller. IsTellerOf asked start teller (read ++ further) windows) (sym teller) (record {
@@ -93,29 +100,31 @@ pub fed : (start : Start) (asked : AuditArguments) (old new : Follower) (before 
     → ((text : List ℕ) → lines_on old.reader (bytes ++ text) ≡ further ++ lines_on new.reader text)
     → ((text : List ℕ) → names_on old.reader (bytes ++ text) ≡ names_on new.reader text)
     → AreMore (line_names old.reader) (line_names new.reader) → AreNamed (lines_taken further) (line_names new.reader).clients
-    → ((read : List (Result SaidLine Why)) (told : List Found) → AreTaken start old.taking read told → AreTaken start new.taking (read ++ further) told) → StaysAsFar old.taking.watch new.taking.watch
+    → ((read : List (Result SaidLine Why)) (told : List Found) → AreTaken start old.taking read told → AreTaken start new.taking (read ++ further) told)
+    → ((read : List (Result SaidLine Why)) (told : List Found) → AreTaken start old.taking read told → KnowsTimes asked.forget start old.taking.times read → KnowsTimes asked.forget start new.taking.times (read ++ further))
+    → StaysAsFar old.taking.watch new.taking.watch
     → new.taking.watch.margin ≡ old.taking.watch.margin → new.taking.settlings ≡ old.taking.settlings → new.teller ≡ old.teller → new.behind ≡ old.behind → new.before ≡ old.before
     → HasFollowed asked start new (before ++ bytes) told
-fed start asked old new before bytes told further has goes behind more named takes stays margin settlings teller far carries =
+fed start asked old new before bytes told further has goes behind more named takes hears stays margin settlings teller far carries =
     let read = has.read in
     record {
       read = read ++ further;
       goes = λ text. ap (lines_asked asked) (append_assoc before bytes text)
           ∙ (has.goes (bytes ++ text) ∙ (ap (λ l. read ++ l) (goes text) ∙ sym (append_assoc read further (lines_on new.reader text))));
       behind = λ text. ap (names_asked asked) (append_assoc before bytes text) ∙ (has.behind (bytes ++ text) ∙ behind text);
-      telling = takes_on start asked old new read further told has.telling more named (takes read) stays margin settlings teller far carries;
+      telling = takes_on start asked old new read further told has.telling more named (takes read) (hears read) stays margin settlings teller far carries;
     }
 
 -- with lines that were kept, the first of all
 pub fed_first : (before start : Start) (asked : AuditArguments) (old new : Follower) (bytes : List ℕ) (lines : List (Result SaidLine Why)) → IsUnread asked before old
-    → start.behind ≡ before.behind → start.kept ≡ before.kept → start.before ≡ before.before
+    → start.behind ≡ before.behind → start.kept ≡ before.kept → start.before ≡ before.before → drop start.lines lines ≡ [] → new.taking.times.are_wanted ≡ old.taking.times.are_wanted
     → ((text : List ℕ) → lines_on old.reader (bytes ++ text) ≡ lines ++ lines_on new.reader text)
     → ((text : List ℕ) → names_on old.reader (bytes ++ text) ≡ names_on new.reader text)
     → AreNamed (lines_taken lines) (line_names new.reader).clients
     → AreTaken start new.taking lines start.told → ((key : Option ℕ) → settled_in new.taking.watch.parts.items key ≡ start.far key) → new.taking.watch.horizon ≡ old.taking.watch.horizon
     → new.taking.watch.margin ≡ old.taking.watch.margin → new.teller ≡ old.teller → new.behind ≡ old.behind → new.before ≡ old.before
     → (has : HasFollowed asked start new bytes []) × (has.telling.windows ≡ [])
-fed_first before start asked old new bytes lines is far numbers same goes behind named takes so_far horizon margin teller still carries = (
+fed_first before start asked old new bytes lines is far numbers same none wanted goes behind named takes so_far horizon margin teller still carries = (
   record {
     read = lines;
     goes = λ text. is.goes (bytes ++ text) ∙ goes text;
@@ -128,6 +137,7 @@ fed_first before start asked old new bytes lines is far numbers same goes behind
       margin = margin ∙ is.margin;
       horizon = horizon ∙ (is.horizon ∙ sym far);
       far = so_far;
+      times = none_known asked.forget start new.taking.times lines (wanted ∙ is.times) none;
       named = named;
       in_turn = tt;
       at = All-nil (IsAt start false lines new.taking.settlings.at);
@@ -148,13 +158,15 @@ fed_first before start asked old new bytes lines is far numbers same goes behind
 -- with the line that had not ended, or none
 pub ended : (start : Start) (asked : AuditArguments) (old new : Follower) (bytes told : List ℕ) (further : List (Result SaidLine Why)) → HasFollowed asked start old bytes told
     → lines_on old.reader [] ≡ further → AreMore (line_names old.reader) (line_names new.reader) → AreNamed (lines_taken further) (line_names new.reader).clients
-    → ((read : List (Result SaidLine Why)) (told : List Found) → AreTaken start old.taking read told → AreTaken start new.taking (read ++ further) told) → StaysAsFar old.taking.watch new.taking.watch
+    → ((read : List (Result SaidLine Why)) (told : List Found) → AreTaken start old.taking read told → AreTaken start new.taking (read ++ further) told)
+    → ((read : List (Result SaidLine Why)) (told : List Found) → AreTaken start old.taking read told → KnowsTimes asked.forget start old.taking.times read → KnowsTimes asked.forget start new.taking.times (read ++ further))
+    → StaysAsFar old.taking.watch new.taking.watch
     → new.taking.watch.margin ≡ old.taking.watch.margin → new.taking.settlings ≡ old.taking.settlings → new.teller ≡ old.teller → new.behind ≡ old.behind → new.before ≡ old.before
     → IsTelling asked start new (lines_asked asked bytes) told
-ended start asked old new bytes told further has last more named takes stays margin settlings teller far carries =
+ended start asked old new bytes told further has last more named takes hears stays margin settlings teller far carries =
     let read = has.read in
     let all : read ++ further ≡ lines_asked asked bytes = sym (ap (lines_asked asked) (sym (append-nil bytes)) ∙ (has.goes [] ∙ ap (λ l. read ++ l) last)) in
-    subst (λ read. IsTelling asked start new read told) all (takes_on start asked old new read further told has.telling more named (takes read) stays margin settlings teller far carries)
+    subst (λ read. IsTelling asked start new read told) all (takes_on start asked old new read further told has.telling more named (takes read) (hears read) stays margin settlings teller far carries)
 
 -- with what is told more
 tells_on : (start : Start) (asked : AuditArguments) (old : Follower) (new : Teller) (read : List (Result SaidLine Why)) (far : Option ℕ → SettledTo) (to : Option ℕ) (told : List ℕ) (windows : List Window)
@@ -204,9 +216,9 @@ pub settled : (start : Start) (asked : AuditArguments) (old new : Follower) (rea
     → ((key : Option ℕ) → GoesTo to (length (lines_of_one (lines_taken read) (keys_taken read) key)) entries key (settled_in old.taking.watch.parts.items key) (settled_in new.taking.watch.parts.items key))
     → AllPairs (λ (one other : SettledKey). one.key ≢ other.key) entries
     → TellsOn start.kept old.teller new.teller asked.opts.margin start.behind read (line_names old.reader).clients (settled_in old.taking.watch.parts.items) (Some to) entries
-    → new.behind ≡ old.behind → new.before ≡ old.before → new.taking.settlings.at ≡ old.taking.taken ∷ old.taking.settlings.at → to ≡ certain_in start read
+    → new.behind ≡ old.behind → new.before ≡ old.before → new.taking.times ≡ old.taking.times → new.taking.settlings.at ≡ old.taking.taken ∷ old.taking.settlings.at → to ≡ certain_in start read
     → IsTelling asked start new read told
-settled start asked old new read to told entries is reader takes margin horizon goes once more behind before settlings certain =
+settled start asked old new read to told entries is reader takes margin horizon goes once more behind before times settlings certain =
     let names = (line_names old.reader).clients in
     let far = settled_in old.taking.watch.parts.items in
     let within = windows_within start.kept asked.opts.margin asked.wanted read names is.windows (told ++ string_bytes old.teller.text) is.tells in
@@ -227,6 +239,7 @@ settled start asked old new read to told entries is reader takes margin horizon 
       at = subst (λ at. All (IsAt start false read at) (is.windows ++ more.windows)) (sym settlings)
           (at_now start read old.taking.settlings.at old.taking.taken to start.behind names far is.windows more.windows is.taken.count certain is.at more.each);
       are = are_on start asked old.teller new.teller asked.opts.margin read names far (Some to) is.windows entries is.are more;
+      times = subst (λ (times : KeyTimes). KnowsTimes asked.forget start times read) (sym times) is.times;
     }
 
 pub counted_for : (start : Start) (old : Follower) (read : List (Result SaidLine Why)) {told : List Found} → AreTaken start old.taking read told → (new : Follower)

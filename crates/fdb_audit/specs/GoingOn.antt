@@ -1,5 +1,5 @@
 -- A watch that goes on from what it keeps, where the names that it holds have become many. (this product's own)
-use Rattle.std.specs.Prelude.{All, false, ◌≡◌, ℕ, ◌+◌, ◌++◌, Bool, List, None, Option, Result, option_map, string_bytes, true}
+use Rattle.std.specs.Prelude.{All, false, ◌≡◌, ℕ, ◌+◌, ◌-◌, ◌≤◌, ◌++◌, Bool, List, None, Option, Result, Some, option_map, slice_get, string_bytes, true}
 use Rattle.std.specs.List.{filter}
 use Rattle.std.specs.Option.{option_or}
 use Rattle.fdb_lines.specs.KeyWatch.{settled_in}
@@ -9,6 +9,7 @@ use Rattle.fdb_log_reader.specs.ReadLine.{SaidLine}
 use Rattle.fdb_log_reader.specs.Reading.{EndsALine}
 use Rattle.fdb_audit.specs.Following.{AreInTurn, AreWindows, Before, Start, Window, counted_on, faults_told, first_told, keys_taken, last_refused, told_in_all, told_to}
 use Rattle.fdb_audit.specs.Kept.{KeepsLines, places_kept, start_of}
+use Rattle.fdb_audit.specs.Recent.{believed_by, believed_now, keys_since}
 use Rattle.fdb_audit.specs.Taken.{AreTaken, counted_of, known_by}
 use Rattle.fdb_audit.specs.Watched.{IsAt, lines_asked, names_asked}
 use Rattle.fdb_audit.specs.declared.arguments.AuditArguments.{AuditArguments}
@@ -28,10 +29,13 @@ counted_before start read windows taking = record {
 abbrev pub places_staying : (Option ℕ → Bool) → List (Result SaidLine Why) → Taking → List ℕ
 places_staying stays read taking = filter (λ place. stays (key_at (keys_taken read) place)) (places_kept taking.watch)
 
--- Lines without a key stay, and where no key is to be forgotten, all do.
-pub record MayForget (forget : Option ℕ) (stays : Option ℕ → Bool) : Type 0 where
+-- Lines without a key stay, and where no key is to be forgotten, all do. Else a key stays of which a line came since, where what was
+-- believed once it had come is within so much of what is believed now.
+pub record MayForget (forget : Option ℕ) (start : Start) (read : List (Result SaidLine Why)) (stays : Option ℕ → Bool) : Type 0 where
   pub unkeyed : stays None ≡ true
   pub all : forget ≡ None → (key : Option ℕ) → stays key ≡ true
+  pub recent : (after place key : ℕ) → forget ≡ Some after → slice_get (keys_since start read) place ≡ Some (Some key)
+      → believed_now start read - believed_by start read (place + 1) ≤ after → stays (Some key) ≡ true
 
 -- A watch goes on where a line of these bytes ends: it has told this text of them, and from now on it is as one that was restored from
 -- the text that keeps its lines, but for those of keys that it forgets, with what it has counted and knows of clocks. This text says up to when all was told.
@@ -46,7 +50,7 @@ pub record GoesOnBy (asked : AuditArguments) (start : Start) (bytes told kept : 
   pub in_turn : AreInTurn start.behind (lines_asked asked bytes) start.far windows
   pub at : All (IsAt start false (lines_asked asked bytes) taking.settlings.at) windows
   pub stays : Option ℕ → Bool
-  pub forgets : MayForget asked.forget stays
+  pub forgets : MayForget asked.forget start (lines_asked asked bytes) stays
   pub keeps : KeepsLines (places_staying stays (lines_asked asked bytes) taking) (option_map string_bytes asked.key) (names_asked asked bytes) start.kept taking (lines_asked asked bytes) kept
   pub ends : EndsALine bytes
   pub from : next.from ≡ taking.watch.from

@@ -12,6 +12,7 @@ pub mod Came
 pub mod Warned
 pub mod Tallied
 pub mod Taken
+pub mod Recent
 pub mod Watched
 pub mod Kept
 pub mod GoingOn

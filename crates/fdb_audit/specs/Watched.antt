@@ -18,6 +18,7 @@ use Rattle.fdb_audit.specs.declared.teller.Teller.{Teller}
 use Rattle.fdb_audit.specs.Following.{AreInTurn, AreNamed, AreWindows, Counted, FollowArguments, IsCounted, IsEnd, IsToldOff, Start, Window, certain_in, counted_on, early_at, faults_told, first_told, keys_taken, lines_before, lines_since, lines_taken, out_of_reach_in, taken, told_in_all, told_to}
 use Rattle.fdb_audit.specs.Came.{ahead_lines, certain_with}
 use Rattle.fdb_audit.specs.Taken.{AreTaken, HasTotals, HasWarned, IsCarried, counted_of}
+use Rattle.fdb_audit.specs.Recent.{KnowsTimes}
 use Rattle.fdb_audit.specs.Warned.{AreEarly, IsSaid}
 
 -- what becomes of the lines of a text, as it is asked for
@@ -90,6 +91,7 @@ pub record IsTelling (asked : AuditArguments) (start : Start) (follower : Follow
   pub in_turn : AreInTurn start.behind read start.far windows
   pub at : All (IsAt start false read follower.taking.settlings.at) windows
   pub are : IsTellerOf asked start follower.teller read windows
+  pub times : KnowsTimes asked.forget start follower.taking.times read
 
 -- These bytes have been read, whatever comes after them, and this text has been told of their lines.
 pub record HasFollowed (asked : AuditArguments) (start : Start) (follower : Follower) (bytes told : List ℕ) : Type 0 where

@@ -2,7 +2,8 @@
 //! key can be forgotten of which none has come for long.
 
 ghost use Rattle.std.specs.Prelude.{◌≡◌, ◌-◌, ◌≤◌, if◌then◌else◌, ℕ, [], IfSome, None, Option};
-ghost use Rattle.std.specs.Prelude.{Some, is_some, option_map, unwrap_or, List};
+ghost use Rattle.std.specs.Prelude.{Some, is_some, option_map, unwrap_or, List, IfOk, OnOk};
+ghost use Rattle.std.specs.Prelude.{slice_get};
 ghost use Rattle.std.proofs.Props.{props};
 ghost use Rattle.std.specs.List.{filter};
 ghost use Rattle.fdb_audit.specs.Clocks.{believed_from};
@@ -230,10 +231,14 @@ pub(crate) struct KeyTimes {
 }
 
 impl KeyTimes {
-    ghost use Rattle.fdb_audit.specs.private.KeyTimes.{is_staying};
+    ghost use Rattle.fdb_audit.specs.private.KeyTimes.{is_staying, HearsKey, NotesKey, last_line};
+    ghost use Rattle.fdb_audit.specs.private.KeyTimes.{seen_when};
 
     /// No line has come.
-    pub(crate) fn new(alloc: Global, are_wanted: bool) -> Self {
+    pub(crate) fn new(alloc: Global, are_wanted: bool) -> Self
+        ensures wanted { result.are_wanted ≡ are_wanted }
+        ensures none { result.last.items ≡ [] }
+    {
         KeyTimes {
             are_wanted,
             last: Vec::new(alloc),
@@ -246,7 +251,11 @@ impl KeyTimes {
         key: Option<u32>,
         line: &Line,
         believed: u64,
-    ) -> Result<(), AllocError> {
+    ) -> Result<(), AllocError>
+        ensures hears { OnOk result
+            (HearsKey key (last_line believed line.now) self.old self.new) }
+        ensures wanted { self.new.are_wanted ≡ self.old.are_wanted }
+    {
         match key {
             Some(key) if self.are_wanted => {
                 let end = line.ended().unwrap_or(line.began());
@@ -262,21 +271,29 @@ impl KeyTimes {
         }
     }
 
-    fn note(&mut self, key: usize, line: LastLine) -> Result<(), AllocError> {
+    /// Notes that this is the last line of a key.
+    fn note(&mut self, key: usize, line: LastLine) -> Result<(), AllocError>
+        ensures notes { OnOk result (NotesKey key line self.old self.new) }
+        ensures wanted { self.new.are_wanted ≡ self.old.are_wanted }
+    {
         if let Some(last) = self.last.get_mut(key) {
             last.seen = line.seen;
             last.end = last.end.max(line.end);
             return Ok(());
         }
         // (a name that only lines have which were refused has a number too)
-        for _ in self.last.len()..=key {
+        'new: while self.last.len() <= key {
             self.last.push(line)?;
         }
         Ok(())
     }
 
     /// Notes of all keys that a line of theirs has just come.
-    pub(crate) fn refresh(&mut self, believed: u64) {
+    pub(crate) fn refresh(&mut self, believed: u64)
+        ensures seen { (key : ℕ) → slice_get self.new.last.items key
+            ≡ option_map (seen_when believed) (slice_get self.old.last.items key) }
+        ensures wanted { self.new.are_wanted ≡ self.old.are_wanted }
+    {
         for last in self.last.iter_mut() {
             last.seen = believed;
         }
@@ -316,7 +333,9 @@ impl KeyTimes {
 
     /// What a watch has of the keys that goes on from these lines, as it numbers them: a key comes in
     /// with its first line.
-    pub(crate) fn of_lines(&self, alloc: Global, kept: &[KeptLine]) -> Result<Self, AllocError> {
+    pub(crate) fn of_lines(&self, alloc: Global, kept: &[KeptLine]) -> Result<Self, AllocError>
+        ensures { IfOk result (λ next. next.are_wanted ≡ self.now.are_wanted) }
+    {
         let mut next = KeyTimes::new(alloc, self.are_wanted);
         let mut is_in = Vec::new(alloc);
         for _ in 0..self.last.len() {

@@ -85,6 +85,7 @@ impl Taking {
     ghost use Rattle.fdb_audit.specs.Following.{KeptBefore};
     ghost use Rattle.fdb_audit.specs.Kept.{KeptSaid, far_with, start_from};
     ghost use Rattle.fdb_audit.specs.Taken.{AreCounted, HasWarned, IsCarried, kept_by};
+    ghost use Rattle.fdb_audit.specs.Recent.{KnowsTimes};
     ghost use Rattle.fdb_audit.specs.private.Followed.{AreTaken, NotesLine, counted_line};
     ghost use Rattle.fdb_audit.specs.private.Followed.{HasNoted, StaysAsFar, odd_text, settled_at};
 
@@ -109,6 +110,7 @@ impl Taking {
         ensures far { IfOk result (λ taking. (key : Option ℕ)
             → settled_in taking.watch.parts.items key ≡ not_settled) }
         ensures from { IfOk result (λ taking. taking.watch.from ≡ 0) }
+        ensures times { IfOk result (λ taking. taking.times ≡ times) }
         ensures members { IfOk result (λ taking. map string_bytes taking.rows.members.items
             ≡ map (λ name. printed (string_bytes name)) shown.now) }
     {
@@ -148,6 +150,11 @@ impl Taking {
         ensures from { self.new.watch.from ≡ self.old.watch.from }
         ensures margin { self.new.watch.margin ≡ self.old.watch.margin }
         ensures settlings { self.new.settlings ≡ self.old.settlings }
+        ensures times { OnOk result ((forget : Option ℕ) → (start : Start)
+            → (read : List (Result SaidLine Why)) → (told : List Found)
+            → AreTaken start self.old read told → KnowsTimes forget start self.old.times read
+            → KnowsTimes forget start self.new.times (read ++ map said_in lines.items)) }
+        ensures wanted { self.new.times.are_wanted ≡ self.old.times.are_wanted }
     {
         for line in lines {
             self.take(line)?;
@@ -179,6 +186,7 @@ impl Taking {
             ≡ far_with settled (take told (map said_in lines.items)) key) }
         ensures from { OnOk result (self.new.watch.from ≡ max self.old.watch.from settled) }
         ensures margin { self.new.watch.margin ≡ self.old.watch.margin }
+        ensures wanted { self.new.times.are_wanted ≡ self.old.times.are_wanted }
         ensures horizon { OnOk result (self.new.watch.horizon ≡ self.old.watch.horizon) }
         ensures settlings { OnOk result (self.new.settlings.at ≡ []) }
     {
@@ -209,6 +217,11 @@ impl Taking {
         ensures from { self.new.watch.from ≡ self.old.watch.from }
         ensures margin { self.new.watch.margin ≡ self.old.watch.margin }
         ensures settlings { self.new.settlings ≡ self.old.settlings }
+        ensures times { OnOk result ((forget : Option ℕ) → (start : Start)
+            → (lines : List (Result SaidLine Why)) → (told : List Found)
+            → AreTaken start self.old lines told → KnowsTimes forget start self.old.times lines
+            → KnowsTimes forget start self.new.times (lines ++ said_in read ∷ [])) }
+        ensures wanted { self.new.times.are_wanted ≡ self.old.times.are_wanted }
     {
         // No more lines are read than can be counted.
         if self.line_count() >= u64::MAX - 1 {
@@ -238,6 +251,7 @@ impl Taking {
         ensures counts { OnOk result (self.new.counts.early ≡ 0) }
         ensures warnings { self.new.warnings ≡ self.old.warnings }
         ensures margin { self.new.watch.margin ≡ self.old.watch.margin }
+        ensures times { self.new.times ≡ self.old.times }
         ensures horizon { self.new.watch.horizon ≡ self.old.watch.horizon }
     {
         let told = self.watch.settle(self.alloc, at)?;
@@ -313,6 +327,11 @@ impl Taking {
         ensures from { self.new.watch.from ≡ self.old.watch.from }
         ensures margin { self.new.watch.margin ≡ self.old.watch.margin }
         ensures settlings { self.new.settlings ≡ self.old.settlings }
+        ensures times { OnOk result ((forget : Option ℕ) → (start : Start)
+            → (lines : List (Result SaidLine Why)) → (told : List Found)
+            → AreTaken start self.old lines told → KnowsTimes forget start self.old.times lines
+            → KnowsTimes forget start self.new.times (lines ++ Ok (said_by read) ∷ [])) }
+        ensures wanted { self.new.times.are_wanted ≡ self.old.times.are_wanted }
     {
         let ReadLine { line, key, shown } = read;
         let is_judged = line.began() >= self.judged_from(key, &line);
@@ -345,6 +364,7 @@ impl Taking {
             (NotesLine self.old.watch.from self.old self.new line.now) }
         ensures watch { self.new.watch ≡ self.old.watch }
         ensures settlings { self.new.settlings ≡ self.old.settlings }
+        ensures times { self.new.times ≡ self.old.times }
     {
         let from = self.watch.settled_to();
         let ahead_by = self.clocks.hear(line);
@@ -401,6 +421,11 @@ impl Taking {
         ensures from { self.new.watch.from ≡ self.old.watch.from }
         ensures margin { self.new.watch.margin ≡ self.old.watch.margin }
         ensures settlings { self.new.settlings ≡ self.old.settlings }
+        ensures times { OnOk result ((forget : Option ℕ) → (start : Start)
+            → (lines : List (Result SaidLine Why)) → (told : List Found)
+            → AreTaken start self.old lines told → KnowsTimes forget start self.old.times lines
+            → KnowsTimes forget start self.new.times (lines ++ Err why ∷ [])) }
+        ensures still { self.new.times ≡ self.old.times }
     {
         self.numbering.leave_out(self.taken)?;
         let line = self.line_count();

@@ -22,6 +22,7 @@ use Rattle.fdb_lines.specs.Before.{began}
 use Rattle.fdb_audit.specs.declared.taken_lines.Taking.{Taking}
 use Rattle.fdb_audit.specs.declared.teller.Teller.{Teller}
 use Rattle.fdb_audit.specs.declared.clocks.Clocks.{Clocks}
+use Rattle.fdb_audit.specs.declared.clocks.KeyTimes.{KeyTimes}
 use Rattle.fdb_audit.specs.declared.refusal.CountedLine.{CountedLine}
 use Rattle.fdb_audit.specs.declared.refusal.Warning.{Warning}
 use Rattle.fdb_audit.specs.declared.refusal.Warning.TheVariants.{Ahead, Early}
@@ -44,8 +45,8 @@ pub record IsQuiet (follower : Follower) : Type 0 where
   pub names : names_on follower.reader [] ≡ line_names follower.reader
   pub text : string_bytes follower.teller.text ≡ []
 
--- another takes its place, with what it has counted and told
-pub record TakesPlace (old next new : Follower) : Type 0 where
+-- another takes its place, with what it has counted and told, and by when the lines of its keys came
+pub record TakesPlace (old next new : Follower) (times : KeyTimes) : Type 0 where
   pub reader : new.reader ≡ next.reader
   pub watch : new.taking.watch ≡ next.taking.watch
   pub numbering : new.taking.numbering ≡ next.taking.numbering
@@ -55,6 +56,7 @@ pub record TakesPlace (old next new : Follower) : Type 0 where
   pub settled : new.taking.settled ≡ next.taking.settled
   pub settlings : new.taking.settlings ≡ next.taking.settlings
   pub clocks : Carries old.taking.clocks next.taking.clocks new.taking.clocks
+  pub times_are : new.taking.times ≡ times
   pub teller : new.teller ≡ record next.teller { told = old.teller.told; first = old.teller.first }
   pub behind : new.behind ≡ next.behind
   pub before : CountsBehind old.before old.taking new.before
@@ -158,6 +160,7 @@ pub record HasNoted (old new : Taking) : Type 0 where
   pub warnings : new.warnings ≡ old.warnings
   pub settled : new.settled ≡ old.taken
   pub settlings : new.settlings.at ≡ old.taken ∷ old.settlings.at
+  pub times : new.times ≡ old.times
 
 -- From where it is followed on that has settled up to a moment, by when this had been told of what was read: what comes then is
 -- counted anew.
@@ -207,3 +210,4 @@ pub record IsUnread (asked : AuditArguments) (start : Start) (follower : Followe
   pub far : (key : Option ℕ) → settled_in follower.taking.watch.parts.items key ≡ start.far key
   pub text : string_bytes follower.teller.text ≡ []
   pub are : IsTellerOf asked start follower.teller [] []
+  pub times : follower.taking.times.are_wanted ≡ is_some asked.forget

@@ -220,7 +220,7 @@ impl Follower {
     /// Lets another one take its place, which goes on with what this one has counted and told, and by
     /// when the lines of its keys came.
     fn give_way(&mut self, next: Follower, times: KeyTimes)
-        ensures { TakesPlace self.old next self.new }
+        ensures { TakesPlace self.old next self.new times }
     {
         let mut next = next;
         next.before = self.before.with(&self.taking);

@@ -1,4 +1,5 @@
-use Rattle.std.proofs.Common.{◌≡◌, ◌∙◌, ◌++◌, [], ℕ, List, Option, Result, ap, append-nil, map, option_map, refl, string_bytes, subst, sym, take}
+use Rattle.std.proofs.Common.{◌≡◌, ◌∙◌, ◌++◌, [], ℕ, List, Option, Result, ap, append-nil, arith, length, map, option_map, refl, string_bytes, subst, sym, take}
+use Rattle.std.proofs.lemmas.List.{drop_all}
 use Rattle.fdb_log_reader.specs.declared.error.Why.{Why}
 use Rattle.fdb_lines.specs.KeyWatch.{SettledTo, settled_in}
 use Rattle.fdb_log_reader.specs.LineReader.{line_names, lines_on}
@@ -39,6 +40,7 @@ returns-clause-read c = λ asked behind kept told_is settled_is many_is ends is.
     subst (λ (read : List (Result SaidLine Why)). Took read asked.opts.margin) whole (subst (Took lines) is.margin took) in
     let (has, none_told) =
     fed_first (start_with behind kept.front) start asked c.args.self.now _ bytes lines is refl refl refl
+    (drop_all (length (lines_asked asked bytes)) lines (omega (arith, ap length whole))) (c.refresh.ensures.wanted ∙ c.take_kept.ensures.wanted)
     c.in_ok-lines.ensures.read c.in_ok-lines.ensures.behind
     (named_in c.in_ok-lines.lines.items (line_names reader) c.in_ok-lines.ensures.numbers)
     (taken_beside start c.take_kept.new.self _ lines start.told took_so refl refl refl refl refl refl refl refl)
@@ -74,6 +76,7 @@ returns-clause-none_told c = λ asked behind kept told_is settled_is many_is end
     subst (λ (read : List (Result SaidLine Why)). Took read asked.opts.margin) whole (subst (Took lines) is.margin took) in
     let (has, none) =
     fed_first (start_with behind kept.front) start asked c.args.self.now _ bytes lines is refl refl refl
+    (drop_all (length (lines_asked asked bytes)) lines (omega (arith, ap length whole))) (c.refresh.ensures.wanted ∙ c.take_kept.ensures.wanted)
     c.in_ok-lines.ensures.read c.in_ok-lines.ensures.behind
     (named_in c.in_ok-lines.lines.items (line_names reader) c.in_ok-lines.ensures.numbers)
     (taken_beside start c.take_kept.new.self _ lines start.told took_so refl refl refl refl refl refl refl refl)

@@ -13,6 +13,7 @@ returns c = record {
   settled = refl;
   settlings = refl;
   clocks = c.carry.ensures;
+  times_are = refl;
   teller = ap (λ (told : Option ToldFaults). record c.args.next.teller { told = told; first = c.args.self.now.teller.first }) c.replace.ensures.value;
   behind = refl;
   before = c.with-next.ensures;

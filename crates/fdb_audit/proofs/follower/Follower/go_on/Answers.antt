@@ -1,4 +1,4 @@
-use Rattle.std.proofs.Common.{◌≡◌, ◌∙◌, ◌++◌, [], ℕ, IfOk, List, Result, ap, arith, map, string_bytes, subst, sym}
+use Rattle.std.proofs.Common.{◌≡◌, ◌∙◌, ◌++◌, [], ℕ, IfOk, List, Option, Result, ap, arith, map, string_bytes, subst, sym}
 use Rattle.std.specs.List.{All}
 use Rattle.fdb_lines.specs.declared.fault.Found.{Found}
 use Rattle.fdb_lines.specs.declared.key_part.KeptLine.{KeptLine}
@@ -11,6 +11,7 @@ use Rattle.fdb_audit.specs.GoingOn.{places_staying}
 use Rattle.fdb_audit.specs.Kept.{KeepsLines, start_of}
 use Rattle.fdb_audit.specs.private.KeptTexts.{number_of}
 use Rattle.fdb_audit.specs.private.KeyTimes.{is_staying}
+use Rattle.fdb_audit.specs.Recent.{KnowsTimes}
 use Rattle.fdb_audit.specs.Taken.{AreTaken}
 use Rattle.fdb_audit.specs.Watched.{HasFollowed}
 use Rattle.fdb_audit.proofs.Forgotten.{may_forget}
@@ -44,6 +45,8 @@ returns-clause-gone_on c = λ _ asked start bytes told same has.
     ∙ ap (λ text. (start_of given old.behind text).from) c.as_bytes.ensures.value in
     let still : next.taking.watch.from ≡ old.taking.watch.from = (let one = c.settled_to.ensures in let two = c.settled_to-2.ensures in let same = c.if-settled_to.false in omega (arith, one, two, same)) in
     gone_on_by asked given same start old next c.give_way.new.self bytes told kept has quiet
-    stays (may_forget old.taking.times given.forget old.taking.clocks.believed)
+    stays c.in_ok-times.times c.in_ok-times.ensures
+    (may_forget old.taking.times given.forget start has.read old.taking.clocks.believed
+    (subst (λ (forget : Option ℕ). KnowsTimes forget start old.taking.times has.read) (sym same.forget) has.telling.times) has.telling.taken.reach.believed)
     (kept_so asked start old bytes told kept has c.keys_stay_in_one_member.ensures (places_staying stays has.read old.taking) (map number_of lines) same_places says)
     (ends_there asked start old bytes told has (c.a_space_more_is_of_one_line.ensures old.reader) quiet) restored moment still c.give_way.ensures

@@ -2,6 +2,7 @@ use Rattle.std.proofs.Common.{◌≡◌, ◌∙◌, ◌++◌, List, [], Option, 
 use Rattle.fdb_log_reader.specs.ReadLine.{lines_read, names_behind, no_names}
 use Rattle.fdb_log_reader.specs.Reading.{lines_in}
 use Rattle.fdb_log_reader.specs.Printed.{printed}
+use Rattle.fdb_audit.specs.declared.clocks.KeyTimes.{KeyTimes}
 use Rattle.fdb_audit.specs.Taken.{HasTotals}
 use Rattle.fdb_audit.proofs.follower.Follower.numbered.Goals as goal
 
@@ -26,6 +27,7 @@ returns-clause-unread c =
       horizon = c.in_ok-taking.ensures.horizon;
       far = c.in_ok-taking.ensures.far;
       text = teller.text;
+      times = ap (λ (times : KeyTimes). times.are_wanted) c.in_ok-taking.ensures.times ∙ (c.new-times.ensures.wanted ∙ c.is_some.ensures);
       are = record {
         wanted = teller.wanted;
         margin = teller.margin;

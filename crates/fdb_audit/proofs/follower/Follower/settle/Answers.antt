@@ -42,7 +42,7 @@ returns-clause-told c = λ asked start read told is.
     (λ k d lt. let part = watch.alike k d lt in let low = part.its_from in
     record { its_margin = part.its_margin ∙ is.margin; its_horizon = part.its_horizon ∙ is.horizon; its_from = omega (arith, low) })
     (subst (AreTold (Some to) lines keys watch.parts.items) (sym c.deref.ensures.value) tell)))
-    refl refl noted.settlings
+    refl refl noted.times noted.settlings
     (settles_to start old.taking read faults to is.taken (ap (max watch.from) c.certain_to-at.ensures))
 
 pub returns-clause-taken : goal.returns-clause-taken

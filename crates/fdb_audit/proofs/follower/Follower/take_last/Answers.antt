@@ -6,6 +6,7 @@ use Rattle.fdb_log_reader.specs.ReadLine.{IsNumbered, SaidLine, said_by, said_in
 use Rattle.std.specs.Prelude.{IfOk, IfSome}
 use Rattle.std.proofs.lemmas.List.Elements.{All-cons, All-nil}
 use Rattle.fdb_audit.proofs.InTurn.{named_in}
+use Rattle.fdb_audit.specs.Recent.{KnowsTimes}
 use Rattle.fdb_audit.specs.private.Followed.{AreTaken, HasWarned}
 use Rattle.fdb_audit.proofs.SaidOn.{said_last}
 use Rattle.fdb_audit.proofs.TellingOn.{ended}
@@ -24,7 +25,7 @@ returns-in_ok-take-clause-told c = λ asked start bytes told has.
     (All-cons (λ read. IfOk read (λ read. IsNumbered (line_names c.finish.new.self) (said_by read))) c.in-Some.last []
     (subst (λ last. IfSome last (λ read. IfOk read (λ read. IsNumbered (line_names c.finish.new.self) (said_by read)))) c.in-Some.is c.in_ok-last.ensures.numbers)
     (All-nil (λ read. IfOk read (λ read. IsNumbered (line_names c.finish.new.self) (said_by read))))))
-    (c.in_ok-take.ensures.taken start) c.in_ok-take.ensures.stays c.take.ensures.margin c.take.ensures.settlings refl refl refl
+    (c.in_ok-take.ensures.taken start) (c.in_ok-take.ensures.times asked.forget start) c.in_ok-take.ensures.stays c.take.ensures.margin c.take.ensures.settlings refl refl refl
 
 of_none : (left : List (Result SaidLine Why)) (last : Option (Result ReadLine Why)) → ((read : Result ReadLine Why) → last ≡ Some read → ⊥)
     → MatchOption last (left ≡ []) (λ read. left ≡ said_in read ∷ []) → left ≡ []
@@ -36,7 +37,8 @@ returns-in_default-clause-told c = λ asked start bytes told has.
     ended start asked c.args.self.now _ bytes told [] has
     (of_none _ c.in_ok-last.last c.in_default.not-Some c.in_ok-last.ensures.read)
     c.in_ok-last.ensures.names (named_in [] (line_names c.finish.new.self) (All-nil (λ read. IfOk read (λ read. IsNumbered (line_names c.finish.new.self) (said_by read)))))
-    (λ read told is. subst (λ all. AreTaken start c.args.self.now.taking all told) (sym (append-nil read)) is) (record { horizon = refl; far = λ key. refl }) refl refl refl refl refl
+    (λ read told is. subst (λ all. AreTaken start c.args.self.now.taking all told) (sym (append-nil read)) is)
+    (λ read told is knows. subst (λ all. KnowsTimes asked.forget start c.args.self.now.taking.times all) (sym (append-nil read)) knows) (record { horizon = refl; far = λ key. refl }) refl refl refl refl refl
 
 pub returns-in_ok-take-clause-said : goal.returns-in_ok-take-clause-said
 returns-in_ok-take-clause-said c = λ asked start bytes warned has.

@@ -4,8 +4,11 @@ use Rattle.fdb_lines.specs.KeyWatch.{HasSeenByKey, settled_in}
 use Rattle.fdb_lines.specs.ToldByKey.{HasTold}
 use Rattle.fdb_log_reader.specs.ReadLine.{said_by}
 use Rattle.fdb_audit.specs.Following.{keys_taken, lines_taken}
+use Rattle.fdb_audit.specs.declared.clocks.KeyTimes.{KeyTimes}
 use Rattle.fdb_audit.specs.private.Followed.{NotesLine}
+use Rattle.fdb_audit.specs.private.KeyTimes.{HearsKey, last_line}
 use Rattle.fdb_audit.proofs.Following.{takes}
+use Rattle.fdb_audit.proofs.Recent.{times_more}
 use Rattle.fdb_audit.proofs.SettledOn.{taken_beside}
 use Rattle.fdb_audit.proofs.Warned.{ahead_more, early_more, noted_more}
 use Rattle.fdb_audit.proofs.taken_lines.Taking.add.Goals as goal
@@ -51,3 +54,16 @@ returns-clause-stays c = record {
   horizon = ap (λ (watch : KeyWatch). watch.horizon) c.note.ensures.watch ∙ c.push.ensures.margin.1;
   far = λ key. ap (λ (watch : KeyWatch). settled_in watch.parts.items key) c.note.ensures.watch ∙ c.in-Ok.ensures.far key;
 }
+
+-- what is believed with the line is what the clocks believe once it is noted
+pub returns-clause-times : goal.returns-clause-times
+returns-clause-times c = λ forget start lines told are knows.
+    let said = said_by c.args.read in
+    let old = c.args.self.now in
+    let now = (returns-clause-taken c start lines told are).reach.believed in
+    times_more start lines are.few forget old.times c.hear.new.self said c.note.new.self.clocks.believed knows now
+    (subst (λ (times : KeyTimes). HearsKey said.key (last_line c.note.new.self.clocks.believed said.line) times c.hear.new.self) c.note.ensures.times c.in_ok-hear.ensures.hears)
+    (c.hear.ensures.wanted ∙ ap (λ (times : KeyTimes). times.are_wanted) c.note.ensures.times)
+
+pub returns-clause-wanted : goal.returns-clause-wanted
+returns-clause-wanted c = c.hear.ensures.wanted ∙ ap (λ (times : KeyTimes). times.are_wanted) c.note.ensures.times

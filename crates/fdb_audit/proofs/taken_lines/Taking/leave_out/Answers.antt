@@ -1,6 +1,7 @@
 use Rattle.std.proofs.Common.{ap, refl}
 use Rattle.fdb_log_reader.specs.declared.error.ReadError.{ReadError}
 use Rattle.fdb_audit.proofs.Following.{leaves_out, left_number}
+use Rattle.fdb_audit.proofs.Recent.{times_same}
 use Rattle.fdb_audit.proofs.Warned.{left_more}
 use Rattle.fdb_audit.proofs.taken_lines.Taking.leave_out.Goals as goal
 
@@ -15,3 +16,6 @@ returns-clause-warned c = λ start lines told warned are was.
 
 pub returns-clause-stays : goal.returns-clause-stays
 returns-clause-stays c = record { horizon = refl; far = λ key. refl }
+
+pub returns-clause-times : goal.returns-clause-times
+returns-clause-times c = λ forget start lines told are knows. times_same start lines are.few forget c.args.self.now.times c.args.why knows

@@ -4,6 +4,7 @@ use Rattle.fdb_log_reader.specs.declared.error.Why.{Why}
 use Rattle.fdb_log_reader.specs.declared.read_line.ReadLine.{ReadLine}
 use Rattle.fdb_log_reader.specs.ReadLine.{said_in}
 use Rattle.fdb_audit.specs.Following.{early_at, lines_taken}
+use Rattle.fdb_audit.specs.Recent.{KnowsTimes}
 use Rattle.fdb_audit.specs.private.Followed.{AreTaken, HasWarned}
 use Rattle.fdb_audit.proofs.KeptTexts.{early_on}
 use Rattle.fdb_audit.proofs.taken_lines.Taking.take_all.Goals as goal
@@ -35,6 +36,10 @@ loop-line-preserved c =
       from = c.take.ensures.from ∙ inv.from;
       margin = c.take.ensures.margin ∙ inv.margin;
       settlings = c.take.ensures.settlings ∙ inv.settlings;
+      times = λ forget start read told is knows.
+          subst (λ all. KnowsTimes forget start c.take.new.self.times all) (append_assoc read (map said_in yielded) (said_in line ∷ []) ∙ ap (λ said. read ++ said) (sym (map_push said_in yielded line)))
+          (c.in_ok-take.ensures.times forget start (read ++ map said_in yielded) told (inv.taken start read told is) (inv.times forget start read told is knows));
+      wanted = c.take.ensures.wanted ∙ inv.wanted;
     }
 
 pub returns-clause-taken : goal.returns-clause-taken
@@ -63,3 +68,12 @@ returns-clause-early c =
     let size : length rest.items ≡ 0 = omega (arith, rest.ok.0, c.in-None.ensures.steps.0) in
     let all : yielded ≡ c.args.lines.items = sym (append-nil yielded) ∙ (ap (λ (part : List (Result ReadLine Why)). yielded ++ part) (sym (none_left rest.items size)) ∙ inv.left) in
     subst (λ (items : List (Result ReadLine Why)). c.loop-line.self.counts.early ≤ c.args.self.now.counts.early + early_at c.args.self.now.watch.from (lines_taken (map said_in items))) all inv.early
+
+pub returns-clause-times : goal.returns-clause-times
+returns-clause-times c = λ forget start read told are knows.
+    let inv = c.loop-line.invariant in
+    let yielded = c.loop-line.yielded in
+    let rest = c.loop-line.line-iterator.rest in
+    let size : length rest.items ≡ 0 = omega (arith, rest.ok.0, c.in-None.ensures.steps.0) in
+    let all : yielded ≡ c.args.lines.items = sym (append-nil yielded) ∙ (ap (λ (part : List (Result ReadLine Why)). yielded ++ part) (sym (none_left rest.items size)) ∙ inv.left) in
+    subst (λ (items : List (Result ReadLine Why)). KnowsTimes forget start c.loop-line.self.times (read ++ map said_in items)) all (inv.times forget start read told are knows)

@@ -1,8 +1,9 @@
-use Rattle.std.proofs.Common.{◌≡◌, ◌≤◌, ◌+◌, ◌++◌, ℕ, List, map, Result}
+use Rattle.std.proofs.Common.{◌≡◌, ◌≤◌, ◌+◌, ◌++◌, ℕ, List, Option, map, Result}
 use Rattle.fdb_lines.specs.declared.fault.Found.{Found}
 use Rattle.fdb_log_reader.specs.declared.error.Why.{Why}
 use Rattle.fdb_log_reader.specs.ReadLine.{SaidLine, said_in}
 use Rattle.fdb_audit.specs.Following.{Start, early_at, lines_taken}
+use Rattle.fdb_audit.specs.Recent.{KnowsTimes}
 use Rattle.fdb_audit.specs.private.Followed.{AreTaken, HasWarned, StaysAsFar}
 use Rattle.fdb_audit.proofs.taken_lines.Taking.take_all.Given as goal
 
@@ -17,4 +18,7 @@ invariant-loop-line l = record {
   from : l.self.watch.from ≡ l.fn.self.watch.from;
   margin : l.self.watch.margin ≡ l.fn.self.watch.margin;
   settlings : l.self.settlings ≡ l.fn.self.settlings;
+  times : (forget : Option ℕ) (start : Start) (read : List (Result SaidLine Why)) (told : List Found) → AreTaken start l.fn.self read told
+      → KnowsTimes forget start l.fn.self.times read → KnowsTimes forget start l.self.times (read ++ map said_in l.yielded);
+  wanted : l.self.times.are_wanted ≡ l.fn.self.times.are_wanted;
 }
