@@ -157,7 +157,7 @@ module _ (behind : ℕ) (read : List (Result SaidLine Why)) (names : List (List 
         is ∙ ap (λ b. cond b (told_by (take v.read read) v.to key) (far key)) other,
       )
 
-  told_all : (far : Option ℕ → SettledTo) (vs : List Window) (key : Option ℕ) → All (λ (v : Window). (v.read ≡ length read) × (v.to ≡ to)) vs
+  pub told_all : (far : Option ℕ → SettledTo) (vs : List Window) (key : Option ℕ) → All (λ (v : Window). (v.read ≡ length read) × (v.to ≡ to)) vs
       → IsToldTo key (map window_key vs) (far key) (told_to read far vs key)
   told_all far [] key each = inr ((λ has. let lt = has.1 in absurd (omega (arith, lt))), refl)
   told_all far (v ∷ vs) key each =

@@ -14,7 +14,7 @@ use Rattle.fdb_audit.specs.Following.{Start, keys_taken, lines_before, lines_sin
 use Rattle.fdb_audit.specs.Recent.{KnowsTimes, believed_by, believed_now, keys_since}
 use Rattle.fdb_audit.specs.private.KeyTimes.{HearsKey, NotesIf, NotesKey, is_new, last_line, latest}
 use Rattle.fdb_audit.proofs.Believed.{believed_part}
-use Rattle.fdb_audit.proofs.Following.{keys_more, keys_same, lines_more, lines_same}
+use Rattle.fdb_audit.proofs.ReadLines.{keys_more, keys_same, lines_more, lines_same}
 use Rattle.fdb_audit.proofs.Settled.{drop_on}
 
 -- ---- what there is of a key

@@ -59,7 +59,7 @@ returns-clause-taken c =
                 (c.settle.ensures.seen lines keys are.seen) c.in_ok-told.ensures.settled
                 (c.in_ok-told.ensures.once lines keys told are.seen) refl refl refl refl refl refl noted,
           );
-      said = λ start read told warned are was. said_settled start old.taking _ read told warned are noted.settlings noted.warnings was;
+      said = λ start read told warned are was. said_settled start old.taking c.note_settled.new.self read told warned are noted.settlings noted.warnings was;
       warnings = noted.warnings;
       counts = noted.counts;
     }
