@@ -1,5 +1,5 @@
 -- What a follower has told stays told while it reads on, and what it tells next comes behind it.
-use Rattle.std.proofs.Common.{◌≡◌, ◌≢◌, ◌∙◌, ◌<◌, ◌≤◌, ℕ, List, [], ◌++◌, Bool, false, IsPermutation, ap, append-nil, append_assoc, arith, drop, is_some, true, length, not, refl, string_bytes, subst, sym, ◌&&◌, None, Option, Result, Some}
+use Rattle.std.proofs.Common.{◌≡◌, ◌≢◌, ◌∙◌, ◌<◌, ◌≤◌, ℕ, List, [], ◌++◌, Bool, false, IsPermutation, ap, append-nil, append_assoc, arith, drop, is_some, length, not, refl, string_bytes, subst, sym, ◌&&◌, None, Option, Result, Some}
 use Rattle.std.specs.Prelude.{IfSome}
 use Rattle.std.specs.List.{AllPairs}
 use Rattle.std.specs.Option.{option_or}
