@@ -1,6 +1,6 @@
 -- When the lines of keys came, with one line more.
 use Rattle.std.specs.Prelude.{MatchOption, ◌≢◌, ◌||◌}
-use Rattle.std.proofs.Common.{◌≡◌, ◌∙◌, ◌⊎◌, ℕ, zero, suc, ◌+◌, ◌-◌, ◌≤◌, Bool, true, false, List, [], ◌∷◌, ◌++◌, Option, None, Some, Result, Ok, Err, ap, arith, drop, inl, inr, is_some, length, map, nat_le, refl, slice_get, subst, sym, take}
+use Rattle.std.proofs.Common.{◌≡◌, ◌∙◌, ◌⊎◌, ℕ, zero, suc, ◌+◌, ◌-◌, ◌≤◌, Bool, true, false, List, [], ◌∷◌, ◌++◌, Option, None, Some, Result, Ok, Err, ap, arith, drop, inl, inr, is_some, length, nat_le, refl, slice_get, subst, sym, take}
 use Rattle.std.proofs.lemmas.Bool.Decides.{nat_tests}
 use Rattle.std.proofs.lemmas.List.{drop_all, length-map, take-append-le}
 use Rattle.std.proofs.lemmas.Option.{slice_get_within}
@@ -42,7 +42,7 @@ note_keeps key other at line old new notes le was = by (either_key other key)
     by : (other ≡ key) ⊎ (other ≢ key) → IsSince at (slice_get new.last.items other)
     by (inl is) = subst (λ other. IsSince at (slice_get new.last.items other)) (sym is) (noted_since key at line old new notes le)
     by (inr not) = elim (notes.others other not) [
-      inl same ↦ subst (IsSince at) (sym same) was
+      | inl same ↦ subst (IsSince at) (sym same) was
       | inr (none, came) ↦ absurd (subst (IsSince at) none was)
     ]
 
@@ -106,7 +106,7 @@ module _ (start : Start) (read : List (Result SaidLine Why)) (few : start.lines 
         let most = by_now start all (place + 1) in
         let le : at ≤ believed = omega (arith, most, now) in
         elim (pushed (keys_since start read) said.key place (Some key) (ap (λ (keys : List (Option ℕ)). slice_get keys place) (sym (keys_push said)) ∙ get)) [
-          inl was ↦ heard_keeps said.key key at (last_line believed said.line) old new hears le
+          | inl was ↦ heard_keeps said.key key at (last_line believed said.line) old new hears le
               (subst (λ (at : ℕ). IsSince at (slice_get old.last.items key)) (sym (by_still said place key was)) (knows.seen is place key was))
           | inr its ↦ heard_its said.key key at (last_line believed said.line) old new its (knows.wanted ∙ is) hears le
         ];
