@@ -418,7 +418,7 @@ def none_kept_files(_program):
         file, words = f"{folder}/placed", ["--follow", "9", "--key", "k", "--position", "at"]
         watch = [PROGRAM, *words, "--keep", file]
         line = b'{"client":"a","read":1,"began":1,"ended":2,"k":[],"at":7}\n'
-        err = b"fdb_audit: logs refused: BadKey 1: no name\n"
+        err = b"fdb_audit: logs refused: BadMember 1 key: no name\n"
         placed = none_kept(1, words, ',"kept_position":7')
         yield "no key", fault_of(run(watch, line), none_of(1, 2 * err))
         yield "no key, the file", file_fault(file, placed)
