@@ -707,8 +707,8 @@ uint8_t fdb_watch_new(const fdb_watch_options *options, const uint8_t *key, size
  * fdb_watch_keep wrote, or the bytes of a file of `fdb_audit --keep`. It tells of the lines that
  * come, which are those behind the first `kept_lines` lines of the log (docs/LOG.md), what that one
  * would have told. All but `totals` and `json` have to be as they were there; a file that has a
- * position (`--position`) is not taken. A text without a line opens a watch as fdb_watch_new does.
- * `*watch` must be none.
+ * position (`--position`) is not taken, nor one that keeps no line, but says how many were read
+ * (FDB_NO_CALL). A text without a line opens a watch as fdb_watch_new does. `*watch` must be none.
  *
  * FDB_OK, else FDB_BAD_MEMBER (`key` or `shown` is no UTF-8: `refused->line` is then 0); or of the
  * first line of `kept` that is not as it was kept FDB_NOT_KEPT, which of line 1 may also say that
@@ -795,11 +795,12 @@ uint8_t fdb_watch_warnings(fdb_watch *watch, uint8_t *text, size_t text_length, 
  * and neither are warnings. A line that has come without its end is not kept, nor counted in
  * `kept_lines`: it is to come again, whole. `*watch` must be a watch, and goes on as it was.
  *
- * FDB_OK, and `*size` is how long the text is; nothing is kept where that is 0. Or FDB_ROOM where
- * `text` is too short: `*size` is then the length that `text` needs, and nothing is written to
- * `text`, but the text is held until it is written, or the watch is told more, tells or ends: so
- * it is made once. Else FDB_OVER, FDB_MEMORY or FDB_NOT_KEPT: a text that is made is read back,
- * and does not say what is kept; then nothing is written. `n log n` in the lines that are kept.
+ * FDB_OK, and `*size` is how long the text is; nothing is kept where that is 0, not even how many
+ * lines were read, as of a log whose lines were all refused. Or FDB_ROOM where `text` is too short:
+ * `*size` is then the length that `text` needs, and nothing is written to `text`, but the text is
+ * held until it is written, or the watch is told more, tells or ends: so it is made once. Else
+ * FDB_OVER, FDB_MEMORY or FDB_NOT_KEPT: a text that is made is read back, and does not say what is
+ * kept; then nothing is written. `n log n` in the lines that are kept.
  */
 uint8_t fdb_watch_keep(fdb_watch *watch, uint8_t *text, size_t text_length, uint64_t *size);
 

@@ -14,12 +14,14 @@ from command_line import LINE, audit
 from follow import (PAUSE, STALE, Growing, began_with, behind_ends, disordered, grown,
                     objects_of, random_words)
 from follow_model import WATCHED
-from harness import NO_STREAM, SECONDS, Ran, apart, fault_of, run
+from harness import NO_MEMORY, NO_STREAM, SECONDS, Ran, apart, fault_of, read, run
 from reader import HIGHEST
 from shapes import text_of_lines, timed
 
 # How many logs are stopped and started again, and how many are killed.
 STOPPED, KILLED = 400, 40
+# How many lines are refused in front of all others, and one of them.
+SPOILT, GARBAGE = (1, 2, 64), b"garbage\n"
 
 
 def lines_kept(file):
@@ -28,7 +30,7 @@ def lines_kept(file):
         return 0
     with open(file, "rb") as kept:
         rows = list(map(json.loads, kept))
-    numbers = [row["kept_line"] for row in rows]
+    numbers = [row["kept_line"] for row in rows if "kept_line" in row]
     assert numbers == sorted(set(numbers)), f"the numbers {numbers} do not rise"
     return rows[-1]["kept_lines"] if rows else 0
 
@@ -310,3 +312,154 @@ def place_fault(file, wanted):
         first, *others = map(json.loads, log)
     is_so = first.get("kept_position") == wanted and not any("kept_position" in it for it in others)
     return None if is_so else f"{first} in place of {wanted}"
+
+
+# ---- where no line is kept, since all were refused
+
+
+def none_kept(count, words, more=""):
+    """What a file has where none of so many lines is kept."""
+    by = made_by(*words).removeprefix(" by ")
+    return f'{{"kept_lines":{count},"kept_by":{by}{more}}}\n'.encode()
+
+
+def refused_at(*numbers):
+    """What is said of garbage at these numbers."""
+    return "".join(f"fdb_audit: logs refused: NotJson {it}: no JSON\n" for it in numbers).encode()
+
+
+def none_of(count, err):
+    """How a watch ends that took no line, and refused so many."""
+    out = f"audit ok lines 0 reads 0 commits 0 asks 0 reports 0 refused {count} early 0\n"
+    return Ran(REFUSED, out.encode(), err)
+
+
+def file_fault(file, wanted):
+    found = read(file) if os.path.exists(file) else None
+    return None if found == wanted else f"it has {found} in place of {wanted}"
+
+
+def spoilt_first(_program):
+    """Of lines that are all refused the file has how many they are, and lines that come later are
+    numbered on from there."""
+    for count in SPOILT:
+        for more in ([], ["--position", "at"]):
+            with tempfile.TemporaryDirectory() as folder:
+                words, file = ["--follow", "0", *more], f"{folder}/kept"
+                for name, fault in spoilt_in(words, file, count):
+                    yield f"{count} lines {more}, {name}", fault
+
+
+def spoilt_in(words, file, count):
+    watch, kept = [PROGRAM, *words, "--keep", file], none_kept(count, words)
+    ran = run(watch, GARBAGE * count)
+    yield "at first", fault_of(ran, none_of(count, refused_at(*range(1, count + 1), count)))
+    yield "the file", file_fault(file, kept)
+    ran = run(watch, b"")
+    yield "no more", fault_of(ran, none_of(0, b"fdb_audit: logs refused: Empty: no line\n"))
+    yield "the file, no more", file_fault(file, kept)
+    ran = run([PROGRAM, "--follow", "1", *words[2:], "--keep", file], GARBAGE)
+    wanted = not_kept("NotKept 1: no line as it is kept", file, made_by(*words))
+    yield "by others", fault_of(ran, wanted)
+    yield "the file, by others", file_fault(file, kept)
+    # (a line without its end counts where the log ends)
+    ran, at = run(watch, b"{"), count + 1
+    yield "one more", fault_of(ran, none_of(1, refused_at(at, at)))
+    yield "the file, one more", file_fault(file, none_kept(at, words))
+    ran = run(watch, text_of_lines(told_at(0)).encode() + GARBAGE)
+    # The commit ended at 10, the read began at 20.
+    out = (f'audit fault: Order {at + 2}: client "b" read 1, but 5 was known: line {at + 1} '
+           f'(client "a", commit 5) had ended 10 before line {at + 2} began\n')
+    err = refused_at(at + 4) + f"fdb_audit: audit fault: Order {at + 2}\n".encode()
+    yield "a stale read", fault_of(ran, Ran(FAULTY, out.encode(), err))
+    found = lines_kept(file)
+    yield "the file, a stale read", None if found == at + 4 else f"it stands for {found} lines"
+    ran = run(watch, text_of_lines([timed("read", 5, 1, 2, "c")]).encode())
+    why = f"fdb_audit: logs refused: Early {at + 5}: it began before what had been settled"
+    is_so = ran.status == REFUSED and ran.err.splitlines()[-1:] == [why.encode()]
+    yield "an early line", None if is_so else f"{ran}"
+
+
+def spoilt_and_killed(_program):
+    """Killed before a line is kept, it goes on from the file that it had, if there was one."""
+    words, lines = ["--follow", "0"], [text_of_lines([it]).encode() for it in told_at(0)]
+    for count in SPOILT:
+        with tempfile.TemporaryDirectory() as folder:
+            file = f"{folder}/kept"
+            watch = [PROGRAM, *words, "--keep", file]
+            for is_first in (True, False):
+                with Growing(*watch[1:]) as growing:
+                    growing.started.stdin.write(GARBAGE * count)
+                    said = growing.started.stderr.readline()
+                    growing.started.kill()
+                    growing.started.wait()
+                wanted = refused_at(1 if is_first else count + 1)
+                yield f"{count} lines, it tells", None if said == wanted else f"{said}"
+                wanted = None if is_first else none_kept(count, words)
+                yield f"{count} lines, the file", file_fault(file, wanted)
+                run(watch, GARBAGE * count if is_first else b"")
+            with Growing(*watch[1:]) as growing:
+                growing.write(*told_at(0))
+                wanted = f"audit fault: Order {count + 2}: ".encode()
+                yield f"{count} lines, a stale read", began_with(growing.told(), wanted)
+                growing.started.kill()
+                growing.started.wait()
+            # (the file may have been written, or not)
+            rest = b"".join(lines[lines_kept(file) - count:])
+            ran, found = run(watch, rest), lines_kept(file)
+            is_so = ran.status in (OK, FAULTY) and found == count + len(lines)
+            yield f"{count} lines, it goes on", None if is_so else f"{ran}, {found} lines"
+
+
+def none_kept_files(_program):
+    """A file that keeps no line: where its last line stands, and how one is refused that is not as
+    it was written."""
+    with tempfile.TemporaryDirectory() as folder:
+        file, words = f"{folder}/placed", ["--follow", "9", "--key", "k", "--position", "at"]
+        watch = [PROGRAM, *words, "--keep", file]
+        line = b'{"client":"a","read":1,"began":1,"ended":2,"k":[],"at":7}\n'
+        err = b"fdb_audit: logs refused: BadMember 1 key: no name\n"
+        placed = none_kept(1, words, ',"kept_position":7')
+        yield "no key", fault_of(run(watch, line), none_of(1, 2 * err))
+        yield "no key, the file", file_fault(file, placed)
+        run(watch, b"")
+        yield "no key, and no more", file_fault(file, placed)
+        run(watch, GARBAGE)
+        yield "no key, and one more", file_fault(file, none_kept(2, words))
+        yield from wrong_files(f"{folder}/kept", ["--follow", "0"], line)
+
+
+def wrong_files(file, words, line):
+    watch, by, one = [PROGRAM, *words, "--keep", file], made_by(*words), none_kept(1, words)
+    no_call = "NoCall 1: no read, commit, ask, report or learn"
+    other, half = "NotKept 1: no line as it is kept", "NotJson 1: no JSON"
+    for name, text, why, by_what in (
+        ("a text", none_kept('"1"', words), no_call, by),
+        ("a null", none_kept("null", words), no_call, by),
+        ("below 0", none_kept(-1, words), no_call, by),
+        ("no whole number", none_kept(1.5, words), no_call, by),
+        ("2^64", none_kept(2**64, words), no_call, by),
+        ("2^64 - 1", none_kept(2**64 - 1, words), other, by),
+        ("no number", one.replace(b'"kept_lines":1,', b""), no_call, by),
+        ("two lines", one + one, no_call, by),
+        ("by nobody", b'{"kept_lines":1}\n', other, ""),
+        ("without its end", one[:-1], half, by),
+        ("half of it", one[:-3], half, ""),
+        ("a list", b"[1]\n", no_call, ""),
+        ("with a call", one[:-2] + b"," + line[1:], other, by),
+        ("a line of a log", line, other, ""),
+    ):
+        with open(file, "wb") as log:
+            log.write(text)
+        yield name, fault_of(run(watch, GARBAGE), not_kept(why, file, by_what))
+        yield f"{name}, the file", file_fault(file, text)
+    for name, text, number in (
+        ("an empty file", b"", 1), ("none was read", none_kept(0, words), 1),
+        ("the last number", none_kept(2**64 - 3, words), 2**64 - 2),
+    ):
+        with open(file, "wb") as log:
+            log.write(text)
+        ran = run(watch, GARBAGE)
+        yield name, fault_of(ran, none_of(1, refused_at(number, number)))
+        yield f"{name}, the file", file_fault(file, none_kept(number, words))
+    yield "no number more", fault_of(run(watch, GARBAGE), Ran(NO_MEMORY, None, None))

@@ -128,7 +128,8 @@ impl Watch {
     /// A watch that goes on from what [`keep`](Watch::keep) gave, or a file of `fdb_audit --keep` has:
     /// it tells of the lines that come, which are those behind the first `kept_lines` lines of the
     /// log, what the watch that kept them would have told. But for `totals` and `json` the options are
-    /// those of that one, which had no `--position`. A text without a line is a new watch.
+    /// those of that one, which had no `--position`. A text without a line is a new watch; a file that
+    /// keeps no line is refused, as `NoCall`.
     ///
     /// # Errors
     /// `Refused` with the first line of `kept` that is not as it was kept: as `NotKept`, which of line

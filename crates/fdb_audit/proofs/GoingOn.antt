@@ -2,7 +2,7 @@
 use Rattle.std.specs.Prelude.{◌&&◌}
 use Rattle.std.proofs.lemmas.List.{drop_all, length-append}
 use Rattle.std.proofs.lemmas.List.Elements.{All-nil}
-use Rattle.std.proofs.Common.{false, All, ◌≡◌, ◌∙◌, ◌+◌, ◌≤◌, ◌++◌, ◌∷◌, [], ℕ, Bool, IsPermutation, List, None, Option, Some, Result, ap, append-nil, arith, drop, is_some, length, map, option_map, option_to_list, refl, string_bytes, subst, sym}
+use Rattle.std.proofs.Common.{false, All, ◌≡◌, ◌∙◌, ◌+◌, ◌<◌, ◌≤◌, ◌++◌, ◌∷◌, [], ℕ, Bool, IsPermutation, List, None, Option, Some, Result, ap, append-nil, arith, drop, is_some, length, map, option_map, option_to_list, refl, string_bytes, subst, sym}
 use Rattle.std.specs.Option.{option_or}
 use Rattle.fdb_lines.specs.declared.fault.Found.{Found}
 use Rattle.fdb_lines.specs.declared.key_watch.KeyWatch.{KeyWatch}
@@ -172,8 +172,8 @@ module _ (asked : AuditArguments) (start : Start) (old next new : Follower) (byt
 
   goes_on : (stays : Option ℕ → Bool) → MayForget asked.forget start has.read stays
       → KeepsLines (places_staying stays has.read old.taking) (option_map string_bytes asked.key) (line_names old.reader) start.kept old.taking has.read kept → EndsALine bytes
-      → (start_of asked start.behind kept).from ≡ old.taking.watch.from → GoesOnBy asked start bytes told kept on
-  goes_on stays forgets keeps ends from =
+      → (start_of asked start.behind kept).from ≡ old.taking.watch.from → 0 < length (places_staying stays has.read old.taking) → GoesOnBy asked start bytes told kept on
+  goes_on stays forgets keeps ends from some =
       let is = has.telling in
       let Its = λ (read : List (Result SaidLine Why)) (names : LineNames). AreTaken start old.taking read (start.told ++ told_in_all read is.windows)
       × (AreWindows start.kept asked.opts.margin asked.wanted read names.clients is.windows told
@@ -200,6 +200,7 @@ module _ (asked : AuditArguments) (start : Start) (old next new : Follower) (byt
         at = all.1.1.1.1.0;
         stays = stays;
         forgets = all.1.1.1.1.1.0;
+        some = subst (λ (read : List (Result SaidLine Why)). 0 < length (places_staying stays read old.taking)) (sym whole) some;
         keeps = all.1.1.1.1.1.1.0;
         ends = ends;
         from = from;
@@ -279,17 +280,18 @@ module _ (asked : AuditArguments) (start : Start) (old next new : Follower) (byt
       → KeepsLines (places_staying stays has.read old.taking) (option_map string_bytes asked.key) (line_names old.reader) start.kept old.taking has.read kept → EndsALine bytes
       → (start_of asked start.behind kept).from ≡ old.taking.watch.from
       → (restored : HasFollowed asked (start_of asked start.behind kept) next kept []) → restored.telling.windows ≡ [] → next.taking.settlings.at ≡ []
-      → next.taking.watch.from ≡ (start_of asked start.behind kept).from → TakesPlace old next new times → HasGoneOn asked start new bytes told
-  gone_on stays times wanted forgets keeps ends from restored none settled moment place =
-      (kept, on, goes_on stays forgets keeps ends from, followed_on stays times wanted keeps restored none settled moment place)
+      → next.taking.watch.from ≡ (start_of asked start.behind kept).from → TakesPlace old next new times → 0 < length (places_staying stays has.read old.taking) → HasGoneOn asked start new bytes told
+  gone_on stays times wanted forgets keeps ends from restored none settled moment place some =
+      (kept, on, goes_on stays forgets keeps ends from some, followed_on stays times wanted keeps restored none settled moment place)
 
 -- by one that was restored as this one is asked for
 pub gone_on_by : (asked given : AuditArguments) → AskForTheSame asked given → (start : Start) (old next new : Follower) (bytes told kept : List ℕ) (has : HasFollowed asked start old bytes told) → IsQuiet old
     → (stays : Option ℕ → Bool) (times : KeyTimes) → times.are_wanted ≡ old.taking.times.are_wanted → MayForget given.forget start has.read stays
     → KeepsLines (places_staying stays has.read old.taking) (option_map string_bytes asked.key) (line_names old.reader) start.kept old.taking has.read kept → EndsALine bytes
     → (restored : HasFollowed given (start_of given old.behind kept) next kept []) × (restored.telling.windows ≡ []) × (next.taking.settlings.at ≡ []) → next.taking.watch.from ≡ (start_of given old.behind kept).from
-    → next.taking.watch.from ≡ old.taking.watch.from → TakesPlace old next new times → HasGoneOn asked start new bytes told
-gone_on_by asked given same start old next new bytes told kept has quiet stays times wanted forgets keeps ends restored moment still place =
+    → next.taking.watch.from ≡ old.taking.watch.from → TakesPlace old next new times
+    → 0 < length (places_staying stays has.read old.taking) → HasGoneOn asked start new bytes told
+gone_on_by asked given same start old next new bytes told kept has quiet stays times wanted forgets keeps ends restored moment still place some =
     let begun : start_of given old.behind kept ≡ start_of asked start.behind kept =
     start_same asked given same old.behind kept ∙ ap (λ behind. start_of asked behind kept) has.telling.behind in
     let (so, none, settled) : (has : HasFollowed given (start_of asked start.behind kept) next kept []) × (has.telling.windows ≡ []) × (next.taking.settlings.at ≡ []) =
@@ -297,7 +299,7 @@ gone_on_by asked given same start old next new bytes told kept has quiet stays t
     let (as_asked, windows) = followed_same asked given same (start_of asked start.behind kept) next kept [] so in
     gone_on asked start old next new bytes told kept has quiet stays times wanted
     (subst (λ (forget : Option ℕ). MayForget forget start has.read stays) same.forget forgets) keeps ends (sym (ap (λ (start : Start). start.from) begun) ∙ (sym moment ∙ still)) as_asked (windows ∙ none) settled
-    (moment ∙ ap (λ (start : Start). start.from) begun) place
+    (moment ∙ ap (λ (start : Start). start.from) begun) place some
 
 -- the text that keeps lines keeps those that were read, by the member that has the keys, in whatever order they are named
 pub kept_so : (asked : AuditArguments) (start : Start) (old : Follower) (bytes told kept : List ℕ) (has : HasFollowed asked start old bytes told) → StaysInOne

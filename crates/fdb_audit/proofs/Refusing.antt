@@ -60,7 +60,7 @@ not_kept (Some error) last refused is = false≢true (sym (ap is_kept is))
 kept_alone : (arguments : List Text) (asked : AuditArguments) (bytes : List ℕ) (behind : ℕ) (refused : KeptFault) → AskFor arguments asked → asked.follow ≡ Some behind
     → (text : List ℕ) (found : Option LogFault) → audit.prints arguments bytes text found (Some (Kept refused)) → ⊥
 kept_alone arguments asked bytes behind refused is follows text found prints =
-    let (kept, for, left, last, printed, why) = subst (λ follow. PrintsBy follow prints.0 bytes text found (Some (Kept refused))) (prints.1.follow ∙ (sym is.follow ∙ follows)) prints.2 in
+    let (kept, more, for, left, last, printed, why) = subst (λ follow. PrintsBy follow prints.0 bytes text found (Some (Kept refused))) (prints.1.follow ∙ (sym is.follow ∙ follows)) prints.2 in
     not_kept left last refused why
 
 pub stops : (arguments : List Text) (asked : AuditArguments) (bytes : List ℕ) (error : ReadError) (made : Failure LogsRefused LogFault) → AskFor arguments asked

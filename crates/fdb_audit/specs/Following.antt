@@ -126,6 +126,10 @@ start_with behind kept = record {
   before = none_before;
 }
 
+-- so many lines were read before, none of which was kept
+abbrev pub start_behind : ℕ → ℕ → Start
+start_behind behind lines = start_with behind (record { lines = []; more = lines })
+
 -- nothing was read before
 abbrev pub fresh : ℕ → Start
 fresh behind = start_with behind none_kept

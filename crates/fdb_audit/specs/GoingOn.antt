@@ -1,5 +1,5 @@
 -- A watch that goes on from what it keeps, where the names that it holds have become many. (this product's own)
-use Rattle.std.specs.Prelude.{All, false, ◌≡◌, ℕ, ◌+◌, ◌-◌, ◌≤◌, ◌++◌, Bool, List, None, Option, Result, Some, option_map, slice_get, string_bytes, true}
+use Rattle.std.specs.Prelude.{◌≡◌, ℕ, ◌+◌, ◌-◌, ◌<◌, ◌≤◌, ◌++◌, All, Bool, false, List, None, Option, Result, Some, length, option_map, slice_get, string_bytes, true}
 use Rattle.std.specs.List.{filter}
 use Rattle.std.specs.Option.{option_or}
 use Rattle.fdb_lines.specs.KeyWatch.{settled_in}
@@ -38,7 +38,8 @@ pub record MayForget (forget : Option ℕ) (start : Start) (read : List (Result 
       → believed_now start read - believed_by start read (place + 1) ≤ after → stays (Some key) ≡ true
 
 -- A watch goes on where a line of these bytes ends: it has told this text of them, and from now on it is as one that was restored from
--- the text that keeps its lines, but for those of keys that it forgets, with what it has counted and knows of clocks. This text says up to when all was told.
+-- the text that keeps its lines, but for those of keys that it forgets, with what it has counted and knows of clocks. This text says up to when all was told,
+-- and by a line how many were read.
 pub record GoesOnBy (asked : AuditArguments) (start : Start) (bytes told kept : List ℕ) (next : Start) : Type 0 where
   pub taking : Taking
   pub windows : List Window
@@ -51,6 +52,7 @@ pub record GoesOnBy (asked : AuditArguments) (start : Start) (bytes told kept : 
   pub at : All (IsAt start false (lines_asked asked bytes) taking.settlings.at) windows
   pub stays : Option ℕ → Bool
   pub forgets : MayForget asked.forget start (lines_asked asked bytes) stays
+  pub some : 0 < length (places_staying stays (lines_asked asked bytes) taking)
   pub keeps : KeepsLines (places_staying stays (lines_asked asked bytes) taking) (option_map string_bytes asked.key) (names_asked asked bytes) start.kept taking (lines_asked asked bytes) kept
   pub ends : EndsALine bytes
   pub from : next.from ≡ taking.watch.from

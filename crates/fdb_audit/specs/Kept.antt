@@ -99,12 +99,13 @@ abbrev pub start_of : AuditArguments → ℕ → List ℕ → Start
 start_of asked behind text =
     start_from behind asked.opts.margin (kept_said (lines_kept (option_map string_bytes asked.key) text)) (lines_asked asked text)
 
--- What is to be said of the lines that are kept of those that were taken, by their places: so many had come when it settled last.
+-- What is to be said of the lines that are kept of those that were taken, by their places: so many had come when it settled last. Where
+-- none is kept, there is no line that says how many were read.
 abbrev pub kept_at : KeptBefore → List (Result SaidLine Why) → List ℕ → ℕ → ℕ → Bool → KeptSaid
 kept_at before read places come settled many =
     let told = count_by (λ place. nat_lt place come) places in
     record {
-      front = record { lines = map (taken_line before read) places; more = length read + before.more - length places };
+      front = record { lines = map (taken_line before read) places; more = if nat_lt 0 (length places) then length read + before.more - length places else 0 };
       told = told;
       settled = if nat_lt 0 told then settled else 0;
       many = nat_lt 0 (length places) && many;
@@ -128,7 +129,7 @@ abbrev pub Rise : List ℕ → Type 0
 Rise places = (i j : ℕ) → i < j → j < length places → slice_index places i < slice_index places j
 
 -- A text says which lines are kept, those at some places, in the order in which they came, each once and with where it stood, how
--- many lines were read, and up to when all was told; and of each line, whatever is shown of it, what it said when it was taken, by
+-- many lines were read, where one is kept, and up to when all was told; and of each line, whatever is shown of it, what it said when it was taken, by
 -- these names. Each of its lines is one of them, and it ends where a line does.
 pub record KeepsLines (kept : List ℕ) (key : Option (List ℕ)) (names : LineNames) (before : KeptBefore) (taking : Taking) (read : List (Result SaidLine Why)) (text : List ℕ)
     : Type 0 where

@@ -20,7 +20,7 @@ use Rattle.fdb_audit.specs.declared.judgement.Wanted.{Wanted}
 use Rattle.fdb_audit.specs.declared.refusal.LogsRefused.{LogsRefused}
 use Rattle.fdb_audit.specs.declared.refusal.LogsRefused.TheVariants.{Early, Log}
 use Rattle.fdb_audit.specs.declared.refusal.LogsRefused.TheVariants.{Kept as Of_kept}
-use Rattle.fdb_audit.specs.Following.{Start, fresh}
+use Rattle.fdb_audit.specs.Following.{Start, fresh, start_behind}
 use Rattle.fdb_audit.specs.Kept.{start_of}
 use Rattle.fdb_audit.specs.KeptFile.{KeepingFails}
 use Rattle.fdb_audit.specs.declared.audit_program.AuditIntake.{AuditIntake}
@@ -107,21 +107,26 @@ Prints asked bytes text found =
     × (first : Option Found) × (found ≡ option_map (fault_of (own_numbers reading.numbers)) first)
     × IsTextOfReading reading asked.opts asked.wanted first text
 
--- From where a log is followed on: by what was kept of it, where the arguments say that and where it is kept, as a text that is
--- read in front of what comes; and else from its beginning.
-abbrev pub started : AuditArguments → ℕ → List ℕ → Start
-started asked behind kept = if is_some asked.keep then start_of asked behind kept else fresh behind
+-- From where a log is followed on of which something was kept: by the text that keeps lines, which is read in front of what comes; and
+-- where none is kept, behind so many lines.
+abbrev pub start_kept : AuditArguments → ℕ → ℕ → List ℕ → Start
+start_kept asked behind more [] = start_behind behind more
+start_kept asked behind more (byte ∷ kept) = start_of asked behind (byte ∷ kept)
 
--- no text is kept where none is asked for
-abbrev pub MayBeKept : AuditArguments → List ℕ → Type 0
-MayBeKept asked kept = asked.keep ≡ None → kept ≡ []
+-- From where a log is followed on: by what was kept of it, where the arguments say that and where it is kept; and else from its beginning.
+abbrev pub started : AuditArguments → ℕ → ℕ → List ℕ → Start
+started asked behind more kept = if is_some asked.keep then start_kept asked behind more kept else fresh behind
+
+-- no text is kept where none is asked for, and nothing says that lines were read
+abbrev pub MayBeKept : AuditArguments → ℕ → List ℕ → Type 0
+MayBeKept asked more kept = asked.keep ≡ None → (kept ≡ []) × (more ≡ 0)
 
 -- the intake has taken these bytes: of a log that is followed this text has been told so far, of any other none
 abbrev pub HasTaken : AuditArguments → AuditIntake → List ℕ → List ℕ → Type 0
 HasTaken asked (Whole reader) bytes told = (asked.follow ≡ None) × HasRead asked reader bytes × (told ≡ [])
 HasTaken asked (Followed log) bytes told =
-    (behind : ℕ) × (asked.follow ≡ Some behind) × (kept : List ℕ) × MayBeKept asked kept
-    × HasPrinted asked (started asked behind kept) log (kept ++ bytes) told
+    (behind : ℕ) × (asked.follow ≡ Some behind) × (kept : List ℕ) × (more : ℕ) × MayBeKept asked more kept
+    × HasPrinted asked (started asked behind more kept) log (kept ++ bytes) told
 
 -- why not all of a log was judged: the last line that is refused, or that none is taken, or the last line that came early
 abbrev pub refusal_of : Option ReadError → Option ℕ → Option LogsRefused
@@ -131,8 +136,8 @@ refusal_of refused last_early = option_or (option_map Log refused) (option_map E
 abbrev pub PrintsBy : Option ℕ → AuditArguments → List ℕ → List ℕ → Option LogFault → Option LogsRefused → Type 0
 PrintsBy None asked bytes text found refused = Prints asked bytes text found × (refused ≡ None)
 PrintsBy (Some behind) asked bytes text found refused =
-    (kept : List ℕ) × MayBeKept asked kept × (error : Option ReadError) × (last_early : Option ℕ)
-    × IsPrinted asked (started asked behind kept) (not (is_some asked.keep)) (kept ++ bytes) text found error last_early
+    (kept : List ℕ) × (more : ℕ) × MayBeKept asked more kept × (error : Option ReadError) × (last_early : Option ℕ)
+    × IsPrinted asked (started asked behind more kept) (not (is_some asked.keep)) (kept ++ bytes) text found error last_early
     × (refused ≡ refusal_of error last_early)
 
 -- Why it is refused: no log is read of it, or of one that is followed what was kept is refused; or, of one that is followed, some

@@ -9,12 +9,12 @@ ghost use Rattle.fdb_command.specs.Arguments.{AreMatches};
 ghost use Rattle.fdb_audit.specs.Program.{command, is_comma, members_named, text_rule, IsWanted};
 ghost use Rattle.fdb_audit.specs.Watched.{AskForTheSame};
 
+use crate::first_line::first_text;
 use crate::judgement::Wanted;
-use crate::kept_file::member_texts;
 use clap::{Arg, ArgMatches, Command};
 use fdb_command::{file_argument, flag_argument, is_given, new_versioned_command, number_argument};
 use fdb_lines::AuditOpts;
-use fdb_log_reader::{printed_name, shown_text};
+use fdb_log_reader::printed_name;
 use std::alloc::{AllocError, Global};
 use std::fmt::Write;
 
@@ -319,21 +319,4 @@ fn push_member(
         write!(out, " {argument} {name}")?;
     }
     Ok(())
-}
-
-/// What the first line of a text has in a member, as it is printed, if it has that.
-pub(crate) fn first_text(
-    alloc: Global,
-    member: &str,
-    text: &[u8],
-) -> Result<Option<String>, AllocError> {
-    let end = text.iter().position(|byte| *byte == b'\n');
-    let first = match end {
-        Some(end) => &text[..end],
-        None => text,
-    };
-    match member_texts(alloc, member, first)? {
-        Some(text) => Ok(Some(shown_text(alloc, &text)?)),
-        None => Ok(None),
-    }
 }

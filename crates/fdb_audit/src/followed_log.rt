@@ -2,22 +2,24 @@
 
 ghost use Rattle.std.specs.Prelude.{◌≡◌, ◌++◌, ℕ, [], IfErr, IfOk, List, Some, false, ◌≤◌, None};
 ghost use Rattle.std.specs.Prelude.{OnOk, length, option_map, string_bytes, true};
-ghost use Rattle.fdb_audit.specs.Following.{Start};
-ghost use Rattle.fdb_audit.specs.Kept.{start_of};
+ghost use Rattle.fdb_audit.specs.Following.{Start, start_behind};
+ghost use Rattle.fdb_audit.specs.Program.{start_kept};
 ghost use Rattle.fdb_audit.specs.private.Kept.{MayFail, MayStop};
 ghost use Rattle.fdb_audit.specs.Progress.{HasPrinted, IsPrinted};
 ghost use Rattle.fdb_audit.specs.Watched.{HasFollowed};
 ghost use Rattle.fdb_audit.specs.declared.arguments.AuditArguments.{AuditArguments};
 
-use crate::arguments::AuditArguments;
+use crate::arguments::{AuditArguments, is_made_by, made_by};
+use crate::first_line::none_kept_in;
 use crate::follower::Follower;
 use crate::kept_file::{Keeper, failure, read_kept, refusal};
 use crate::pace::{Pace, SECOND, moment};
 use crate::printer::LogFault;
 use crate::progress::Reporter;
-use crate::refusal::LogsRefused;
+use crate::refusal::{KeptRefused, LogsRefused};
 use crate::teller::{Followed, Said, Stopped, behind};
 use fdb_command::{Access, Failure};
+use fdb_log_reader::Why;
 use std::alloc::{AllocError, Global};
 use std::fs::{File, Files};
 use std::time::Clock;
@@ -65,8 +67,9 @@ impl FollowedLog {
         asked: &AuditArguments,
         behind: u64,
     ) -> Result<Self, Stop>
-        ensures begun { IfOk result (λ log. (kept : List ℕ) × MayBeKept asked.now kept
-            × HasPrinted asked.now (started asked.now behind kept) log kept []) }
+        ensures begun { IfOk result (λ log. (kept : List ℕ) × (more : ℕ)
+            × MayBeKept asked.now more kept
+            × HasPrinted asked.now (started asked.now behind more kept) log kept []) }
         ensures stops { IfErr result (MayStop (option_map string_bytes asked.now.keep)) }
     {
         match asked.keep.as_deref() {
@@ -90,11 +93,11 @@ impl FollowedLog {
         behind: u64,
         file: &str,
     ) -> Result<Self, Stop>
-        ensures begun { IfOk result (λ log. (text : List ℕ)
-            × HasPrinted asked.now (start_of asked.now behind text) log text []) }
+        ensures begun { IfOk result (λ log. (kept : List ℕ) × (more : ℕ)
+            × HasPrinted asked.now (start_kept asked.now behind more kept) log kept []) }
         ensures stops { IfErr result (MayStop (Some file.now)) }
     {
-        let mut keeper = Keeper::new(rt, alloc, asked, file)?;
+        let mut keeper = Keeper::new(rt, alloc, asked, behind, file)?;
         let text = read_kept(rt, alloc, file)?;
         let follower = restored(alloc, asked, behind, file, &text)?;
         keeper.go_on(&text)?;
@@ -295,7 +298,8 @@ impl FollowedLog {
             let Ok(text) = self.follower.kept(&beside)? else {
                 return Err(failure(self.alloc, Access::Writing, file));
             };
-            keeper.write(rt, file, &text)?;
+            let read = self.follower.read_count();
+            keeper.write(rt, file, &text, read, &beside)?;
             keeper.note(&self.follower);
             keeper.pace.note(begun, moment(rt));
         }
@@ -349,12 +353,16 @@ impl FollowedLog {
     {
         let front = self.front()?;
         let beside = self.beside()?;
-        let Stopped { followed, kept } = self.follower.stop(&beside)?;
+        let Stopped {
+            followed,
+            kept,
+            read,
+        } = self.follower.stop(&beside)?;
         if let Some(keeper) = &self.keeper {
             let Ok(kept) = kept else {
                 return Err(failure(self.alloc, Access::Writing, file));
             };
-            keeper.write(rt, file, &kept)?;
+            keeper.write(rt, file, &kept, read, &beside)?;
         }
         let followed = behind(front, followed)?;
         Ok(followed)
@@ -373,7 +381,8 @@ fn first_end(bytes: &[u8]) -> usize
     bytes.len()
 }
 
-/// An audit that goes on from the lines that were kept.
+/// An audit that goes on from what a file has: from the lines that were kept, or where none was,
+/// behind so many as it says.
 fn restored(
     alloc: Global,
     asked: &AuditArguments,
@@ -381,13 +390,46 @@ fn restored(
     file: &str,
     text: &[u8],
 ) -> Result<Follower, Stop>
-    ensures followed { IfOk result (λ follower. HasFollowed asked.now
-        (start_of asked.now behind text.now) follower text.now []) }
+    ensures followed { IfOk result (λ follower. (kept : List ℕ) × (more : ℕ)
+        × HasFollowed asked.now (start_kept asked.now behind more kept) follower kept []) }
     ensures stops { IfErr result (MayStop (Some file.now)) }
 {
+    if text.is_empty() {
+        let follower = Follower::new(alloc, asked, behind)?;
+        return Ok(follower);
+    }
     match Follower::restore(alloc, asked, behind, text) {
         Ok(Ok(follower)) => Ok(follower),
-        Ok(Err(refused)) => Err(refusal(alloc, file, refused, text)),
+        Ok(Err(refused)) => restored_behind(alloc, asked, behind, file, text, refused),
         Err(_) => Err(Failure::Memory),
     }
+}
+
+/// An audit that goes on where no line was kept, behind so many as a text says that is refused as
+/// the lines that were kept: its one line has no call.
+fn restored_behind(
+    alloc: Global,
+    asked: &AuditArguments,
+    behind: u64,
+    file: &str,
+    text: &[u8],
+    refused: KeptRefused,
+) -> Result<Follower, Stop>
+    ensures followed { IfOk result (λ follower. (read : ℕ)
+        × HasFollowed asked.now (start_behind behind read) follower [] []) }
+    ensures stops { IfErr result (MayStop (Some file.now)) }
+{
+    if refused.why != Some(Why::NoCall) {
+        return Err(refusal(alloc, file, refused, text));
+    }
+    let Some(read) = none_kept_in(alloc, text)? else {
+        return Err(refusal(alloc, file, refused, text));
+    };
+    let made_by = made_by(alloc, asked, behind)?;
+    if read == u64::MAX || !is_made_by(alloc, &made_by, text)? {
+        let refused = KeptRefused { line: 1, why: None };
+        return Err(refusal(alloc, file, refused, text));
+    }
+    let follower = Follower::behind(alloc, asked, behind, read)?;
+    Ok(follower)
 }

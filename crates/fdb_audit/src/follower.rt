@@ -1,7 +1,8 @@
 //! An audit that follows a log as it grows.
 
 ghost use Rattle.std.specs.Prelude.{◌≡◌, ◌++◌, ℕ, [], Bool, IfOk, List, OnOk, false, true, ◌-◌};
-ghost use Rattle.std.specs.Prelude.{◌<◌, max, Result, option_map, string_bytes, All, map};
+ghost use Rattle.std.specs.Prelude.{◌<◌, ◌+◌, length, max, Result, option_map, string_bytes, All};
+ghost use Rattle.std.specs.Prelude.{map};
 ghost use Rattle.std.specs.Option.{option_or};
 ghost use Rattle.std.specs.List.Sorted.{IsNonDecreasing};
 ghost use Rattle.fdb_log_reader.specs.ReadLine.{SaidLine, member_in};
@@ -9,7 +10,7 @@ ghost use Rattle.fdb_log_reader.specs.declared.error.Why.{Why};
 ghost use Rattle.fdb_lines.specs.KeyWatch.{IsKept};
 ghost use Rattle.fdb_lines.specs.declared.fault.Found.{Found};
 ghost use Rattle.fdb_audit.specs.Following.{Start, fresh, keys_taken, left_out, lines_taken};
-ghost use Rattle.fdb_audit.specs.Following.{none_before, start_with};
+ghost use Rattle.fdb_audit.specs.Following.{none_before, start_behind, start_with};
 ghost use Rattle.fdb_audit.specs.Kept.{KeepsLines, KeptSaid, start_from, start_of, Keeps};
 ghost use Rattle.fdb_audit.specs.private.KeptTexts.{number_of};
 ghost use Rattle.fdb_audit.specs.Taken.{AreTaken};
@@ -77,7 +78,25 @@ impl Follower {
         ensures said { IfOk result (λ follower.
             HasSaid asked.now (fresh behind) follower [] []) }
     {
-        let none = Numbering::new(alloc, Vec::new(alloc), 0);
+        let follower = Follower::behind(alloc, asked, behind, 0)?;
+        Ok(follower)
+    }
+
+    /// The same, where so many lines were read before, none of which is kept: the lines that come
+    /// are numbered on from there.
+    pub fn behind(
+        alloc: Global,
+        asked: &AuditArguments,
+        behind: u64,
+        read: u64,
+    ) -> Result<Self, AllocError>
+        requires { read < 18446744073709551615 }
+        ensures followed { IfOk result (λ follower.
+            HasFollowed asked.now (start_behind behind read) follower [] []) }
+        ensures said { IfOk result (λ follower.
+            HasSaid asked.now (start_behind behind read) follower [] []) }
+    {
+        let none = Numbering::new(alloc, Vec::new(alloc), read);
         let follower = Follower::numbered(alloc, asked, behind, none)?;
         Ok(follower)
     }
@@ -268,6 +287,7 @@ impl Follower {
     /// come later. They stand in the order in which they came. The first of them also says by which
     /// arguments they are kept, and has `beside`: further members, as JSON, with a comma before each.
     ///
+    /// Where no line is kept, the text is empty, and says nothing of how many were read.
     /// The text is read back before it is given. The inner error is that the text, read back, does
     /// not say what is kept. The outer error says that memory was refused.
     pub fn kept(&self, beside: &str) -> Result<Result<String, KeptRefused>, AllocError>
@@ -320,6 +340,14 @@ impl Follower {
             Some(refused) => Ok(Err(refused)),
             None => Ok(Ok(text)),
         }
+    }
+
+    /// How many lines have been read in all, with those behind which it began.
+    pub(crate) fn read_count(&self) -> u64
+        ensures { (start : Start) → (read : List (Result SaidLine Why)) → (told : List Found)
+            → AreTaken start self.now.taking read told → result ≡ length read + start.kept.more }
+    {
+        self.taking.line_count()
     }
 
     /// How many lines had been taken when the audit settled last, with those that it was restored

@@ -25,7 +25,7 @@ use std::fmt::Write;
 const LINE: &str = "kept_line";
 
 /// The member that has how many lines had been read.
-const READ: &str = "kept_lines";
+pub(crate) const READ: &str = "kept_lines";
 
 /// The member that has the moment up to which all was told; it is left out in lines that came since.
 const SETTLED: &str = "kept_settled";

@@ -5,7 +5,8 @@ ghost use Rattle.std.specs.Prelude.{◌≡◌, IfErr, IfOk, Some, string_bytes};
 ghost use Rattle.fdb_audit.specs.KeptFile.{file_line};
 ghost use Rattle.fdb_audit.specs.private.Kept.{MayFail, MayStop};
 
-use crate::arguments::{AuditArguments, MADE_BY, first_text};
+use crate::arguments::{AuditArguments, MADE_BY, made_by};
+use crate::first_line::{first_text, none_kept};
 use crate::follower::Follower;
 use crate::pace::{Pace, SECOND};
 use crate::printer::LogFault;
@@ -45,6 +46,8 @@ pub(crate) struct Keeper {
     _lock: File,
     /// The name of the new file.
     new_file: String,
+    /// By which arguments lines are kept.
+    made_by: String,
     /// The last line of the log, if something that it has is to be kept.
     last: Option<LastLine>,
     /// How many lines had been taken of what it has.
@@ -60,6 +63,7 @@ impl Keeper {
         rt: &R,
         alloc: Global,
         asked: &AuditArguments,
+        behind: u64,
         file: &str,
     ) -> Result<Self, Stop>
         ensures { IfErr result (MayFail (Some file.now)) }
@@ -73,6 +77,7 @@ impl Keeper {
             alloc,
             _lock: lock,
             new_file: beside(alloc, file, NEW)?,
+            made_by: made_by(alloc, asked, behind)?,
             last,
             taken: 0,
             settled: 0,
@@ -114,8 +119,27 @@ impl Keeper {
         self.taken = u64::MAX;
     }
 
-    /// Writes the file, whole or not at all.
-    pub(crate) fn write<R: Files>(&self, rt: &R, file: &str, text: &str) -> Result<(), Stop>
+    /// Writes the file, whole or not at all: by the text that keeps lines, or where it keeps none of
+    /// those that were read, by how many these are, with further members as the first line has them.
+    pub(crate) fn write<R: Files>(
+        &self,
+        rt: &R,
+        file: &str,
+        kept: &str,
+        read: u64,
+        beside: &str,
+    ) -> Result<(), Stop>
+        ensures { IfErr result (MayFail (Some file.now)) }
+    {
+        if !kept.is_empty() || read == 0 {
+            return self.write_text(rt, file, kept);
+        }
+        let text = none_kept(self.alloc, read, &self.made_by, beside)?;
+        self.write_text(rt, file, &text)
+    }
+
+    /// Writes a text as the file, whole or not at all.
+    fn write_text<R: Files>(&self, rt: &R, file: &str, text: &str) -> Result<(), Stop>
         ensures { IfErr result (MayFail (Some file.now)) }
     {
         match self.replace(rt, file, text) {
@@ -311,11 +335,7 @@ impl LastLine {
 }
 
 /// The JSON text that a line has in a member, if it has that and is not refused.
-pub(crate) fn member_texts(
-    alloc: Global,
-    member: &str,
-    line: &[u8],
-) -> Result<Option<String>, AllocError> {
+fn member_texts(alloc: Global, member: &str, line: &[u8]) -> Result<Option<String>, AllocError> {
     let mut members = Vec::new(alloc);
     members.push(String::from_str(alloc, member)?)?;
     let mut reader = LineReader::new(alloc, None, &members)?;

@@ -9,6 +9,7 @@ mod arguments;
 mod audit_program;
 mod clocks;
 mod figures;
+mod first_line;
 mod followed_log;
 mod follower;
 mod groups;

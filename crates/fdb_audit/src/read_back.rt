@@ -115,8 +115,9 @@ fn says_kept(
         .iter()
         .filter(|place| **place < taking.settled)
         .count();
-    let more = taking.line_count().saturating_sub(places.len() as u64);
-    let at = settled_if(come > 0, taking.watch.settled_to());
+    let beside = taking.line_count().saturating_sub(places.len() as u64);
+    let more = number_if(places.len() > 0, beside);
+    let at = number_if(come > 0, taking.watch.settled_to());
     let are_many = many_if(places.len() > 0, taking.clocks.are_many());
     Ok(says(said, &lines, come, more, at, are_many))
 }
@@ -199,9 +200,9 @@ fn many_if(is_said: bool, are_many: bool) -> bool
     is_said && are_many
 }
 
-/// Up to when all was told, if that is said.
-fn settled_if(is_said: bool, at: u64) -> u64
-    ensures { result ≡ (if is_said then at else 0) }
+/// A number, if it is said: up to when all was told, or how many more lines were read.
+fn number_if(is_said: bool, number: u64) -> u64
+    ensures { result ≡ (if is_said then number else 0) }
 {
-    if is_said { at } else { 0 }
+    if is_said { number } else { 0 }
 }

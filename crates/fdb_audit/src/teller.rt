@@ -67,6 +67,8 @@ pub struct Stopped {
     /// The text that [`Follower::restore`] goes on from. The error is that this text, read back,
     /// does not say what is kept.
     pub kept: Result<String, KeptRefused>,
+    /// How many lines were read in all.
+    pub read: u64,
 }
 
 /// What is told of a log that is followed, and what it takes to print it.

@@ -94,7 +94,7 @@ class Watch(Handle):
         It tells of the lines that come, which are those behind the first `kept_lines` lines of the
         log, what the watch that kept them would have told. But for `totals` and `json` the
         arguments are those of that one, which had no `--position`. A text without a line is a new
-        watch. `LogRefused` is raised of the first line of `kept` that is not as it was kept, as
+        watch; a file that keeps no line is refused, as NO_CALL. `LogRefused` is raised of the first line of `kept` that is not as it was kept, as
         NOT_KEPT, which of line 1 may also say that it was kept by other arguments, or, as of a
         line that was cut off, NOT_JSON. Else it is refused as `Watch` is.
         """

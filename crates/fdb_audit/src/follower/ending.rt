@@ -2,7 +2,7 @@
 //! goes on from what it keeps, where that has become large.
 
 ghost use Rattle.std.specs.Prelude.{◌≡◌, ◌++◌, ℕ, Bool, IfOk, List, OnOk, Result, false};
-ghost use Rattle.std.specs.Prelude.{string_bytes, true};
+ghost use Rattle.std.specs.Prelude.{string_bytes, true, ◌+◌, length};
 ghost use Rattle.std.specs.Option.{option_or};
 ghost use Rattle.fdb_log_reader.specs.LineReader.{line_names};
 ghost use Rattle.fdb_log_reader.specs.ReadLine.{SaidLine};
@@ -53,6 +53,8 @@ impl Follower {
 
     /// What is left to be said, where the log is to be followed on later: what has become certain, and
     /// the totals. What is open is kept, and not told, by a text as [`kept`](Follower::kept) gives it.
+    /// It also says how many lines have been read in all, for [`behind`](Follower::behind), where
+    /// none is kept.
     pub fn stop(mut self, beside: &str) -> Result<Stopped, AllocError>
         ensures told { IfOk result (λ it. (asked : AuditArguments) → (start : Start)
             → (bytes told : List ℕ) → HasFollowed asked start self bytes told
@@ -71,15 +73,23 @@ impl Follower {
             → (start : Start) → (bytes told : List ℕ) → HasFollowed asked start self bytes told
             → IsStopped asked start bytes (told ++ string_bytes it.followed.said.text)
             it.followed.found it.followed.last_early (string_bytes text))) }
+        ensures read { IfOk result (λ it. (asked : AuditArguments) → (start : Start)
+            → (bytes told : List ℕ) → HasFollowed asked start self bytes told
+            → it.read ≡ length (lines_asked asked bytes) + start.kept.more) }
     {
         self.take_last()?;
         let refused = self.taking.left_out(&self.before);
         self.settle()?;
         let kept = self.read_back(beside)?;
+        let read = self.read_count();
         laws::all_is_told_up_to_where_it_settled();
         keys_stay_in_one_member();
         let followed = self.conclude(refused)?;
-        Ok(Stopped { followed, kept })
+        Ok(Stopped {
+            followed,
+            kept,
+            read,
+        })
     }
 
     /// Takes the line that has not ended, if there is one.
@@ -188,9 +198,9 @@ impl Follower {
 
     /// Goes on as an audit that is restored from what this one keeps, but for what it has of keys that
     /// are to be forgotten, with what this one has counted: of names it then has those of the lines
-    /// that it keeps, and no others. Nothing changes where the
-    /// text that keeps them is refused, or does not say up to when all is told. Answers whether it has
-    /// gone on. An error says that memory was refused.
+    /// that it keeps, and no others. Nothing changes where none is kept, or the text that keeps them
+    /// is refused, or does not say up to when all is told. Answers whether it has gone on. An error
+    /// says that memory was refused.
     pub(crate) fn go_on(&mut self, asked: &AuditArguments) -> Result<bool, AllocError>
         requires quiet { IsQuiet self.old }
         ensures gone_on { IfOk result (λ goes_on. goes_on ≡ true → (other : AuditArguments)
@@ -202,6 +212,9 @@ impl Follower {
         a_space_more_is_of_one_line();
         keys_stay_in_one_member();
         let kept = kept_in_order(self.alloc, &self.taking, asked.forget)?;
+        if kept.is_empty() {
+            return Ok(false);
+        }
         let Ok(text) = self.read_back_of(&kept, "")? else {
             return Ok(false);
         };

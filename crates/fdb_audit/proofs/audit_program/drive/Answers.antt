@@ -26,7 +26,7 @@ part_refused follow asked bytes text found None is = tt
 part_refused None asked bytes text found (Some error) is = absurd (not_both error is.1)
 part_refused (Some behind) asked bytes text found (Some (Log error)) printed = (text, found, printed)
 part_refused (Some behind) asked bytes text found (Some (Early number)) printed = (text, found, printed)
-part_refused (Some behind) asked bytes text found (Some (Kept error)) (kept, for, left, last, printed, is) = absurd (not_kept left last error is)
+part_refused (Some behind) asked bytes text found (Some (Kept error)) (kept, more, for, left, last, printed, is) = absurd (not_kept left last error is)
 
 refused_so : (arguments : List Text) (asked : AuditArguments) (bytes : List ℕ) (refused : Option LogsRefused) → AskFor arguments asked
     → IfSome refused (RefusesBy asked.follow asked bytes) → IfSome refused (audit.refuses arguments bytes)

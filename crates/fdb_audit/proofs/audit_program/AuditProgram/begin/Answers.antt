@@ -8,8 +8,8 @@ use Rattle.fdb_audit.proofs.audit_program.AuditProgram.begin.Goals as goal
 
 pub returns-in_ok-log-in-Some-clause-taken : goal.returns-in_ok-log-in-Some-clause-taken
 returns-in_ok-log-in-Some-clause-taken g c =
-    let (kept, for, has) = c.in_ok-log-in-Some.ensures.begun in
-    (c.in-Some.behind, c.in-Some.is, kept, for, subst (λ bytes. HasPrinted c.args.asked.now (started c.args.asked.now c.in-Some.behind kept) c.in_ok-log-in-Some.log bytes []) (sym (append-nil kept)) has)
+    let (kept, more, for, has) = c.in_ok-log-in-Some.ensures.begun in
+    (c.in-Some.behind, c.in-Some.is, kept, more, for, subst (λ bytes. HasPrinted c.args.asked.now (started c.args.asked.now c.in-Some.behind more kept) c.in_ok-log-in-Some.log bytes []) (sym (append-nil kept)) has)
 
 pub returns-in_err-log-in-Some-clause-stops : goal.returns-in_err-log-in-Some-clause-stops
 returns-in_err-log-in-Some-clause-stops g c =

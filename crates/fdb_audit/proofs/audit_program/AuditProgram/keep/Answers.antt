@@ -14,18 +14,19 @@ use Rattle.fdb_audit.proofs.audit_program.AuditProgram.keep.Goals as goal
 pub returns-in_ok-next-in-Followed-clause-taken : goal.returns-in_ok-next-in-Followed-clause-taken
 returns-in_ok-next-in-Followed-clause-taken g c = λ before told has.
     let asked = c.args.asked.now in
-    let (behind, follows, kept, for, is) = subst (λ (it : AuditIntake). HasTaken asked it before told) c.in-Followed.is has in
+    let (behind, follows, kept, more, for, is) = subst (λ (it : AuditIntake). HasTaken asked it before told) c.in-Followed.is has in
     let (objects, asks, times, pieces) = is in
     let same = c.in_ok-next-in-Followed.ensures.same in (
       behind,
       follows,
       kept,
+      more,
       for,
       (
         ap (λ (reporter : Reporter). reporter.objects) same.1 ∙ objects,
         subst (AskForTheSame asked) (sym same.2) asks,
         times,
-        subst (λ (follower : Follower). ArePieces asked (PrintedSoFar asked follower) times (started asked behind kept) (kept ++ before) told) (sym same.0) pieces,
+        subst (λ (follower : Follower). ArePieces asked (PrintedSoFar asked follower) times (started asked behind more kept) (kept ++ before) told) (sym same.0) pieces,
       ),
     )
 

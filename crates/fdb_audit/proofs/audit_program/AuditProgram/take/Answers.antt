@@ -21,12 +21,13 @@ returns-in-Err-clause-stops c = λ arguments options before told after is has.
 
 pub returns-in_ok-feed-in-Followed-clause-taken : goal.returns-in_ok-feed-in-Followed-clause-taken
 returns-in_ok-feed-in-Followed-clause-taken c = λ options before told has.
-    let (behind, follows, kept, for, is) = subst (λ (it : AuditIntake). HasTaken options it before told) c.in-Followed.is has in
+    let (behind, follows, kept, more, for, is) = subst (λ (it : AuditIntake). HasTaken options it before told) c.in-Followed.is has in
     let bytes = c.args.bytes.now in (
       behind,
       follows,
       kept,
+      more,
       for,
-      subst (λ text. HasPrinted options (started options behind kept) c.feed-in-Followed.new.self text told) (append_assoc kept before bytes)
-          (c.in_ok-feed-in-Followed.ensures options (started options behind kept) (kept ++ before) told is),
+      subst (λ text. HasPrinted options (started options behind more kept) c.feed-in-Followed.new.self text told) (append_assoc kept before bytes)
+          (c.in_ok-feed-in-Followed.ensures options (started options behind more kept) (kept ++ before) told is),
     )

@@ -1,5 +1,8 @@
-use Rattle.std.proofs.Common.{◌≡◌, ◌∙◌, ◌++◌, [], ℕ, IfOk, List, Option, Result, ap, arith, map, string_bytes, subst, sym}
+use Rattle.std.proofs.Common.{◌≡◌, ◌==◌, ◌∙◌, ◌++◌, ◌<◌, [], ℕ, false, IfOk, List, Option, Result, ap, arith, length, map, string_bytes, subst, sym}
 use Rattle.std.specs.List.{All}
+use Rattle.std.proofs.lemmas.Bool.Decides.{nat_tests}
+use Rattle.std.proofs.lemmas.List.{length-map}
+use Rattle.std.proofs.lemmas.List.Sorted.{length_permutation}
 use Rattle.fdb_lines.specs.declared.fault.Found.{Found}
 use Rattle.fdb_lines.specs.declared.key_part.KeptLine.{KeptLine}
 use Rattle.fdb_lines.specs.KeyWatch.{IsKept}
@@ -17,6 +20,9 @@ use Rattle.fdb_audit.specs.Watched.{HasFollowed}
 use Rattle.fdb_audit.proofs.Forgotten.{may_forget}
 use Rattle.fdb_audit.proofs.GoingOn.{ends_there, gone_on_by, kept_so}
 use Rattle.fdb_audit.proofs.follower.Follower.go_on.Goals as goal
+
+some_of : (n m : ℕ) → (n == 0) ≡ false → n ≡ m → 0 < m
+some_of n m some same = grind (arith, nat_tests)
 
 pub returns-clause-gone_on : goal.returns-clause-gone_on
 returns-clause-gone_on c = λ _ asked start bytes told same has.
@@ -44,9 +50,15 @@ returns-clause-gone_on c = λ _ asked start bytes told same has.
     subst (λ it. IfOk it (λ follower. follower.taking.watch.from ≡ (start_of given old.behind c.as_bytes.result.now).from)) c.in-Ok-next.is c.in_ok-next.ensures.settled
     ∙ ap (λ text. (start_of given old.behind text).from) c.as_bytes.ensures.value in
     let still : next.taking.watch.from ≡ old.taking.watch.from = (let one = c.settled_to.ensures in let two = c.settled_to-2.ensures in let same = c.if-settled_to.false in omega (arith, one, two, same)) in
+    let some : 0 < length (places_staying stays has.read old.taking) =
+    (let some = some_of _ (length lines) (sym c.is_empty.ensures ∙ c.if-is_empty.false) c.in_ok-kept.kept.ok.0 in
+    let many = length_permutation (places_staying stays has.read old.taking) (map number_of lines) same_places in
+    let size = length-map lines number_of in
+    omega (arith, some, many, size)) in
     gone_on_by asked given same start old next c.give_way.new.self bytes told kept has quiet
     stays c.in_ok-times.times c.in_ok-times.ensures
     (may_forget old.taking.times given.forget start has.read old.taking.clocks.believed
     (subst (λ (forget : Option ℕ). KnowsTimes forget start old.taking.times has.read) (sym same.forget) has.telling.times) has.telling.taken.reach.believed)
     (kept_so asked start old bytes told kept has c.keys_stay_in_one_member.ensures (places_staying stays has.read old.taking) (map number_of lines) same_places says)
     (ends_there asked start old bytes told has (c.a_space_more_is_of_one_line.ensures old.reader) quiet) restored moment still c.give_way.ensures
+    some

@@ -53,6 +53,13 @@ returns-clause-kept c =
           (says start read (start.told ++ told_in_all read is.windows) is.taken));
     }) c.in_ok-kept.ensures
 
+pub returns-clause-read : goal.returns-clause-read
+returns-clause-read c = λ asked start bytes told has.
+    let read = lines_asked asked bytes in
+    let was = c.in_ok-take_last.ensures.told asked start bytes told has in
+    let is = c.in_ok-settle.ensures.told asked start read told was in
+    c.read_count-read.ensures start read (start.told ++ told_in_all read is.windows) is.taken
+
 pub returns-clause-said : goal.returns-clause-said
 returns-clause-said c = λ asked start bytes told warned has says.
     let read = lines_asked asked bytes in

@@ -39,9 +39,9 @@ followed_printed : (arguments : List Text) (asked : AuditArguments) (log : Follo
     × (it.refused ≡ refusal_of error last_early))
     → IfErr made (MayFail (option_map string_bytes asked.keep))
     → MatchResult made (λ answer. PrintsBy asked.follow asked bytes (told ++ answer.text.items) answer.found answer.refused × (asked.follow ≡ None → answer.warnings.items ≡ [])) (Stops audit arguments bytes)
-followed_printed arguments asked log bytes told (Ok answer) is (behind, follows, kept, for, has) says stops =
-    let (left, last, printed, why) = says (started asked behind kept) (kept ++ bytes) told has in (
-      subst (λ follow. PrintsBy follow asked bytes (told ++ answer.text.items) answer.found answer.refused) (sym follows) (kept, for, left, last, printed, why),
+followed_printed arguments asked log bytes told (Ok answer) is (behind, follows, kept, more, for, has) says stops =
+    let (left, last, printed, why) = says (started asked behind more kept) (kept ++ bytes) told has in (
+      subst (λ follow. PrintsBy follow asked bytes (told ++ answer.text.items) answer.found answer.refused) (sym follows) (kept, more, for, left, last, printed, why),
       λ none. absurd (false≢true (sym (ap is_some none) ∙ ap is_some follows)),
     )
 followed_printed arguments asked log bytes told (Err fault) is has says stops = stops_failing arguments asked bytes fault is stops
