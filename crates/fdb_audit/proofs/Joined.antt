@@ -23,7 +23,7 @@ use Rattle.fdb_log_reader.specs.Named.{HaveOneNumber, Named, StandOnce, key_name
 use Rattle.fdb_log_reader.specs.ReadLine.{LineNames, MemberNames}
 use Rattle.fdb_log_reader.specs.Reading.{Reading, reading_with}
 use Rattle.fdb_audit.specs.declared.printer.LogFault.{LogFault}
-use Rattle.fdb_audit.specs.Joined.{ArePartsOf, IsPartOf, WasReadByKey, faults_by_number, key_names, named_line, names_read, places_of_part}
+use Rattle.fdb_audit.specs.Joined.{ArePartsOf, IsPartIfAny, IsPartOf, WasReadByKey, faults_by_number, faults_of_part, key_names, named_line, names_read, places_of_part}
 use Rattle.fdb_audit.specs.Judged.{keys_of_lines, own_numbers}
 use Rattle.fdb_audit.specs.Text.{fault_of, printed_line}
 use Rattle.fdb_audit.proofs.SameBut.{DifferInNumbers, apart, client_as, key_as, keys_apart, naming_of}
@@ -229,6 +229,16 @@ Knows = (member : List ℕ) (shown : List (List ℕ)) (number : Option (List ℕ
 known : Knows → (reading : Reading) → WasReadByKey reading → (keys : KeyColumn) × IsReadByKey reading keys × (0 < length reading.log.lines)
 known knows reading (member, shown, number, bytes, is) = knows member shown number bytes reading is
 
+-- a part, or none where no line is of it
+one_if_any : DifferInNumbers → Renumbers → Knows → (opts : AuditOpts) (whole : Reading) (keys : KeyColumn) (test : ℕ → Bool) → IsReadByKey whole keys → (part : Option Reading)
+    → IfSome part WasReadByKey → let places = places_where test (length whole.log.lines) in IsPartIfAny whole part places
+    → faults_of_part opts part ≡ map (fault_of (own_numbers whole.numbers)) (faults_apart whole.log keys.numbers opts places)
+one_if_any differ renumbers knows opts whole keys test of_whole None read is =
+    ap (λ (places : List ℕ). map (fault_of (own_numbers whole.numbers)) (faults_apart whole.log keys.numbers opts places)) (sym is)
+one_if_any differ renumbers knows opts whole keys test of_whole (Some part) read is =
+    let (part_keys, of_part, some) = known knows part read in
+    one_part differ renumbers opts whole part keys part_keys test of_whole of_part some is
+
 -- of which part a key is, by its number; those that no line has are of the first
 abbrev rule_of : (Option (List ℕ) → ℕ) → KeyColumn → ℕ → Option ℕ → ℕ
 rule_of rule keys parts key = let part = rule (option_and_then (slice_get keys.keys) key) in cond (nat_lt part parts) part 0
@@ -240,8 +250,8 @@ in_parts rule keys parts some key = by (rule (option_and_then (slice_get keys.ke
     by part true is = ltb-true part parts is
     by part false is = some
 
-pub joined : DifferInNumbers → Renumbers → Divides → Knows → (opts : AuditOpts) (rule : Option (List ℕ) → ℕ) (whole : Reading) (parts : List Reading) → WasReadByKey whole
-    → All WasReadByKey parts → ArePartsOf rule whole parts → IsPermutation (flat_map (faults_by_number opts) parts) (faults_by_number opts whole)
+pub joined : DifferInNumbers → Renumbers → Divides → Knows → (opts : AuditOpts) (rule : Option (List ℕ) → ℕ) (whole : Reading) (parts : List (Option Reading)) → WasReadByKey whole
+    → All (λ (part : Option Reading). IfSome part WasReadByKey) parts → ArePartsOf rule whole parts → IsPermutation (flat_map (faults_of_part opts) parts) (faults_by_number opts whole)
 joined differ renumbers divides knows opts rule whole parts read all_read are =
     let (keys, of_whole, some) = known knows whole read in
     let count = length parts in
@@ -258,22 +268,21 @@ joined differ renumbers divides knows opts rule whole parts read all_read are =
     let same_places : (part : ℕ) → places_of_part rule whole part ≡ places_in numbers keys.numbers part = λ part.
     places_alike _ (λ k. numbers (key_at keys.numbers k) == part) (length whole.log.lines) (λ k lt. ap (λ (n : ℕ). n == part) (same_rule k lt))
     ∙ ap (places_where (λ k. numbers (key_at keys.numbers k) == part)) (sym of_whole.cells) in
-    let up_to : (n : ℕ) → n < suc count → flat_map (faults_by_number opts) (take n parts) ≡ tell (faults_by_part whole.log keys.numbers opts numbers n) = induct keys of_whole numbers same_places in
-    subst (λ (found : List LogFault). IsPermutation found (faults_by_number opts whole)) (sym (up_to count (omega arith)) ∙ ap (flat_map (faults_by_number opts)) (take_all parts))
+    let up_to : (n : ℕ) → n < suc count → flat_map (faults_of_part opts) (take n parts) ≡ tell (faults_by_part whole.log keys.numbers opts numbers n) = induct keys of_whole numbers same_places in
+    subst (λ (found : List LogFault). IsPermutation found (faults_by_number opts whole)) (sym (up_to count (omega arith)) ∙ ap (flat_map (faults_of_part opts)) (take_all parts))
     (subst (IsPermutation (tell (faults_by_part whole.log keys.numbers opts numbers count))) (sym (ap tell (faults_read opts whole keys of_whole)))
     (IsPermutation-map (fault_of (own_numbers whole.numbers)) _ _ (divides whole.log keys.numbers opts numbers count of_whole.cells (in_parts rule keys count some_parts))))
   where
     induct : (keys : KeyColumn) → IsReadByKey whole keys → (numbers : Option ℕ → ℕ) → ((part : ℕ) → places_of_part rule whole part ≡ places_in numbers keys.numbers part)
         → (n : ℕ) → n < suc (length parts)
-        → flat_map (faults_by_number opts) (take n parts) ≡ map (fault_of (own_numbers whole.numbers)) (faults_by_part whole.log keys.numbers opts numbers n)
+        → flat_map (faults_of_part opts) (take n parts) ≡ map (fault_of (own_numbers whole.numbers)) (faults_by_part whole.log keys.numbers opts numbers n)
     induct keys of_whole numbers same_places zero le = refl
     induct keys of_whole numbers same_places (suc n) le =
         let inside : n < length parts = omega (arith, le) in
-        let part = slice_index_or parts n whole in
-        let (part_keys, of_part, some) = known knows part (all_read n whole inside) in
-        flat_take (faults_by_number opts) parts n whole inside
-        ∙ (ap (λ (before : List LogFault). before ++ faults_by_number opts part) (induct keys of_whole numbers same_places n (omega (arith, le)))
+        let part = slice_index_or parts n None in
+        flat_take (faults_of_part opts) parts n None inside
+        ∙ (ap (λ (before : List LogFault). before ++ faults_of_part opts part) (induct keys of_whole numbers same_places n (omega (arith, le)))
         ∙ (ap (λ (its : List LogFault). map (fault_of (own_numbers whole.numbers)) (faults_by_part whole.log keys.numbers opts numbers n) ++ its)
-        (one_part differ renumbers opts whole part keys part_keys (λ k. rule (named_line whole k).key == n) of_whole of_part some (are.each n whole inside)
+        (one_if_any differ renumbers knows opts whole keys (λ k. rule (named_line whole k).key == n) of_whole part (all_read n None inside) (are.each n inside)
         ∙ ap (λ (places : List ℕ). map (fault_of (own_numbers whole.numbers)) (faults_apart whole.log keys.numbers opts places)) (same_places n))
         ∙ sym (map-append (fault_of (own_numbers whole.numbers)) (faults_by_part whole.log keys.numbers opts numbers n) (faults_apart whole.log keys.numbers opts (places_in numbers keys.numbers n)))))

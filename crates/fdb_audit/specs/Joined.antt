@@ -1,5 +1,5 @@
 -- A log whose parts are audited by themselves. (this product's own)
-use Rattle.std.specs.Prelude.{◌≡◌, ℕ, ◌<◌, ◌==◌, List, Option, None, Some, Ok, length, map, option_and_then, slice_index, slice_index_or}
+use Rattle.std.specs.Prelude.{◌≡◌, ℕ, ◌<◌, ◌==◌, List, [], Option, None, Some, Ok, length, map, option_and_then, slice_index, slice_index_or}
 use Rattle.fdb_lines.specs.declared.log.AuditOpts.{AuditOpts}
 use Rattle.fdb_lines.specs.Carried.{places_where}
 use Rattle.fdb_lines.specs.Judged.{faults_in}
@@ -21,6 +21,11 @@ WasReadByKey reading =
 -- what an audit by key finds, each fault by its line
 abbrev pub faults_by_number : AuditOpts → Reading → List LogFault
 faults_by_number opts reading = map (fault_of (own_numbers reading.numbers)) (faults_in reading.log (keys_of_lines reading.keys) opts)
+
+-- and in a part of a log, if it has a line
+abbrev pub faults_of_part : AuditOpts → Option Reading → List LogFault
+faults_of_part opts None = []
+faults_of_part opts (Some part) = faults_by_number opts part
 
 -- the names of clients and keys
 abbrev pub key_names : Option KeyColumn → Option MemberNames
@@ -44,7 +49,12 @@ pub record IsPartOf (whole part : Reading) (places : List ℕ) : Type 0 where
 abbrev pub places_of_part : (Option (List ℕ) → ℕ) → Reading → ℕ → List ℕ
 places_of_part rule whole part = places_where (λ k. rule (named_line whole k).key == part) (length whole.log.lines)
 
--- A log is divided into parts by the keys of its lines.
-pub record ArePartsOf (rule : Option (List ℕ) → ℕ) (whole : Reading) (parts : List Reading) : Type 0 where
+-- Of a part without a line there is nothing to read.
+abbrev pub IsPartIfAny : Reading → Option Reading → List ℕ → Type 0
+IsPartIfAny whole None places = places ≡ []
+IsPartIfAny whole (Some part) places = IsPartOf whole part places
+
+-- A log is divided into parts by the keys of its lines: each part at its number, or none where it has no line.
+pub record ArePartsOf (rule : Option (List ℕ) → ℕ) (whole : Reading) (parts : List (Option Reading)) : Type 0 where
   pub all : (k : ℕ) → k < length whole.log.lines → rule (named_line whole k).key < length parts
-  pub each : (i : ℕ) (d : Reading) → i < length parts → IsPartOf whole (slice_index_or parts i d) (places_of_part rule whole i)
+  pub each : (i : ℕ) → i < length parts → IsPartIfAny whole (slice_index_or parts i None) (places_of_part rule whole i)

@@ -10,7 +10,8 @@ ghost use Rattle.fdb_log_reader.specs.declared.error.Why.{Why};
 ghost use Rattle.fdb_lines.specs.KeyWatch.{IsKept};
 ghost use Rattle.fdb_lines.specs.declared.fault.Found.{Found};
 ghost use Rattle.fdb_audit.specs.Following.{Start, fresh, keys_taken, left_out, lines_taken};
-ghost use Rattle.fdb_audit.specs.Following.{none_before, start_behind, start_with};
+ghost use Rattle.fdb_audit.specs.Following.{lines_since, none_before, start_behind, start_with};
+ghost use Rattle.fdb_audit.specs.Following.{sum_of};
 ghost use Rattle.fdb_audit.specs.Kept.{KeepsLines, KeptSaid, start_from, start_of, Keeps};
 ghost use Rattle.fdb_audit.specs.private.KeptTexts.{number_of};
 ghost use Rattle.fdb_audit.specs.Taken.{AreTaken};
@@ -198,7 +199,11 @@ impl Follower {
     }
 
     /// How many lines this audit has taken, without those that it was restored with.
-    pub fn line_count(&self) -> u64 {
+    pub fn line_count(&self) -> u64
+        ensures { (asked : AuditArguments) → (start : Start) → (bytes told : List ℕ)
+            → (has : HasFollowed asked start self.now bytes told)
+            → result ≡ sum_of start.before.counts.lines (length (lines_since start has.read)) }
+    {
         let before = self.before.counts.lines;
         before.saturating_add(self.taking.counts.lines)
     }
@@ -352,7 +357,9 @@ impl Follower {
 
     /// How many lines had been taken when the audit settled last, with those that it was restored
     /// with.
-    pub fn settled_count(&self) -> u64 {
+    pub fn settled_count(&self) -> u64
+        ensures { result ≡ self.now.taking.settled }
+    {
         self.taking.settled
     }
 

@@ -1,7 +1,7 @@
 //! Laws of the definitions. The functions do nothing: each stands for its contract.
 
-ghost use Rattle.std.specs.Prelude.{ℕ, ◌≡◌, ◌++◌, All, Bool, IsPermutation, List, None, Option, Result};
-ghost use Rattle.std.specs.Prelude.{◌≤◌, false, IfSome, map};
+ghost use Rattle.std.specs.Prelude.{ℕ, ◌≡◌, ◌++◌, All, Bool, IsPermutation, List, None, Option};
+ghost use Rattle.std.specs.Prelude.{◌≤◌, false, IfSome, map, Result};
 ghost use Rattle.std.specs.Prelude.{option_map, string_bytes, true};
 ghost use Rattle.std.specs.List.{flat_map, AllPairs, Contains};
 ghost use Rattle.fdb_lines.specs.declared.fault.Found.{Found};
@@ -24,7 +24,8 @@ ghost use Rattle.fdb_log_reader.specs.declared.error.Why.{Why};
 ghost use Rattle.fdb_log_reader.specs.ReadLine.{SaidLine};
 ghost use Rattle.fdb_log_reader.specs.Reading.{Reading};
 ghost use Rattle.fdb_audit.specs.AllPieces.{told_of_pieces, AreInTime, HaveRoom, Pieces};
-ghost use Rattle.fdb_audit.specs.Joined.{faults_by_number, ArePartsOf, WasReadByKey};
+ghost use Rattle.fdb_audit.specs.Joined.{faults_by_number, faults_of_part, ArePartsOf};
+ghost use Rattle.fdb_audit.specs.Joined.{WasReadByKey};
 ghost use Rattle.fdb_audit.specs.Kept.{start_of, IsStopped, Keeps};
 ghost use Rattle.fdb_audit.specs.Pieces.{all_bytes, audited_in, places_beyond, AreWatched};
 ghost use Rattle.fdb_audit.specs.Pieces.{MayGoOn, Piece};
@@ -177,12 +178,13 @@ pub fn a_lateness_within_the_bound_is_exact()
 {}
 
 /// A log that is divided into parts by its keys, each read and audited as a log of its own, has the
-/// faults of its parts, each by its line, by the own numbers of lines, once, and no others.
+/// faults of its parts, each by its line, by the own numbers of lines, once, and no others. A part
+/// without a line is not read, and no fault is in it.
 pub fn the_faults_of_parts_by_number_are_those_of_the_log()
     ensures { (opts : AuditOpts) (rule : Option (List ℕ) → ℕ) (whole : Reading)
-        (parts : List Reading) → WasReadByKey whole → All WasReadByKey parts
-        → ArePartsOf rule whole parts
-        → IsPermutation (flat_map (faults_by_number opts) parts) (faults_by_number opts whole) }
+        (parts : List (Option Reading)) → WasReadByKey whole
+        → All (λ part. IfSome part WasReadByKey) parts → ArePartsOf rule whole parts
+        → IsPermutation (flat_map (faults_of_part opts) parts) (faults_by_number opts whole) }
 {
     logs_that_say_the_same_differ_in_numbers_alone();
     the_faults_of_its_parts_are_those_of_a_log();

@@ -1,7 +1,7 @@
 //! The queue by its handle, and a window whose requests go to a slice.
 
 ghost use Rattle.std.specs.Prelude.{◌≡◌, ◌+◌, ◌<◌, ◌≤◌, ◌⊎◌, ◌↔◌, ◌++◌, length, drop, None, Some};
-ghost use Rattle.std.specs.Prelude.{IsNone, IsSome, IfSome, Err, OnErr, IfOk, IfErr, map};
+ghost use Rattle.std.specs.Prelude.{IsNone, IsSome, IfSome, Err, OnErr, IfOk, IfErr, map, min};
 ghost use Rattle.fdb_queue.specs.Config.{IsConfig};
 ghost use Rattle.fdb_queue.specs.Queue.{new_queue};
 ghost use Rattle.fdb_queue.specs.Waiting.{row};
@@ -122,7 +122,8 @@ fn window_told(
     ensures done { IfOk result (λ given. IsDone given.status) }
     ensures not_done { IfErr result (λ status. ¬ IsDone status) }
     ensures unchanged { OnErr result ((queue.new ≡ queue.old) × (started.new ≡ started.old)) }
-    ensures room { (result ≡ Err FDB_ROOM) → length started.old < length (row queue.old.waiting) }
+    ensures room { (result ≡ Err FDB_ROOM)
+        ↔ (length started.old < min (length (row queue.old.waiting)) MAX_STARTED) }
     ensures due { (result ≡ Err FDB_MEMORY)
         → 0 < length (started_by queue.old (Some (Op.Window elapsed))) }
 {
@@ -152,8 +153,8 @@ pub extern "C" fn fdb_queue_window(
     ensures status { IsDone result → result ≡ outcome.new.status }
     ensures not_done { ¬ IsDone result → (queue.new.queue ≡ queue.old.queue)
         × (outcome.new ≡ outcome.old) × (started.new ≡ started.old) }
-    ensures room { (result ≡ FDB_ROOM) → IfSome queue.old.queue
-        (λ before. length started.old < length (row before.waiting)) }
+    ensures room { IfSome queue.old.queue (λ before. (result ≡ FDB_ROOM)
+        ↔ (length started.old < min (length (row before.waiting)) MAX_STARTED)) }
     ensures due { (result ≡ FDB_MEMORY) → IfSome queue.old.queue
         (λ before. 0 < length (started_by before (Some (Op.Window elapsed)))) }
     ensures held { IsSome queue.new.queue }
@@ -182,9 +183,7 @@ pub extern "C" fn fdb_queue_free(alloc: Global, queue: &mut FdbQueue)
 #[tactic(auto, using(crate::proofs::Windows::no_longer))]
 pub(crate) fn room_for(queue: &GrvQueue<u64>) -> usize
     ensures enough { length (window queue.now) ≤ result }
-    ensures no_more { result ≤ length queue.now.waiting.system
-        + length queue.now.waiting.default_ + length queue.now.waiting.batch }
-    ensures may_start { result ≤ MAX_STARTED }
+    ensures room { result ≡ min (length (row queue.now.waiting)) MAX_STARTED }
 {
     laws::windows_pass_over_nobody::<u64>();
     let lengths = queue.lengths();

@@ -1,6 +1,6 @@
 //! Lines that are read one by one, each by itself, however long the text gets.
 
-ghost use Rattle.std.specs.Prelude.{◌≡◌, ◌++◌, ◌∷◌, ◌≤◌, ℕ, List, [], All, IfOk, IfSome, OnOk};
+ghost use Rattle.std.specs.Prelude.{◌≡◌, ◌↔◌, ◌++◌, ◌∷◌, ◌≤◌, ℕ, List, [], All, IfOk, IfSome, OnOk};
 ghost use Rattle.std.specs.Prelude.{length, MatchOption, map, option_map, take, true, string_bytes};
 ghost use Rattle.fdb_log_reader.specs.ReadLine.{known_of, ReadsLine};
 ghost use Rattle.fdb_log_reader.specs.private.{IsOneLine};
@@ -79,10 +79,11 @@ impl LineReader {
         self.names.member()
     }
 
-    /// Whether what has come ends where a line does, so that no part of a line waits for its end.
+    /// Whether what has come ends where a line does, so that no part of a line waits for its end:
+    /// a text that ends here has no line more.
     pub fn is_at_line_end(&self) -> bool
-        ensures { result ≡ true → (lines_on self.now [] ≡ [])
-            × (names_on self.now [] ≡ line_names self.now) }
+        ensures at_end { (result ≡ true) ↔ (lines_on self.now [] ≡ []) }
+        ensures names { result ≡ true → names_on self.now [] ≡ line_names self.now }
     {
         self.front.is_empty()
     }

@@ -7,10 +7,9 @@ use Rattle.fdb_lines.specs.declared.fault.Fault.TheVariants.{NotAbove}
 use Rattle.fdb_lines.specs.Faults.{IsFaultless, greatest_of, knows}
 use Rattle.fdb_lines.specs.Lines.{Case, Read, Commit, draws, is_read, kind_at, reports, shows, version_at}
 use Rattle.fdb_lines.specs.Order.{IsRanked}
-use Rattle.fdb_lines.proofs.Facts.{no_order, no_wrong, shown_known}
-use Rattle.fdb_lines.proofs.Numbers.{greatest_bound}
 use Rattle.fdb_values.specs.ByValue.{AreByValue, ExplainByValue, HasValue, IsLastAbove, IsOrderOfValues, call_at, comes_first, value_at}
 use Rattle.fdb_values.proofs.RankedCase.{IsOf}
+use Rattle.fdb_values.proofs.Facts.{no_order, no_wrong, shown_known, greatest_bound}
 
 -- a number that is first by one, and then by another
 climbs : (width a b j k : ℕ) → j < width → (a < b) ⊎ ((a ≤ b) × (j < k)) → width * a + j < width * b + k

@@ -6,9 +6,9 @@ use Rattle.fdb_lines.specs.declared.line.Line.{Line}
 use Rattle.fdb_lines.specs.Before.{began, ended}
 use Rattle.fdb_lines.specs.Lines.{line_at}
 use Rattle.fdb_lines.specs.Summary.{tally}
-use Rattle.fdb_lines.proofs.Numbers.{greatest_among, greatest_bound}
 use Rattle.fdb_values.specs.ByValue.{IsOrderOfValues, SomeComesFirst, comes_first, start_value, value_at}
 use Rattle.fdb_values.specs.Zones.{first_end, key_of, last_begin, rank_by_zone, sooner, stands_below, zone_key}
+use Rattle.fdb_values.proofs.Facts.{greatest_among, greatest_bound}
 
 -- ---- tallies of which one counts more
 

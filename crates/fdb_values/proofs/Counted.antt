@@ -3,19 +3,29 @@ use Rattle.std.proofs.Common.{◌≡◌, ℕ, zero, suc, ◌<◌, ◌≤◌, Boo
 use Rattle.std.proofs.Math.Dec.{lit<}
 use Rattle.std.proofs.lemmas.Bool.{le-ltb, lt-ltb}
 use Rattle.std.proofs.lemmas.Bool.Decides.{nat_tests}
+use Rattle.std.specs.List.Sorted.{IsPartitionPoint}
 use Rattle.std.proofs.lemmas.List.Sums.{sum_by-cons, sum_by_push}
 use Rattle.fdb_lines.specs.declared.line.Line.{Line}
-use Rattle.fdb_lines.specs.private.Entries.{IsFrontBy}
-use Rattle.fdb_lines.specs.Summary.{tally}
 use Rattle.fdb_values.specs.declared.standing.Standing.{Standing}
 use Rattle.fdb_values.specs.declared.zones.Zone.{Zone}
 use Rattle.fdb_values.specs.ByValue.{value_at}
 use Rattle.fdb_values.specs.Standings.{HasStandings, HasZones, is_below, standing_number, zone_in}
-use Rattle.fdb_values.specs.Zones.{key_of, rank_by_zone, stands_below, zone_key}
+use Rattle.fdb_values.specs.Zones.{key_of, stands_below, zone_key}
 use Rattle.std.specs.BTreeMap.{BTreeMap}
 
 abbrev pub no_standing : Standing
 no_standing = record { key = 0; value = 0; fits = lit< tt }
+
+-- the first of some things, by their numbers, are those below a mark
+abbrev pub IsFrontBy : {X : Type 0} → (X → ℕ) → X → List X → ℕ → ℕ → Type 0
+IsFrontBy key d xs moment front =
+    ((i : ℕ) → i < front → key (slice_index_or xs i d) < moment)
+    × ((i : ℕ) → front ≤ i → i < length xs → moment ≤ key (slice_index_or xs i d))
+
+pub front_is : {X : Type 0} (key : X → ℕ) (d : X) (xs : List X) (moment front : ℕ)
+    → IsPartitionPoint (λ x. nat_lt (key x) moment ≡ true) (λ x. nat_lt (key x) moment ≡ false) xs front → IsFrontBy key d xs moment front
+front_is key d xs moment front point =
+    (λ i below. let less = point.0 i d zero-le below in grind (arith, nat_tests), λ i above lt. let no_less = point.1 i d above lt in grind (arith, nat_tests))
 
 abbrev adds : Bool → ℕ
 adds b = cond b 1 0
@@ -57,12 +67,3 @@ count_more margin lines k standings one key value has v =
 pub key_is : (margin : ℕ) (lines : List Line) (zones : BTreeMap ℕ Zone) (v : ℕ) → HasZones lines (length lines) zones
     → zone_key margin (zone_in zones v).first (zone_in zones v).last ≡ key_of margin lines v
 key_is margin lines zones v has = λ i. zone_key margin ((has v).0 i) ((has v).1 i)
-
--- ---- ranks
-
-pub start_rank : (margin : ℕ) (lines : List Line) (v : ℕ) → v ≡ 0 → 0 ≡ rank_by_zone margin lines v
-start_rank margin lines v is = grind (arith, nat_tests)
-
-pub other_rank : (margin : ℕ) (lines : List Line) (v count : ℕ) → (v ≡ 0 → ⊥)
-    → count ≡ tally (λ k. stands_below (key_of margin lines) (value_at lines k) v) (length lines) → suc count ≡ rank_by_zone margin lines v
-other_rank margin lines v count ne is = grind (arith, nat_tests)

@@ -6,12 +6,11 @@ use Rattle.fdb_lines.specs.declared.line.Line.{Line}
 use Rattle.fdb_lines.specs.declared.fault.Fault.TheVariants.{NotAbove, Order, Wrong}
 use Rattle.fdb_lines.specs.Faults.{knows, last, some_below, stands}
 use Rattle.fdb_lines.specs.Lines.{Case, Commit, draws, kind_at, shows, version_at}
-use Rattle.fdb_lines.proofs.Facts.{raises_it}
-use Rattle.fdb_lines.proofs.Numbers.{greatest_among, none_at, some_find}
 use Rattle.fdb_values.specs.ByValue.{AreByValue, IsOrderOfValues, SomeComesFirst, call_at, comes_first, ranked, start_value, value_at}
 use Rattle.fdb_values.specs.Fits.{commits_it}
 use Rattle.fdb_values.proofs.Fitting.{commits, committed}
 use Rattle.fdb_values.proofs.RankedCase.{IsOf, of_lines}
+use Rattle.fdb_values.proofs.Facts.{raises_it, greatest_among, none_at, some_find}
 
 module _ (margin : ℕ) (lines : List Line) where
   pair : ℕ → ℕ → ℕ → ℕ → Bool

@@ -5,9 +5,9 @@ use Rattle.std.proofs.lemmas.Bool.Decides.{nat_tests}
 use Rattle.fdb_lines.specs.declared.line.Line.{Line}
 use Rattle.fdb_lines.specs.Faults.{some_below}
 use Rattle.fdb_lines.specs.Lines.{Kind, Read, Commit}
-use Rattle.fdb_lines.proofs.Numbers.{none_at, some_find}
 use Rattle.fdb_values.specs.ByValue.{AreByValue, call_at, start_value, value_at}
 use Rattle.fdb_values.specs.Fits.{commits_it, fits, fits_with}
+use Rattle.fdb_values.proofs.Facts.{none_at, some_find}
 
 call_of : (is_committed : ℕ → Bool) (kind : Kind) (v : ℕ) → fits_with is_committed kind v ≡ true → (kind ≡ Read) ⊎ (kind ≡ Commit)
 call_of is_committed kind v fit = grind arith

@@ -7,10 +7,9 @@ use Rattle.fdb_lines.specs.declared.line.Line.{Line}
 use Rattle.fdb_lines.specs.declared.fault.Fault.TheVariants.{Order, Wrong, NotAbove, Twice, Stray}
 use Rattle.fdb_lines.specs.Faults.{IsFaultless, draws_again, is_raised, knows, last, stands}
 use Rattle.fdb_lines.specs.Lines.{Case, Kind, Read, Commit, draws, kind_at, reports, shows, version_at}
-use Rattle.fdb_lines.proofs.Facts.{raises_it}
-use Rattle.fdb_lines.proofs.Numbers.{greatest_among, some_at, some_find}
 use Rattle.fdb_values.specs.ByValue.{AreByValue, ExplainByValue, IsOrderOfValues, call_at, comes_first, start_value, value_at}
 use Rattle.fdb_values.proofs.RankedCase.{IsOf}
+use Rattle.fdb_values.proofs.Facts.{raises_it, greatest_among, some_at, some_find}
 
 -- The commit that wrote the value of a line: the last that stands at it or above.
 record IsWriter (lines : List Line) (at : ℕ → ℕ) (j w : ℕ) : Type 0 where

@@ -1,4 +1,5 @@
 pub mod RankedCase
+pub mod Facts
 pub mod ByRank
 pub mod InOrder
 pub mod Law

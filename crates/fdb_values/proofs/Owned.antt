@@ -5,10 +5,9 @@ use Rattle.std.proofs.lemmas.Bool.{cases_eq}
 use Rattle.std.proofs.lemmas.Bool.Decides.{nat_tests}
 use Rattle.fdb_lines.specs.declared.line.Line.{Line}
 use Rattle.fdb_lines.specs.Keys.{key_at}
-use Rattle.fdb_lines.proofs.Keyed.{same_is}
-use Rattle.fdb_lines.proofs.Numbers.{some_at}
 use Rattle.fdb_values.specs.ByValue.{start_value, value_at}
 use Rattle.fdb_values.specs.Owners.{is_shared, owns, shares}
+use Rattle.fdb_values.proofs.Facts.{same_is, some_at}
 
 not_own : (owner : Option (Option ℕ)) (v : ℕ) (key : Option ℕ) → (v == 0 || owns owner key) ≡ false
     → (v ≢ 0) × (other : Option ℕ) × (owner ≡ Some other) × (option_eq ◌==◌ other key ≡ false)

@@ -4,20 +4,20 @@ use Rattle.std.proofs.lemmas.Bool.{cases_eq, cases_lt}
 use Rattle.std.proofs.lemmas.List.{get_or-map, length-map, ext_get_or}
 use Rattle.fdb_lines.specs.declared.line.Line.{Line}
 use Rattle.fdb_lines.specs.Audit.{AreExplained, case_of}
+use Rattle.fdb_lines.specs.declared.log.AuditOpts.{AuditOpts}
 use Rattle.fdb_lines.specs.Before.{began}
 use Rattle.fdb_lines.specs.Carried.{is_past, with_times}
+use Rattle.fdb_lines.specs.Faults.{IsFaultless}
 use Rattle.fdb_lines.specs.Judged.{AreExplainedIn}
 use Rattle.fdb_lines.specs.KeyParts.{lines_of_one}
 use Rattle.fdb_lines.specs.Keys.{key_at, places_of}
 use Rattle.fdb_lines.specs.Lines.{Lines, kind_of, line_at, lines_in, nobody, version_of}
-use Rattle.fdb_lines.proofs.Carried.{at_part}
-use Rattle.fdb_lines.proofs.Keyed.{apart as places_apart, has_place, of_key, same_self}
-use Rattle.fdb_lines.proofs.Listed as Listed
 use Rattle.fdb_values.specs.ByValue.{AreByValue, AreExplainedByValue, IsOrderOfValues, SomeComesFirst, call_at, comes_first, ranked_line, start_value, value_at}
 use Rattle.fdb_values.specs.ValuesByKey.{AreExplainedByValueIn, HaveOwnValues, IsRankedLog, opts_by_rank}
 use Rattle.fdb_values.specs.Zones.{rank_by_zone}
 use Rattle.fdb_values.proofs.ByZones.{zones_order}
 use Rattle.fdb_values.proofs.Law.{law}
+use Rattle.fdb_values.proofs.Facts.{at_part, apart as places_apart, has_place, of_key, same_self}
 
 module _ (lines : List Line) (keys : List (Option ℕ)) (own : HaveOwnValues lines keys) (key : Option ℕ) where
   abbrev places : List ℕ
@@ -119,7 +119,11 @@ module _ (lines : List Line) (keys : List (Option ℕ)) (own : HaveOwnValues lin
 
 -- ---- logs of ranked lines
 
-module _ (margin : ℕ) (lines : List Line) (rank : ℕ → ℕ) (by : AreByValue lines) (o : IsOrderOfValues margin lines rank)
+-- of the laws that this stands on: no fault stands exactly where lines are explained
+abbrev pub ExplainedExactly : Type 0
+ExplainedExactly = (log : Lines) (opts : AuditOpts) → IsFaultless (case_of log opts) ↔ AreExplained (case_of log opts)
+
+module _ (exact : ExplainedExactly) (margin : ℕ) (lines : List Line) (rank : ℕ → ℕ) (by : AreByValue lines) (o : IsOrderOfValues margin lines rank)
     (log : Lines) (are : log.lines ≡ map (ranked_line rank) lines) (timed : 0 < length lines → log.timed ≡ true) where
   -- with a line or more they have times, and of none there is nothing to say
   pub judged : AreExplained (case_of log (opts_by_rank margin)) ↔ AreExplainedByValue margin lines
@@ -127,7 +131,7 @@ module _ (margin : ℕ) (lines : List Line) (rank : ℕ → ℕ) (by : AreByValu
     | inl some ↦
         let is : log ≡ with_times (map (ranked_line rank) lines) = λ t. record { timed = timed some t; lines = are t } in
         let same = law margin lines rank by o in
-        let explained = Listed.law (with_times (map (ranked_line rank) lines)) (opts_by_rank margin) in
+        let explained = exact (with_times (map (ranked_line rank) lines)) (opts_by_rank margin) in
         rw is ((λ e. same.0 (explained.1 e)), (λ e. explained.0 (same.1 e)))
     | inr none ↦
         let empty : length log.lines ≡ 0 = omega (arith, none, ap length are, length-map lines (ranked_line rank)) in (
@@ -139,19 +143,19 @@ module _ (margin : ℕ) (lines : List Line) (rank : ℕ → ℕ) (by : AreByValu
               reads = λ k lk read. absurd (omega (arith, lk, none));
             },
           )),
-          (λ e. (Listed.law log (opts_by_rank margin)).0 (λ fault k lt. absurd (omega (arith, lt, empty)))),
+          (λ e. (exact log (opts_by_rank margin)).0 (λ fault k lt. absurd (omega (arith, lt, empty)))),
         )
   ]
 
-pub judged_in : (margin : ℕ) (lines : List Line) (keys : Option (List (Option ℕ))) (log : Lines) → AreByValue lines → IfSome keys (HaveOwnValues lines)
+pub judged_in : ExplainedExactly → (margin : ℕ) (lines : List Line) (keys : Option (List (Option ℕ))) (log : Lines) → AreByValue lines → IfSome keys (HaveOwnValues lines)
     → IsRankedLog margin lines log → AreExplainedIn log keys (opts_by_rank margin) ↔ AreExplainedByValueIn margin lines keys
-judged_in margin lines None log by own is = judged margin lines (rank_by_zone margin lines) by (zones_order margin lines) log is.ranks is.timed
-judged_in margin lines (Some keys) log by own is = ((λ e key. (each key).0 (e key)), (λ e key. (each key).1 (e key)))
+judged_in exact margin lines None log by own is = judged exact margin lines (rank_by_zone margin lines) by (zones_order margin lines) log is.ranks is.timed
+judged_in exact margin lines (Some keys) log by own is = ((λ e key. (each key).0 (e key)), (λ e key. (each key).1 (e key)))
   where
     each : (key : Option ℕ) → AreExplained (case_of (record { timed = log.timed; lines = lines_in log.lines (places_of keys key) }) (opts_by_rank margin))
         ↔ AreExplainedByValue margin (lines_of_one lines keys key)
     each key =
-        judged margin (lines_of_one lines keys key) (rank_by_zone margin lines) (by_value lines keys own key by)
+        judged exact margin (lines_of_one lines keys key) (rank_by_zone margin lines) (by_value lines keys own key by)
         (in_order lines keys own key margin (rank_by_zone margin lines) (zones_order margin lines))
         (record { timed = log.timed; lines = lines_in log.lines (places_of keys key) })
         (ap (λ all. lines_in all (places_of keys key)) is.ranks ∙ ranked_part lines keys own key (rank_by_zone margin lines))

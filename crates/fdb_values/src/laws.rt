@@ -13,6 +13,8 @@ ghost use Rattle.fdb_values.specs.ValuesByKey.{opts_by_rank, AreExplainedByValue
 ghost use Rattle.fdb_values.specs.ValuesByKey.{IsRankedLog};
 ghost use Rattle.fdb_values.specs.Zones.{rank_by_zone};
 
+use fdb_lines::laws::no_fault_exactly_where_explained;
+
 /// Where each value is committed once, and values are ordered by when their calls were, no fault
 /// stands at the lines with ranks for versions exactly where the lines are explained by value.
 pub fn no_fault_by_rank_exactly_where_explained_by_value()
@@ -41,7 +43,9 @@ pub fn ranked_logs_are_explained_exactly_where_lines_are_by_value()
     ensures { (margin : ℕ) (lines : List Line) (keys : Option (List (Option ℕ))) (log : Lines)
         → AreByValue lines → IfSome keys (HaveOwnValues lines) → IsRankedLog margin lines log
         → AreExplainedIn log keys (opts_by_rank margin) ↔ AreExplainedByValueIn margin lines keys }
-{}
+{
+    no_fault_exactly_where_explained();
+}
 
 /// What a fault by rank shows of the values, in whose order it is told. A stale read (`Order`) came
 /// after a call of another value of which a call came after one of its own value, or it is of the value

@@ -7,6 +7,7 @@ ghost use Rattle.fdb_lines.specs.Log.{lines_of};
 ghost use Rattle.fdb_values.specs.ByValue.{AreByValue};
 ghost use Rattle.fdb_values.specs.ValuesByKey.{AreExplainedByValueIn, HaveOwnValues};
 
+use crate::laws::ranked_logs_are_explained_exactly_where_lines_are_by_value;
 use crate::ranks::ranked_log;
 use fdb_lines::{AuditOpts, LineError, Log, first_finding};
 use std::alloc::Global;
@@ -27,6 +28,7 @@ pub fn is_explained_by_value(
         (lines_of log.now).lines (option_copied keys.entry)) }
     ensures error { IfErr result (λ error. error ≡ Memory) }
 {
+    ranked_logs_are_explained_exactly_where_lines_are_by_value();
     let ranked = ranked_log(alloc, log, margin)?;
     let opts = AuditOpts {
         complete: Some(0),

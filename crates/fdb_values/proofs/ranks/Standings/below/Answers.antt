@@ -1,9 +1,8 @@
 use Rattle.std.proofs.Common.{nat_lt, rules}
 use Rattle.std.proofs.lemmas.List.Sorted.{IsPartitionPoint-from_clause, IsPartitionedBy-ltb}
-use Rattle.fdb_lines.proofs.Entries.{front_is}
 use Rattle.fdb_values.specs.declared.standing.Standing.{Standing}
 use Rattle.fdb_values.specs.Standings.{standing_number}
-use Rattle.fdb_values.proofs.Counted.{front_counts, no_standing}
+use Rattle.fdb_values.proofs.Counted.{front_counts, front_is, no_standing}
 use Rattle.fdb_values.proofs.ranks.Standings.below.Goals as goal
 
 pub returns-clause-count : goal.returns-clause-count
