@@ -15,7 +15,7 @@ use Rattle.fdb_audit.specs.declared.progress.Progress.{Progress}
 use Rattle.fdb_audit.specs.declared.progress.Reporter.{Reporter}
 use Rattle.fdb_audit.specs.declared.teller.Followed.{Followed}
 use Rattle.fdb_audit.specs.Following.{AreCountedOn, Start, left_out}
-use Rattle.fdb_audit.specs.Progress.{ArePieces, HasPrinted, IsPart, IsPrinted, IsToldWith, Part, PrintedAll, PrintedSoFar, counted_by, progress_text}
+use Rattle.fdb_audit.specs.Progress.{ArePieces, HasPrinted, IsPart, IsPrinted, IsProgressOf, IsToldWith, IsTrueOf, Part, PrintedAll, PrintedSoFar, counted_by, progress_text}
 use Rattle.fdb_audit.specs.Watched.{AskForTheSame, HasFollowed, IsFollowed, lines_asked}
 use Rattle.fdb_audit.specs.private.Followed.{HasGoneOn}
 
@@ -46,19 +46,23 @@ part_more asked start bytes told text part (parts, told_is, text_is, all) is = (
   All-push (IsPart asked start bytes) parts part all is,
 )
 
+true_of : (asked : AuditArguments) (start : Start) (follower : Follower) (bytes told : List ℕ) (progress : Progress) → (has : HasFollowed asked start follower bytes told)
+    → AreCountedOn start has.read (counted_by progress) → IsProgressOf start follower progress → IsTrueOf asked start has.read progress
+true_of asked start follower bytes told progress has counts its = record { counted = counts; follower = follower; before = bytes; told = told; followed = has; same = refl; its = its }
+
 -- how far was told, if that was
-counts_if : (asked : AuditArguments) (start : Start) (read : List (Result SaidLine Why)) (progress : Progress) (objects : Bool) → objects ≡ asked.wanted.json → AreCountedOn start read (counted_by progress)
-    → (told : Option Progress) → IfSome told (λ it. (it ≡ progress) × (objects ≡ true)) → IfSome told (λ it. (asked.wanted.json ≡ true) × AreCountedOn start read (counted_by it))
+counts_if : (asked : AuditArguments) (start : Start) (read : List (Result SaidLine Why)) (progress : Progress) (objects : Bool) → objects ≡ asked.wanted.json → IsTrueOf asked start read progress
+    → (told : Option Progress) → IfSome told (λ it. (it ≡ progress) × (objects ≡ true)) → IfSome told (λ it. (asked.wanted.json ≡ true) × IsTrueOf asked start read it)
 counts_if asked start read progress objects same counts None is = tt
-counts_if asked start read progress objects same counts (Some it) is = (sym same ∙ is.1, subst (λ progress. AreCountedOn start read (counted_by progress)) (sym is.0) counts)
+counts_if asked start read progress objects same counts (Some it) is = (sym same ∙ is.1, subst (IsTrueOf asked start read) (sym is.0) counts)
 
 -- what is told next of these bytes, and how far they were followed
 pub told_more : (asked : AuditArguments) (start : Start) (follower : Follower) (bytes told text more : List ℕ) (progress : Progress) (objects : Bool) (said : Option Progress) → objects ≡ asked.wanted.json
-    → (has : HasFollowed asked start follower bytes (told ++ more)) → AreCountedOn start has.read (counted_by progress) → IfSome said (λ it. (it ≡ progress) × (objects ≡ true))
+    → (has : HasFollowed asked start follower bytes (told ++ more)) → AreCountedOn start has.read (counted_by progress) → IsProgressOf start follower progress → IfSome said (λ it. (it ≡ progress) × (objects ≡ true))
     → IsToldWith asked start bytes told text → IsToldWith asked start bytes (told ++ more) (text ++ (more ++ progress_text said))
-told_more asked start follower bytes told text more progress objects said same has counts is told_with =
+told_more asked start follower bytes told text more progress objects said same has counts its is told_with =
     part_more asked start bytes told text (record { told = more; read = has.read; progress = said }) told_with
-    (record { first = λ text. (lines_on follower.reader text, has.goes text); counts = counts_if asked start has.read progress objects same counts said is })
+    (record { first = λ text. (lines_on follower.reader text, has.goes text); counts = counts_if asked start has.read progress objects same (true_of asked start follower bytes _ progress has counts its) said is })
 
 -- and where that is not told
 pub told_quiet : (asked : AuditArguments) (start : Start) (follower : Follower) (bytes before told text more : List ℕ) → HasFollowed asked start follower bytes before
@@ -70,12 +74,12 @@ told_quiet asked start follower bytes before told text more has told_with =
 
 -- how far they were followed, in front of what is told at the end
 pub told_front : (asked : AuditArguments) (start : Start) (follower : Follower) (bytes told text : List ℕ) (progress : Progress) (objects : Bool) (said : Option Progress) → objects ≡ asked.wanted.json
-    → (has : HasFollowed asked start follower bytes told) → AreCountedOn start has.read (counted_by progress) → IfSome said (λ it. (it ≡ progress) × (objects ≡ true))
+    → (has : HasFollowed asked start follower bytes told) → AreCountedOn start has.read (counted_by progress) → IsProgressOf start follower progress → IfSome said (λ it. (it ≡ progress) × (objects ≡ true))
     → IsToldWith asked start bytes told text → IsToldWith asked start bytes told (text ++ progress_text said)
-told_front asked start follower bytes told text progress objects said same has counts is told_with =
+told_front asked start follower bytes told text progress objects said same has counts its is told_with =
     subst (λ told. IsToldWith asked start bytes told (text ++ progress_text said)) (append-nil told)
     (part_more asked start bytes told text (record { told = []; read = has.read; progress = said }) told_with
-    (record { first = λ text. (lines_on follower.reader text, has.goes text); counts = counts_if asked start has.read progress objects same counts said is }))
+    (record { first = λ text. (lines_on follower.reader text, has.goes text); counts = counts_if asked start has.read progress objects same (true_of asked start follower bytes _ progress has counts its) said is }))
 
 -- ---- in pieces
 

@@ -5,8 +5,9 @@ use Rattle.fdb_log_reader.specs.declared.error.ReadError.{ReadError}
 use Rattle.fdb_log_reader.specs.declared.error.Why.{Why}
 use Rattle.fdb_log_reader.specs.ReadLine.{SaidLine}
 use Rattle.fdb_audit.specs.Figures.{Figure, figure, figures_text}
-use Rattle.fdb_audit.specs.Following.{AreCountedOn, Counted, Start, counted_figures, left_out}
+use Rattle.fdb_audit.specs.Following.{AreCountedOn, Counted, Start, counted_figures, counted_on, left_out, sum_of}
 use Rattle.fdb_audit.specs.GoingOn.{GoesOnBy}
+use Rattle.fdb_audit.specs.Taken.{counted_of}
 use Rattle.fdb_audit.specs.Text.{line}
 use Rattle.fdb_audit.specs.Watched.{AskForTheSame, HasFollowed, IsFollowed, lines_asked}
 use Rattle.fdb_audit.specs.declared.arguments.AuditArguments.{AuditArguments}
@@ -48,11 +49,30 @@ abbrev pub progress_text : Option Progress → List ℕ
 progress_text None = []
 progress_text (Some it) = progress_object it
 
--- Whatever comes behind these bytes, the lines that had been read are the first of them; and they are counted, where objects are asked
--- for.
+-- So far a follower had followed a log: what it had counted, with an earlier piece; how many lines it kept, and how many were open, of
+-- those that had been when it settled, and those that came since; the newest end that it believed, and up to when it had settled.
+pub record IsProgressOf (start : Start) (follower : Follower) (it : Progress) : Type 0 where
+  pub counts : counted_by it ≡ counted_on start.before.counts (counted_of follower.taking)
+  pub kept : it.kept ≡ follower.taking.kept
+  pub unjudged : it.«open» ≡ sum_of follower.taking.unsettled.unjudged follower.taking.unsettled.came
+  pub newest : it.newest_end ≡ follower.taking.clocks.believed
+  pub settled : it.settled_to ≡ follower.taking.watch.from
+
+-- These lines are counted, and the figures are those of a follower that had read them.
+pub record IsTrueOf (asked : AuditArguments) (start : Start) (read : List (Result SaidLine Why)) (it : Progress) : Type 0 where
+  pub counted : AreCountedOn start read (counted_by it)
+  pub follower : Follower
+  pub before : List ℕ
+  pub told : List ℕ
+  pub followed : HasFollowed asked start follower before told
+  pub same : followed.read ≡ read
+  pub its : IsProgressOf start follower it
+
+-- Whatever comes behind these bytes, the lines that had been read are the first of them; and how far they were followed is true of them,
+-- where objects are asked for.
 pub record IsPart (asked : AuditArguments) (start : Start) (bytes : List ℕ) (part : Part) : Type 0 where
   pub first : (text : List ℕ) → (rest : List (Result SaidLine Why)) × (lines_asked asked (bytes ++ text) ≡ part.read ++ rest)
-  pub counts : IfSome part.progress (λ it. (asked.wanted.json ≡ true) × AreCountedOn start part.read (counted_by it))
+  pub counts : IfSome part.progress (λ it. (asked.wanted.json ≡ true) × IsTrueOf asked start part.read it)
 
 -- What is told of these bytes is printed in parts, behind some of which stands how far the log was followed then.
 abbrev pub IsToldWith : AuditArguments → Start → (bytes told text : List ℕ) → Type 0

@@ -62,7 +62,7 @@ impl Follower {
     ghost use Rattle.fdb_lines.specs.KeyWatch.{settled_in};
     ghost use Rattle.fdb_audit.specs.Following.{AreCountedOn, IsCounted, IsToldOff};
     ghost use Rattle.fdb_audit.specs.Kept.{IsStopped};
-    ghost use Rattle.fdb_audit.specs.Progress.{counted_by};
+    ghost use Rattle.fdb_audit.specs.Progress.{counted_by, IsProgressOf};
     ghost use Rattle.fdb_audit.specs.Taken.{counted_of, kept_by};
     ghost use Rattle.fdb_audit.specs.private.Followed.{HasGoneOn, HasWarned, IsQuiet};
     ghost use Rattle.fdb_audit.specs.private.Followed.{IsUnread, SaysNext, TakesPlace};
@@ -175,6 +175,9 @@ impl Follower {
             → (has : HasFollowed asked start self.now bytes told) → start.before ≡ none_before
             → IsCounted start has.read (counted_by result)
             × (counted_by result ≡ counted_of self.now.taking) }
+        ensures its { (asked : AuditArguments) → (start : Start) → (bytes told : List ℕ)
+            → HasFollowed asked start self.now bytes told
+            → IsProgressOf start self.now result }
         ensures kept { result.kept ≡ self.now.taking.kept }
         ensures moments { (result.newest_end ≡ self.now.taking.clocks.believed)
             × (result.settled_to ≡ self.now.taking.watch.from) }

@@ -2,6 +2,7 @@
 //! settled last.
 
 ghost use Rattle.std.specs.Prelude.{◌≡◌, Option, ℕ};
+ghost use Rattle.fdb_audit.specs.Following.{sum_of};
 ghost use Rattle.fdb_audit.specs.private.Pace.{due_after, is_due_at};
 
 use fdb_lines::{Settled, SettledKey};
@@ -126,7 +127,9 @@ impl Unsettled {
     }
 
     /// How many lines are not judged.
-    pub(crate) fn open(&self) -> u64 {
+    pub(crate) fn open(&self) -> u64
+        ensures { result ≡ sum_of self.now.unjudged self.now.came }
+    {
         self.unjudged.saturating_add(self.came)
     }
 

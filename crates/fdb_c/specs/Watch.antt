@@ -5,10 +5,10 @@ use Rattle.fdb_lines.specs.declared.log.AuditOpts.{AuditOpts}
 use Rattle.fdb_log_reader.specs.LineReader.{line_names}
 use Rattle.fdb_log_reader.specs.declared.error.ReadError.{ReadError}
 use Rattle.fdb_log_reader.specs.declared.error.Why.{Why}
-use Rattle.fdb_audit.specs.Following.{Counted, IsCounted, Start, fresh, left_out}
+use Rattle.fdb_audit.specs.Following.{Counted, IsCounted, Start, fresh, left_out, sum_of}
 use Rattle.fdb_audit.specs.Kept.{Keeps, start_of}
 use Rattle.fdb_audit.specs.Taken.{counted_of}
-use Rattle.fdb_audit.specs.Watched.{HasFollowed, IsFollowed, lines_asked}
+use Rattle.fdb_audit.specs.Watched.{HasFollowed, HasSaid, HasSaidAll, IsFollowed, lines_asked}
 use Rattle.fdb_audit.specs.declared.arguments.AuditArguments.{AuditArguments}
 use Rattle.fdb_audit.specs.declared.printer.LogFault.{LogFault}
 use Rattle.fdb_audit.specs.declared.follower.Follower.{Follower}
@@ -32,14 +32,15 @@ wanted_in options = record { history = false; all = true; totals = options.total
 -- ---- what a watch is
 
 -- What it was asked for, how far behind the newest end a line may begin, and by which text of kept lines it goes on, if it does;
--- the bytes that have come, behind that text; the text that was told of them, what was said last with its warnings, and whether it
--- is over: its log has ended, or memory was refused.
+-- the bytes that have come, behind that text; the text that was told of them, and all warnings; what was said last with its warnings;
+-- and whether it is over: its log has ended, or memory was refused.
 pub record Watch : Type 0 where
   pub asked : Asked
   pub behind : ℕ
   pub from : Option (List ℕ)
   pub bytes : List ℕ
   pub told : List ℕ
+  pub warned : List ℕ
   pub text : List ℕ
   pub warnings : List ℕ
   pub is_over : Bool
@@ -52,6 +53,7 @@ watch_from asked behind from bytes = record {
   from = from;
   bytes = bytes;
   told = [];
+  warned = [];
   text = [];
   warnings = [];
   is_over = false;
@@ -75,7 +77,13 @@ over watch = record watch { is_over = true }
 -- What was said last was told besides.
 abbrev pub IsToldBesides : Watch → Watch → Type 0
 IsToldBesides before after =
-    after ≡ record before { told = before.told ++ after.text; text = after.text; warnings = after.warnings; is_over = after.is_over }
+    after ≡ record before {
+      told = before.told ++ after.text;
+      warned = before.warned ++ after.warnings;
+      text = after.text;
+      warnings = after.warnings;
+      is_over = after.is_over;
+    }
 
 -- from where a log is followed: from its beginning, or on by a text of kept lines
 abbrev pub started : AuditArguments → ℕ → Option (List ℕ) → Start
@@ -91,19 +99,21 @@ start_in arguments watch = started arguments watch.behind watch.from
 abbrev pub refused_in : AuditArguments → Watch → Option ReadError
 refused_in arguments watch = left_out (start_in arguments watch) (lines_asked arguments watch.bytes)
 
--- This was told of the bytes that have come, as by an audit that follows the log.
+-- This was told of the bytes that have come, and these warnings were, as by an audit that follows the log.
 pub record HasTold (watch : Watch) : Type 0 where
   pub arguments : AuditArguments
   pub are : asked_in arguments ≡ watch.asked
   pub follower : Follower
   pub followed : HasFollowed arguments (start_in arguments watch) follower watch.bytes watch.told
+  pub said : HasSaid arguments (start_in arguments watch) follower watch.bytes watch.warned
 
--- It was told of all of them, where the log ends there, with this first fault, and the last line that came early, if one
--- did.
+-- It was told of all of them, where the log ends there, with these warnings, this first fault, and the last line that came early, if
+-- one did.
 pub record HasToldAll (watch : Watch) (first : Option LogFault) (last_early : Option ℕ) : Type 0 where
   pub arguments : AuditArguments
   pub are : asked_in arguments ≡ watch.asked
   pub followed : IsFollowed arguments (start_in arguments watch) true watch.bytes watch.told first last_early
+  pub said : HasSaidAll arguments (start_in arguments watch) watch.bytes followed.settled watch.warned
 
 -- A fault was told among that.
 pub record HasToldFault (watch : Watch) : Type 0 where
@@ -164,6 +174,7 @@ pub record HasCounted (watch : Watch) (counts : FdbWatchCounted) : Type 0 where
   pub counted : IsCounted (start_in arguments watch) followed.read (counted_in counts)
   pub came : counted_in counts ≡ counted_of follower.taking
   pub kept : counts.kept ≡ follower.taking.kept
+  pub unjudged : counts.«open» ≡ sum_of follower.taking.unsettled.unjudged follower.taking.unsettled.came
   pub newest : counts.newest_end ≡ follower.taking.clocks.believed
   pub settled : counts.settled_to ≡ follower.taking.watch.from
 

@@ -106,13 +106,14 @@ pub(crate) fn counted_of(progress: Progress) -> FdbWatchCounted
     }
 }
 
-/// The bytes that have come, the text that was told of them, and the text of kept lines by which it
-/// goes on, if it does. It takes no memory.
+/// The bytes that have come, the text that was told of them, the text of kept lines by which it
+/// goes on, if it does, and all warnings. It takes no memory.
 #[derive(Drop)]
 pub struct Story {
     pub ghost bytes: { List ℕ },
     pub ghost told: { List ℕ },
     pub ghost from: { Option (List ℕ) },
+    pub ghost warned: { List ℕ },
 }
 
 impl Model for Story {
@@ -124,7 +125,8 @@ unsafe impl Send for Story {}
 impl Story {
     /// Nothing has come.
     pub(crate) fn new() -> Story
-        ensures { (result.bytes ≡ []) × (result.told ≡ []) × (result.from ≡ None) }
+        ensures { (result.bytes ≡ []) × (result.told ≡ []) × (result.from ≡ None)
+            × (result.warned ≡ []) }
     {
         Story {}
     }
@@ -132,7 +134,7 @@ impl Story {
     /// It goes on by this text of kept lines.
     pub(crate) fn of_kept(_text: &&[u8]) -> Story
         ensures { (result.bytes ≡ _text.now.now) × (result.told ≡ [])
-            × (result.from ≡ Some _text.now.now) }
+            × (result.from ≡ Some _text.now.now) × (result.warned ≡ []) }
     {
         Story {}
     }
@@ -140,7 +142,8 @@ impl Story {
     /// These bytes have come besides.
     pub(crate) fn with_bytes(_before: &Story, _bytes: &&[u8]) -> Story
         ensures { (result.bytes ≡ _before.now.bytes ++ _bytes.now.now)
-            × (result.told ≡ _before.now.told) × (result.from ≡ _before.now.from) }
+            × (result.told ≡ _before.now.told) × (result.from ≡ _before.now.from)
+            × (result.warned ≡ _before.now.warned) }
     {
         Story {}
     }
@@ -149,7 +152,16 @@ impl Story {
     pub(crate) fn with_text(_before: &Story, _text: &String) -> Story
         ensures { (result.bytes ≡ _before.now.bytes)
             × (result.told ≡ _before.now.told ++ string_bytes _text.now)
-            × (result.from ≡ _before.now.from) }
+            × (result.from ≡ _before.now.from) × (result.warned ≡ _before.now.warned) }
+    {
+        Story {}
+    }
+
+    /// Of this it was warned besides.
+    pub(crate) fn with_warnings(_before: &Story, _warnings: &String) -> Story
+        ensures { (result.bytes ≡ _before.now.bytes) × (result.told ≡ _before.now.told)
+            × (result.from ≡ _before.now.from)
+            × (result.warned ≡ _before.now.warned ++ string_bytes _warnings.now) }
     {
         Story {}
     }

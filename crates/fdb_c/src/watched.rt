@@ -43,7 +43,7 @@ pub struct Watched {
 impl Model for Watched {
     ghost use Rattle.std.specs.Prelude.{IfSome, is_none, string_bytes};
     ghost use Rattle.fdb_c.specs.Audit.{asked_in};
-    ghost use Rattle.fdb_audit.specs.Watched.{HasFollowed};
+    ghost use Rattle.fdb_audit.specs.Watched.{HasFollowed, HasSaid};
     ghost use Rattle.fdb_c.specs.Watch.{IsKeptOf, Watch, started};
 
     ghost Value = { Watch };
@@ -55,6 +55,7 @@ impl Model for Watched {
           from = it.story.from;
           bytes = it.story.bytes;
           told = it.story.told;
+          warned = it.story.warned;
           text = string_bytes it.text;
           warnings = string_bytes it.warnings;
           is_over = is_none it.follower;
@@ -62,7 +63,8 @@ impl Model for Watched {
 
     ghost invariant = { λ it. IfSome it.follower
         (λ follower. HasFollowed it.asked (started it.asked it.behind it.story.from) follower
-        it.story.bytes it.story.told)
+        it.story.bytes it.story.told × HasSaid it.asked
+        (started it.asked it.behind it.story.from) follower it.story.bytes it.story.warned)
         × IfSome it.kept (λ text. IsKeptOf (asked_in it.asked) it.behind it.story.from
         it.story.bytes it.story.told (string_bytes text)) };
 }
@@ -221,6 +223,7 @@ impl Watched {
         match follower.tell(is_idle) {
             Ok(said) => {
                 self.story = Story::with_text(&self.story, &said.text);
+                self.story = Story::with_warnings(&self.story, &said.warnings);
                 self.follower = Some(follower);
                 self.text = said.text;
                 self.warnings = said.warnings;
@@ -247,6 +250,7 @@ impl Watched {
         match follower.finish() {
             Ok(end) => {
                 self.story = Story::with_text(&self.story, &end.said.text);
+                self.story = Story::with_warnings(&self.story, &end.said.warnings);
                 self.text = end.said.text;
                 self.warnings = end.said.warnings;
                 let_go(&mut self.kept);

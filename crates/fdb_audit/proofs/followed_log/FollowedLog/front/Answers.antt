@@ -16,6 +16,6 @@ returns c = λ asked start bytes text (objects, asks, times, pieces).
         followed = last.followed;
         told_with = subst (λ part. IsToldWith asked start bytes last.told (text ++ part)) (sym alone)
             (told_front asked start follower bytes last.told text c.progress.result c.args.self.now.reporter.objects said objects last.followed
-            (c.progress.ensures.counted asked start bytes last.told last.followed) holds last.told_with);
+            (c.progress.ensures.counted asked start bytes last.told last.followed) (c.progress.ensures.its asked start bytes last.told last.followed) holds last.told_with);
       }) times start bytes text pieces,
     )

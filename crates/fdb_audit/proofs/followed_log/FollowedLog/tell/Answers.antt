@@ -27,7 +27,7 @@ returns g c = λ asked start bytes text (objects, asks, times, pieces).
                   let (said, is, holds) = w.in_ok-push.ensures in
                   subst (λ part. IsToldWith asked start bytes (last.told ++ more) (text ++ part)) (sym (ap (λ (said : Said). string_bytes said.text) w.said-is ∙ is))
                   (told_more asked start follower bytes last.told text more w.progress-progress.result c.is_due.new.self.objects said same next
-                  (w.progress-progress.ensures.counted asked start bytes (last.told ++ more) next) holds last.told_with)
+                  (w.progress-progress.ensures.counted asked start bytes (last.told ++ more) next) (w.progress-progress.ensures.its asked start bytes (last.told ++ more) next) holds last.told_with)
               | else-is_due w ↦
                   subst (λ part. IsToldWith asked start bytes (last.told ++ more) (text ++ part)) (sym (ap (λ (said : Said). string_bytes said.text) w.said-is))
                   (told_quiet asked start follower bytes (last.told ++ more) last.told text more next last.told_with)

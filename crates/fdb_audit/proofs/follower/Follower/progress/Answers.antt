@@ -21,3 +21,14 @@ returns-clause-first c = λ asked start bytes told has first.
     ∙ (ap (λ (before : Counted). counted_on before (counted_of self.taking)) (has.telling.carried.counts ∙ ap (λ (before : Before). before.counts) first)
     ∙ counted_first start self.taking has.read _ has.telling.taken) in
     (subst (IsCounted start has.read) (sym same) (counted_for start self has.read has.telling.taken self refl refl), same)
+
+pub returns-clause-its : goal.returns-clause-its
+returns-clause-its c = λ asked start bytes told has.
+    let self = c.args.self.now in
+    record {
+      counts = c.with-all.ensures.counts ∙ ap (λ (before : Counted). counted_on before (counted_of self.taking)) has.telling.carried.counts;
+      kept = refl;
+      unjudged = c.«open».ensures;
+      newest = refl;
+      settled = c.settled_to.ensures;
+    }

@@ -32,7 +32,7 @@ abbrev nowhere : Option (List ℕ)
 nowhere = None
 
 abbrev Told : Type 0
-Told = (nobody ≡ nobody) × (nobody ≡ nobody) × (nowhere ≡ nowhere)
+Told = (nobody ≡ nobody) × (nobody ≡ nobody) × (nowhere ≡ nowhere) × (nobody ≡ nobody)
 
 pub new_spec : {M : Type 1} → statement M
 new_spec 𝓤 𝓛 𝓜 𝓡 wired =
@@ -44,7 +44,7 @@ new_spec 𝓤 𝓛 𝓜 𝓡 wired =
     enter ! 𝓣.C 𝓣.Λ fn [] Post $ alloc_all ! (λ l. pass_all ! refl tt $
     -- Story {}
     sets ! (agg ! (no_more !)) refl (tt, tt) $
-    pure_i ! (story.the_row.own_val (record { bytes = []; told = []; from = None }) (vstruct vnil ∷ [])) ((λ vss. (tt, tt)), tt) ((tt, (refl, tt)), tt) $
-    use0 𝓛 (raw (fact 𝓤 Told)) (fact_i 𝓤 Told (emp 𝓤) (refl, refl, refl)) $ nothing ! $
+    pure_i ! (story.the_row.own_val (record { bytes = []; told = []; from = None; warned = [] }) (vstruct vnil ∷ [])) ((λ vss. (tt, tt)), tt) ((tt, (refl, tt)), tt) $
+    use0 𝓛 (raw (fact 𝓤 Told)) (fact_i 𝓤 Told (emp 𝓤) (refl, refl, refl, refl)) $ nothing ! $
     returns ! (look_at ! 0 refl) $ free_all ! refl $ keep ! (3 ∷ 0 ∷ 2 ∷ 1 ∷ []) $
-    by ! (leaves 𝓛 ended hs c z (vstruct vnil) (record { bytes = []; told = []; from = None }) tt tt)))
+    by ! (leaves 𝓛 ended hs c z (vstruct vnil) (record { bytes = []; told = []; from = None; warned = [] }) tt tt)))

@@ -36,14 +36,14 @@ of_kept_spec 𝓤 𝓛 𝓜 𝓡 wired =
     proved_at 𝓛 ended hs c 𝓜 𝓡 (Goes-dropped 𝓛 ended.signature.lifetimes text-slot ended.kept.0 (λ κs x f. refl), tt) #self fn (code.unfolded 𝓤 H 𝓜 𝓡 wired) (λ z are.
     let Post : Val → SProp 𝓤 = (walk_of 𝓛 ended hs c).post z in let Run : List Val → SProp 𝓤 = λ ws. WpFn 𝓤 H 𝓣.C 𝓣.Λ fn ws Post in
     let text : Val = vptr z.0.3.0.ref_ptr.0 z.0.3.0.ref_ptr.1 in let bytes : List ℕ = z.0.3.0.now.now in let told : List ℕ = [] in
-    let from : Option (List ℕ) = Some bytes in let Told : Type 0 = (bytes ≡ bytes) × (told ≡ told) × (from ≡ from) in
+    let from : Option (List ℕ) = Some bytes in let warned : List ℕ = [] in let Told : Type 0 = (bytes ≡ bytes) × (told ≡ told) × (from ≡ from) × (warned ≡ warned) in
     qed 𝓛 ((raw (alive 𝓛 ended.signature z.0.0 z.0.1) ⊛ ‵ (owns (types_at ended.signature.params z.0.0) z.0.3 z.0.4)) ∷ raw ((c z.0.0 z.0.3).requires z.1) ∷ []) ∵
     split ! $
     suffices ! (Run (text ∷ [])) (subst (λ (us : List Val). ent 𝓤 (Run (text ∷ [])) (Run us)) (sym (λ i. are.0.0 i ++ [])) (id⊢ 𝓤 (Run (text ∷ [])))) $
     enter ! 𝓣.C 𝓣.Λ fn (text ∷ []) Post $ alloc_all ! (λ l. pass_all ! refl ((tt, tt), tt) $
     -- Story {}
     sets ! (agg ! (no_more !)) refl (tt, tt) $
-    pure_i ! (story.the_row.own_val (record { bytes = bytes; told = told; from = from }) (vstruct vnil ∷ [])) ((λ vss. (tt, tt)), tt) ((tt, (refl, tt)), tt) $
-    use0 𝓛 (raw (fact 𝓤 Told)) (fact_i 𝓤 Told (emp 𝓤) (refl, refl, refl)) $ nothing ! $ nothing ! $ fjoin ! $
+    pure_i ! (story.the_row.own_val (record { bytes = bytes; told = told; from = from; warned = warned }) (vstruct vnil ∷ [])) ((λ vss. (tt, tt)), tt) ((tt, (refl, tt)), tt) $
+    use0 𝓛 (raw (fact 𝓤 Told)) (fact_i 𝓤 Told (emp 𝓤) (refl, refl, refl, refl)) $ nothing ! $ nothing ! $ fjoin ! $
     returns ! (look_at ! 0 refl) $ free_all ! refl $ keep ! (3 ∷ 0 ∷ 2 ∷ 1 ∷ []) $
-    by ! (leaves 𝓛 ended hs c z (vstruct vnil) (record { bytes = bytes; told = told; from = from }) (tt, tt) (tt, tt))))
+    by ! (leaves 𝓛 ended hs c z (vstruct vnil) (record { bytes = bytes; told = told; from = from; warned = warned }) (tt, tt) (tt, tt))))

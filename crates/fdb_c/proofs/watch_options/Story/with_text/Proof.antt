@@ -43,14 +43,14 @@ with_text_spec 𝓤 𝓛 𝓜 𝓡 wired =
     let Post : Val → SProp 𝓤 = (walk_of 𝓛 ended hs c).post z in let Run : List Val → SProp 𝓤 = λ ws. WpFn 𝓤 H 𝓣.C 𝓣.Λ fn ws Post in
     let before : Val = vptr z.0.3.0.ref_ptr.0 z.0.3.0.ref_ptr.1 in let more : Val = vptr z.0.3.1.0.ref_ptr.0 z.0.3.1.0.ref_ptr.1 in
     let bytes : List ℕ = z.0.3.0.now.bytes in let told : List ℕ = z.0.3.0.now.told ++ string_bytes z.0.3.1.0.now in
-    let from : Option (List ℕ) = z.0.3.0.now.from in let Told : Type 0 = (bytes ≡ bytes) × (told ≡ told) × (from ≡ from) in
+    let from : Option (List ℕ) = z.0.3.0.now.from in let warned : List ℕ = z.0.3.0.now.warned in let Told : Type 0 = (bytes ≡ bytes) × (told ≡ told) × (from ≡ from) × (warned ≡ warned) in
     qed 𝓛 ((raw (alive 𝓛 ended.signature z.0.0 z.0.1) ⊛ ‵ (owns (types_at ended.signature.params z.0.0) z.0.3 z.0.4)) ∷ raw ((c z.0.0 z.0.3).requires z.1) ∷ []) ∵
     split ! $
     suffices ! (Run (before ∷ more ∷ [])) (subst (λ (us : List Val). ent 𝓤 (Run (before ∷ more ∷ [])) (Run us)) (sym (λ i. are.0.0 i ++ (are.1.0.0 i ++ []))) (id⊢ 𝓤 (Run (before ∷ more ∷ [])))) $
     enter ! 𝓣.C 𝓣.Λ fn (before ∷ more ∷ []) Post $ alloc_all ! (λ l. pass_all ! refl ((tt, tt), ((tt, tt), tt)) $
     -- Story {}
     sets ! (agg ! (no_more !)) refl (tt, tt) $
-    pure_i ! (story.the_row.own_val (record { bytes = bytes; told = told; from = from }) (vstruct vnil ∷ [])) ((λ vss. (tt, tt)), tt) ((tt, (refl, tt)), tt) $
-    use0 𝓛 (raw (fact 𝓤 Told)) (fact_i 𝓤 Told (emp 𝓤) (refl, refl, refl)) $ nothing ! $ nothing ! $ fjoin ! $ nothing ! $ fjoin ! $
+    pure_i ! (story.the_row.own_val (record { bytes = bytes; told = told; from = from; warned = warned }) (vstruct vnil ∷ [])) ((λ vss. (tt, tt)), tt) ((tt, (refl, tt)), tt) $
+    use0 𝓛 (raw (fact 𝓤 Told)) (fact_i 𝓤 Told (emp 𝓤) (refl, refl, refl, refl)) $ nothing ! $ nothing ! $ fjoin ! $ nothing ! $ fjoin ! $
     returns ! (look_at ! 0 refl) $ free_all ! refl $ keep ! (3 ∷ 0 ∷ 2 ∷ 1 ∷ []) $
-    by ! (leaves 𝓛 ended hs c z (vstruct vnil) (record { bytes = bytes; told = told; from = from }) (tt, (tt, tt)) (tt, (tt, tt)))))
+    by ! (leaves 𝓛 ended hs c z (vstruct vnil) (record { bytes = bytes; told = told; from = from; warned = warned }) (tt, (tt, tt)) (tt, (tt, tt)))))

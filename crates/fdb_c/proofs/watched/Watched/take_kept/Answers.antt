@@ -1,5 +1,5 @@
 use Rattle.std.proofs.Common.{refl, sym}
-use Rattle.fdb_audit.specs.Watched.{HasFollowed}
+use Rattle.fdb_audit.specs.Watched.{HasFollowed, HasSaid}
 use Rattle.fdb_c.specs.Watch.{started}
 use Rattle.fdb_c.proofs.Some.{of_ok, of_some}
 use Rattle.fdb_c.proofs.watched.Watched.take_kept.Goals as goal
@@ -8,7 +8,7 @@ use Rattle.fdb_c.proofs.watched.Watched.take_kept.Goals as goal
 pub returns-clause-kept : goal.returns-clause-kept
 returns-clause-kept c = rw (← c.self.view_is) (
     let it = c.self.inside in let start = started it.asked it.behind it.story.from in
-    let followed = of_some (λ follower. HasFollowed it.asked start follower it.story.bytes it.story.told) (sym c.in-Some.is) c.self.invariant.0 in
+    let (followed, says) = of_some (λ follower. HasFollowed it.asked start follower it.story.bytes it.story.told × HasSaid it.asked start follower it.story.bytes it.story.warned) (sym c.in-Some.is) c.self.invariant.0 in
     record {
       arguments = it.asked;
       are = refl;

@@ -1,5 +1,5 @@
-use Rattle.std.proofs.Common.{refl}
-use Rattle.fdb_audit.specs.Watched.{HasFollowed}
+use Rattle.std.proofs.Common.{◌++◌, ◌∙◌, ap, refl, string_bytes}
+use Rattle.fdb_audit.specs.Watched.{HasFollowed, HasSaid}
 use Rattle.fdb_c.specs.Watch.{started}
 use Rattle.fdb_c.proofs.Some.{at_three, of_some}
 use Rattle.fdb_c.proofs.watched.Watched.tell.Goals as goal
@@ -8,12 +8,15 @@ use Rattle.fdb_c.proofs.watched.Watched.tell.Goals as goal
 pub returns-in-Ok-clause-told : goal.returns-in-Ok-clause-told
 returns-in-Ok-clause-told c = λ _.
     let it = c.self.inside in let start = started it.asked it.behind it.story.from in
-    let followed = of_some (λ follower. HasFollowed it.asked start follower it.story.bytes it.story.told) c.in-Some.ensures.value c.self.invariant.0 in
-    let now = c.with_text-self-inside.ensures in
+    let (followed, says) = of_some (λ follower. HasFollowed it.asked start follower it.story.bytes it.story.told × HasSaid it.asked start follower it.story.bytes it.story.warned) c.in-Some.ensures.value c.self.invariant.0 in
+    let one = c.with_text-self-inside.ensures in let now = c.with_warnings-self-inside.ensures in
     record {
       arguments = it.asked;
       are = refl;
       follower = c.tell.new.self;
-      followed = at_three (λ from bytes told. HasFollowed it.asked (started it.asked it.behind from) c.tell.new.self bytes told) now.2 now.0 now.1
+      followed = at_three (λ from bytes told. HasFollowed it.asked (started it.asked it.behind from) c.tell.new.self bytes told) (now.2 ∙ one.2) (now.0 ∙ one.0) (now.1 ∙ one.1)
           (c.in-Ok.ensures.told it.asked start it.story.bytes it.story.told followed);
+      said = at_three (λ from bytes warned. HasSaid it.asked (started it.asked it.behind from) c.tell.new.self bytes warned) (now.2 ∙ one.2) (now.0 ∙ one.0)
+          (now.3 ∙ ap (λ warned. warned ++ string_bytes c.in-Ok.said.warnings) one.3)
+          (c.in-Ok.ensures.said it.asked start it.story.bytes it.story.warned says);
     }
