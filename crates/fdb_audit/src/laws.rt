@@ -1,6 +1,6 @@
 //! Laws of the definitions. The functions do nothing: each stands for its contract.
 
-ghost use Rattle.std.specs.Prelude.{ℕ, ◌≡◌, ◌++◌, All, Bool, IsPermutation, List, None, Option};
+ghost use Rattle.std.specs.Prelude.{ℕ, [], ◌≡◌, ◌++◌, All, Bool, IsPermutation, List, None, Option};
 ghost use Rattle.std.specs.Prelude.{◌≤◌, false, IfSome, map, Result};
 ghost use Rattle.std.specs.Prelude.{option_map, string_bytes, true};
 ghost use Rattle.std.specs.List.{flat_map, AllPairs, Contains};
@@ -158,6 +158,14 @@ pub fn what_a_watch_tells_is_true_of_all_lines()
     what_some_lines_tell_is_true_of_all();
     who_goes_on_from_what_a_watch_kept_tells_the_rest();
 }
+
+/// A watch of a log that has ended, from its beginning, that told of no fault and of no early line has
+/// missed none: an audit of all lines finds no stale read, and no version drawn that is not above.
+pub fn a_watch_that_tells_nothing_missed_nothing()
+    ensures { (asked : AuditArguments) (start : Start) (bytes text : List ℕ) → start.told ≡ []
+        → start.early ≡ 0 → IsFollowed asked start true bytes text None None
+        → audited_in asked bytes ≡ [] }
+{}
 
 /// Windows that go on from one another tell of no line twice, whether or not lines came early.
 pub fn no_line_is_told_of_twice()

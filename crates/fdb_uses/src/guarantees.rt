@@ -32,6 +32,7 @@ ghost use Rattle.fdb_lines.specs.declared.watch.Watch.{Watch};
 ghost use Rattle.fdb_uses.specs.Stale.{is_stale};
 
 pub mod live;
+pub mod watches;
 
 use fdb_chain::ChainError;
 use fdb_client::{

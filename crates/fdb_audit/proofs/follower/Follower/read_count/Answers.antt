@@ -1,6 +1,6 @@
 use Rattle.std.proofs.Common.{ap, arith, length}
 use Rattle.fdb_audit.specs.Following.{KeptBefore}
-use Rattle.fdb_audit.proofs.Following.{counted}
+use Rattle.fdb_audit.proofs.ReadLines.{counted}
 use Rattle.fdb_audit.proofs.follower.Follower.read_count.Goals as goal
 
 pub returns : goal.returns
