@@ -357,6 +357,7 @@ impl FollowedLog {
             followed,
             kept,
             read,
+            settled_to: _,
         } = self.follower.stop(&beside)?;
         if let Some(keeper) = &self.keeper {
             let Ok(kept) = kept else {

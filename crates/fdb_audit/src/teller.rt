@@ -69,6 +69,9 @@ pub struct Stopped {
     pub kept: Result<String, KeptRefused>,
     /// How many lines were read in all.
     pub read: u64,
+    /// Up to when all was told, in the unit of the log's times: who goes on from `kept` has it, where
+    /// [`Follower::progress`] says the same moment.
+    pub settled_to: u64,
 }
 
 /// What is told of a log that is followed, and what it takes to print it.

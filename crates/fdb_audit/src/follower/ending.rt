@@ -7,7 +7,7 @@ ghost use Rattle.std.specs.Option.{option_or};
 ghost use Rattle.fdb_log_reader.specs.LineReader.{line_names};
 ghost use Rattle.fdb_log_reader.specs.ReadLine.{SaidLine};
 ghost use Rattle.fdb_log_reader.specs.declared.error.Why.{Why};
-ghost use Rattle.fdb_audit.specs.Following.{Start, left_out};
+ghost use Rattle.fdb_audit.specs.Following.{certain_in, left_out, Start};
 ghost use Rattle.fdb_audit.specs.Kept.{IsStopped};
 ghost use Rattle.fdb_audit.specs.Taken.{HasWarned, counted_of};
 ghost use Rattle.fdb_audit.specs.Watched.{HasFollowed, HasSaid, HasSaidAll, HasToldAll, IsFollowed};
@@ -76,12 +76,16 @@ impl Follower {
         ensures read { IfOk result (λ it. (asked : AuditArguments) → (start : Start)
             → (bytes told : List ℕ) → HasFollowed asked start self bytes told
             → it.read ≡ length (lines_asked asked bytes) + start.kept.more) }
+        ensures settled { IfOk result (λ it. (asked : AuditArguments) → (start : Start)
+            → (bytes told : List ℕ) → HasFollowed asked start self bytes told
+            → it.settled_to ≡ certain_in start (lines_asked asked bytes)) }
     {
         self.take_last()?;
         let refused = self.taking.left_out(&self.before);
         self.settle()?;
         let kept = self.read_back(beside)?;
         let read = self.read_count();
+        let settled_to = self.taking.watch.settled_to();
         laws::all_is_told_up_to_where_it_settled();
         keys_stay_in_one_member();
         let followed = self.conclude(refused)?;
@@ -89,6 +93,7 @@ impl Follower {
             followed,
             kept,
             read,
+            settled_to,
         })
     }
 
