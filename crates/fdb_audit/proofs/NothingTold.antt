@@ -1,5 +1,5 @@
 -- A watch that tells of no fault and of no early line has missed none.
-use Rattle.std.proofs.Common.{◌≡◌, ◌∙◌, ℕ, List, [], ◌∷◌, ◌++◌, IsPermutation, None, Option, Some, Result, ap, arith, length, option_map, slice_get, subst, sym, take, true}
+use Rattle.std.proofs.Common.{◌≡◌, ◌∙◌, ℕ, List, [], ◌∷◌, ◌++◌, IsPermutation, None, Option, Some, Result, ap, arith, length, option_map, refl, slice_get, subst, sym, take, true}
 use Rattle.std.specs.Option.{option_or}
 use Rattle.std.proofs.lemmas.List.Sorted.{length_permutation}
 use Rattle.fdb_lines.specs.declared.fault.Found.{Found}
@@ -19,18 +19,15 @@ some_none : {X : Type 0} (x : X) → Some x ≡ None → ⊥
 some_none x is = cc
 
 both_none : {X : Type 0} (one other : Option X) → option_or one other ≡ None → (one ≡ None) × (other ≡ None)
-both_none None other is = (refl_none, is)
-  where
-    refl_none : {X : Type 0} → None {T = X} ≡ None
-    refl_none = λ i. None
+both_none None other is = (refl, is)
 both_none (Some one) other is = absurd (some_none one is)
 
 none_found : (f : Finding → LogFault) (found : List Finding) → option_map f (slice_get found 0) ≡ None → found ≡ []
-none_found f [] is = λ i. []
+none_found f [] is = refl
 none_found f (one ∷ found) is = absurd (some_none (f one) is)
 
 none_told : (kept : KeptBefore) (read : List (Result SaidLine Why)) (windows : List Window) → first_told kept read windows ≡ None → told_in_all read windows ≡ []
-none_told kept read [] is = λ i. []
+none_told kept read [] is = refl
 none_told kept read (window ∷ windows) is =
     let (here, later) = both_none (first_in kept (take window.read read) window) (first_told kept read windows) is in
     let nothing = none_found _ window.found here in
@@ -38,15 +35,15 @@ none_told kept read (window ∷ windows) is =
     ∙ none_told kept read windows later
 
 last_some : (n : ℕ) (lines : List CountedLine) → (m : ℕ) × (last_line (Some n) lines ≡ Some m)
-last_some n [] = (n, λ i. Some n)
+last_some n [] = (n, refl)
 last_some n (it ∷ lines) = last_some it.line lines
 
 none_early : (lines : List CountedLine) → last_line None lines ≡ None → lines ≡ []
-none_early [] is = λ i. []
+none_early [] is = refl
 none_early (it ∷ lines) is = let (m, last) = last_some it.line lines in absurd (some_none m (sym last ∙ is))
 
 none_of : {X : Type 0} (xs : List X) → length xs ≡ 0 → xs ≡ []
-none_of [] none = λ i. []
+none_of [] none = refl
 none_of (x ∷ xs) none = absurd (omega (arith, none))
 
 pub nothing_missed : (asked : AuditArguments) (start : Start) (bytes text : List ℕ) → start.told ≡ [] → start.early ≡ 0 → IsFollowed asked start true bytes text None None → audited_in asked bytes ≡ []

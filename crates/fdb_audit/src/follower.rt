@@ -242,14 +242,8 @@ impl Follower {
             → kept.told ≡ told → kept.settled ≡ settled → kept.many ≡ are_many
             → EndsALine bytes.now → IsUnread asked (start_with behind kept.front) self.old
             → let start = start_from behind asked.opts.margin kept (lines_asked asked bytes.now) in
-            HasFollowed asked start self.new bytes.now []
-            × HasSaid asked start self.new bytes.now []) }
-        ensures none_told { OnOk result ((asked : AuditArguments) → (behind : ℕ)
-            → (kept : KeptSaid) → kept.told ≡ told → kept.settled ≡ settled
-            → kept.many ≡ are_many → EndsALine bytes.now → IsUnread asked (start_with behind kept.front) self.old
-            → let start = start_from behind asked.opts.margin kept (lines_asked asked bytes.now) in
             (has : HasFollowed asked start self.new bytes.now []) × (has.telling.windows ≡ [])
-            × (self.new.taking.settlings.at ≡ [])) }
+            × (self.new.taking.settlings.at ≡ []) × HasSaid asked start self.new bytes.now []) }
     {
         a_space_more_is_of_one_line();
         let lines = self.reader.feed(self.alloc, bytes)?;

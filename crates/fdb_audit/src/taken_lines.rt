@@ -87,7 +87,8 @@ impl Taking {
     ghost use Rattle.fdb_audit.specs.Taken.{AreCounted, HasWarned, IsCarried, kept_by};
     ghost use Rattle.fdb_audit.specs.Recent.{KnowsTimes};
     ghost use Rattle.fdb_audit.specs.private.Followed.{AreTaken, NotesLine, counted_line};
-    ghost use Rattle.fdb_audit.specs.private.Followed.{HasNoted, StaysAsFar, odd_text, settled_at};
+    ghost use Rattle.fdb_audit.specs.private.Followed.{HasNoted, StaysBeside, TakesOn, odd_text};
+    ghost use Rattle.fdb_audit.specs.private.Followed.{settled_at};
 
     /// No line has been taken; those that were kept of others come first. It fails only where
     /// memory is refused.
@@ -137,24 +138,8 @@ impl Taking {
     /// refused.
     pub(crate) fn take_all(&mut self, lines: Vec<Result<ReadLine, Why>>) -> Result<(), AllocError>
         requires timed { All (λ read. IfOk read IsTimed) lines.items }
-        ensures taken { OnOk result ((start : Start) → (read : List (Result SaidLine Why))
-            → (told : List Found) → AreTaken start self.old read told
-            → AreTaken start self.new (read ++ map said_in lines.items) told) }
-        ensures warned { OnOk result ((start : Start) → (read : List (Result SaidLine Why))
-            → (told : List Found) → (warned : List ℕ) → AreTaken start self.old read told
-            → HasWarned start self.old read warned
-            → HasWarned start self.new (read ++ map said_in lines.items) warned) }
-        ensures early { OnOk result (self.new.counts.early ≤ self.old.counts.early
-            + early_at self.old.watch.from (lines_taken (map said_in lines.items))) }
-        ensures stays { OnOk result (StaysAsFar self.old.watch self.new.watch) }
-        ensures from { self.new.watch.from ≡ self.old.watch.from }
-        ensures margin { self.new.watch.margin ≡ self.old.watch.margin }
-        ensures settlings { self.new.settlings ≡ self.old.settlings }
-        ensures times { OnOk result ((forget : Option ℕ) → (start : Start)
-            → (read : List (Result SaidLine Why)) → (told : List Found)
-            → AreTaken start self.old read told → KnowsTimes forget start self.old.times read
-            → KnowsTimes forget start self.new.times (read ++ map said_in lines.items)) }
-        ensures wanted { self.new.times.are_wanted ≡ self.old.times.are_wanted }
+        ensures takes { OnOk result (TakesOn self.old self.new (map said_in lines.items)) }
+        ensures beside { StaysBeside self.old self.new }
     {
         for line in lines {
             self.take(line)?;
@@ -204,24 +189,8 @@ impl Taking {
     /// Takes a line, or leaves it out where it is refused. An error says that memory was refused.
     pub(crate) fn take(&mut self, read: Result<ReadLine, Why>) -> Result<(), AllocError>
         requires timed { IfOk read IsTimed }
-        ensures taken { OnOk result ((start : Start) → (lines : List (Result SaidLine Why))
-            → (told : List Found) → AreTaken start self.old lines told
-            → AreTaken start self.new (lines ++ said_in read ∷ []) told) }
-        ensures warned { OnOk result ((start : Start) → (lines : List (Result SaidLine Why))
-            → (told : List Found) → (warned : List ℕ) → AreTaken start self.old lines told
-            → HasWarned start self.old lines warned
-            → HasWarned start self.new (lines ++ said_in read ∷ []) warned) }
-        ensures early { OnOk result (self.new.counts.early ≤ self.old.counts.early
-            + early_at self.old.watch.from (lines_taken (said_in read ∷ []))) }
-        ensures stays { OnOk result (StaysAsFar self.old.watch self.new.watch) }
-        ensures from { self.new.watch.from ≡ self.old.watch.from }
-        ensures margin { self.new.watch.margin ≡ self.old.watch.margin }
-        ensures settlings { self.new.settlings ≡ self.old.settlings }
-        ensures times { OnOk result ((forget : Option ℕ) → (start : Start)
-            → (lines : List (Result SaidLine Why)) → (told : List Found)
-            → AreTaken start self.old lines told → KnowsTimes forget start self.old.times lines
-            → KnowsTimes forget start self.new.times (lines ++ said_in read ∷ [])) }
-        ensures wanted { self.new.times.are_wanted ≡ self.old.times.are_wanted }
+        ensures takes { OnOk result (TakesOn self.old self.new (said_in read ∷ [])) }
+        ensures beside { StaysBeside self.old self.new }
     {
         // No more lines are read than can be counted.
         if self.line_count() >= u64::MAX - 1 {
@@ -314,24 +283,8 @@ impl Taking {
         requires timed { IsTimed read }
         requires room { self.old.taken + self.old.numbering.more
             + length self.old.numbering.above.items < 18446744073709551614 }
-        ensures taken { OnOk result ((start : Start) → (lines : List (Result SaidLine Why))
-            → (told : List Found) → AreTaken start self.old lines told
-            → AreTaken start self.new (lines ++ Ok (said_by read) ∷ []) told) }
-        ensures warned { OnOk result ((start : Start) → (lines : List (Result SaidLine Why))
-            → (told : List Found) → (warned : List ℕ) → AreTaken start self.old lines told
-            → HasWarned start self.old lines warned
-            → HasWarned start self.new (lines ++ Ok (said_by read) ∷ []) warned) }
-        ensures early { OnOk result (self.new.counts.early ≤ self.old.counts.early
-            + early_at self.old.watch.from (read.line ∷ [])) }
-        ensures stays { OnOk result (StaysAsFar self.old.watch self.new.watch) }
-        ensures from { self.new.watch.from ≡ self.old.watch.from }
-        ensures margin { self.new.watch.margin ≡ self.old.watch.margin }
-        ensures settlings { self.new.settlings ≡ self.old.settlings }
-        ensures times { OnOk result ((forget : Option ℕ) → (start : Start)
-            → (lines : List (Result SaidLine Why)) → (told : List Found)
-            → AreTaken start self.old lines told → KnowsTimes forget start self.old.times lines
-            → KnowsTimes forget start self.new.times (lines ++ Ok (said_by read) ∷ [])) }
-        ensures wanted { self.new.times.are_wanted ≡ self.old.times.are_wanted }
+        ensures takes { OnOk result (TakesOn self.old self.new (Ok (said_by read) ∷ [])) }
+        ensures beside { StaysBeside self.old self.new }
     {
         let ReadLine { line, key, shown } = read;
         let is_judged = line.began() >= self.judged_from(key, &line);
@@ -409,23 +362,8 @@ impl Taking {
     fn leave_out(&mut self, why: Why) -> Result<(), AllocError>
         requires room { self.old.taken + self.old.numbering.more
             + length self.old.numbering.above.items < 18446744073709551614 }
-        ensures taken { OnOk result ((start : Start) → (lines : List (Result SaidLine Why))
-            → (told : List Found) → AreTaken start self.old lines told
-            → AreTaken start self.new (lines ++ Err why ∷ []) told) }
-        ensures warned { OnOk result ((start : Start) → (lines : List (Result SaidLine Why))
-            → (told : List Found) → (warned : List ℕ) → AreTaken start self.old lines told
-            → HasWarned start self.old lines warned
-            → HasWarned start self.new (lines ++ Err why ∷ []) warned) }
-        ensures early { self.new.counts.early ≡ self.old.counts.early }
-        ensures stays { OnOk result (StaysAsFar self.old.watch self.new.watch) }
-        ensures from { self.new.watch.from ≡ self.old.watch.from }
-        ensures margin { self.new.watch.margin ≡ self.old.watch.margin }
-        ensures settlings { self.new.settlings ≡ self.old.settlings }
-        ensures times { OnOk result ((forget : Option ℕ) → (start : Start)
-            → (lines : List (Result SaidLine Why)) → (told : List Found)
-            → AreTaken start self.old lines told → KnowsTimes forget start self.old.times lines
-            → KnowsTimes forget start self.new.times (lines ++ Err why ∷ [])) }
-        ensures still { self.new.times ≡ self.old.times }
+        ensures takes { OnOk result (TakesOn self.old self.new (Err why ∷ [])) }
+        ensures beside { StaysBeside self.old self.new }
     {
         self.numbering.leave_out(self.taken)?;
         let line = self.line_count();

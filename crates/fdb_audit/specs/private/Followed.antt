@@ -29,7 +29,8 @@ use Rattle.fdb_audit.specs.declared.refusal.Warning.TheVariants.{Ahead, Early}
 use Rattle.fdb_audit.specs.private.Clocks.{Carries, Hears, ahead_of}
 use Rattle.fdb_audit.specs.Warned.{AreEarly, warning_line}
 use Rattle.fdb_audit.specs.GoingOn.{GoesOnBy}
-use Rattle.fdb_audit.specs.Following.{AreWindows, FollowArguments, KeptBefore, Start, Window, counted_on, faults_told, first_told, told_in_all}
+use Rattle.fdb_audit.specs.Recent.{KnowsTimes}
+use Rattle.fdb_audit.specs.Following.{AreWindows, FollowArguments, KeptBefore, Start, Window, counted_on, early_at, faults_told, first_told, lines_taken, told_in_all}
 use Rattle.fdb_audit.specs.ToldFaults.{ToldFault}
 use Rattle.fdb_audit.specs.Watched.{HasFollowed, IsTellerOf, lines_asked, names_asked}
 
@@ -172,6 +173,23 @@ settled_at start clocks at read told = record start {
   early = 0;
   told = told;
 }
+
+-- These lines more are taken or left out, behind those that were read.
+pub record TakesOn (old new : Taking) (more : List (Result SaidLine Why)) : Type 0 where
+  pub taken : (start : Start) (read : List (Result SaidLine Why)) (told : List Found) → AreTaken start old read told → AreTaken start new (read ++ more) told
+  pub warned : (start : Start) (read : List (Result SaidLine Why)) (told : List Found) (warned : List ℕ) → AreTaken start old read told → HasWarned start old read warned
+      → HasWarned start new (read ++ more) warned
+  pub times : (forget : Option ℕ) (start : Start) (read : List (Result SaidLine Why)) (told : List Found) → AreTaken start old read told → KnowsTimes forget start old.times read
+      → KnowsTimes forget start new.times (read ++ more)
+  pub early : new.counts.early ≤ old.counts.early + early_at old.watch.from (lines_taken more)
+  pub stays : StaysAsFar old.watch new.watch
+
+-- and this stays, also where memory is refused
+pub record StaysBeside (old new : Taking) : Type 0 where
+  pub from : new.watch.from ≡ old.watch.from
+  pub margin : new.watch.margin ≡ old.watch.margin
+  pub settlings : new.settlings ≡ old.settlings
+  pub wanted : new.times.are_wanted ≡ old.times.are_wanted
 
 -- by which arguments what is told is told
 abbrev pub told_with : ℕ → Teller → List (List ℕ) → FollowArguments

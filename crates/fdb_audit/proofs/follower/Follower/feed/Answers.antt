@@ -10,9 +10,9 @@ pub returns-clause-followed : goal.returns-clause-followed
 returns-clause-followed c = λ asked start before told has.
     fed start asked c.args.self.now _ before c.args.bytes.now told (map said_in c.in_ok-lines.lines.items) has
     c.in_ok-lines.ensures.read c.in_ok-lines.ensures.behind c.in_ok-lines.ensures.names
-    (named_in c.in_ok-lines.lines.items (line_names c.feed.new.self) c.in_ok-lines.ensures.numbers) (c.in_ok-take_all.ensures.taken start) (c.in_ok-take_all.ensures.times asked.forget start) c.in_ok-take_all.ensures.stays c.take_all.ensures.margin c.take_all.ensures.settlings refl refl refl
+    (named_in c.in_ok-lines.lines.items (line_names c.feed.new.self) c.in_ok-lines.ensures.numbers) (c.in_ok-take_all.ensures.takes.taken start) (c.in_ok-take_all.ensures.takes.times asked.forget start) c.in_ok-take_all.ensures.takes.stays c.take_all.ensures.beside.margin c.take_all.ensures.beside.settlings refl refl refl
 
 pub returns-clause-said : goal.returns-clause-said
 returns-clause-said c = λ asked start before warned has.
     said_on start asked c.args.self.now _ before c.args.bytes.now warned (map said_in c.in_ok-lines.lines.items) has
-    c.in_ok-lines.ensures.read (c.in_ok-take_all.ensures.taken start) (c.in_ok-take_all.ensures.warned start) refl refl
+    c.in_ok-lines.ensures.read (c.in_ok-take_all.ensures.takes.taken start) (c.in_ok-take_all.ensures.takes.warned start) refl refl

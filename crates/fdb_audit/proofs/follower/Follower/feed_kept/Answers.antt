@@ -48,6 +48,8 @@ returns-clause-read c = λ asked behind kept told_is settled_is many_is ends is.
     (c.in_ok-take_kept.ensures.far behind kept.front is.taken is.far key)) c.in_ok-take_kept.ensures.horizon
     c.take_kept.ensures.margin refl refl refl in (
       has,
+      none_told,
+      c.in_ok-take_kept.ensures.settlings,
       record {
         read = lines;
         goes = goes;
@@ -58,29 +60,3 @@ returns-clause-read c = λ asked behind kept told_is settled_is many_is ends is.
         said = said_so;
       },
     )
-
-pub returns-clause-none_told : goal.returns-clause-none_told
-returns-clause-none_told c = λ asked behind kept told_is settled_is many_is ends is.
-    let bytes = c.args.bytes.now in
-    let lines = map said_in c.in_ok-lines.lines.items in
-    let reader = c.feed.new.self in
-    let goes = λ (text : List ℕ). is.goes (bytes ++ text) ∙ c.in_ok-lines.ensures.read text in
-    let none : lines_on reader [] ≡ [] = nothing_pending (map string_bytes asked.shown.items) (no_names (option_map string_bytes asked.key)) reader bytes lines goes (c.a_space_more_is_of_one_line.ensures reader) ends in
-    let whole : lines ≡ lines_asked asked bytes =
-    sym (ap (lines_asked asked) (sym (append-nil bytes)) ∙ (goes [] ∙ (ap (λ (rest : List (Result SaidLine Why)). lines ++ rest) none ∙ append-nil lines))) in
-    let start = start_from behind asked.opts.margin kept (lines_asked asked bytes) in
-    let took = c.in_ok-take_kept.ensures.taken behind kept told_is settled_is many_is is.taken in
-    let Took = λ (read : List (Result SaidLine Why)) (margin : ℕ).
-    let start = start_from behind margin kept read in AreTaken start c.take_kept.new.self lines start.told × HasWarned start c.take_kept.new.self lines [] in
-    let (took_so, said_so) : Took (lines_asked asked bytes) asked.opts.margin =
-    subst (λ (read : List (Result SaidLine Why)). Took read asked.opts.margin) whole (subst (Took lines) is.margin took) in
-    let (has, none) =
-    fed_first (start_with behind kept.front) start asked c.args.self.now _ bytes lines is refl refl refl
-    (drop_all (length (lines_asked asked bytes)) lines (omega (arith, ap length whole))) (c.refresh.ensures.wanted ∙ c.take_kept.ensures.wanted)
-    c.in_ok-lines.ensures.read c.in_ok-lines.ensures.behind
-    (named_in c.in_ok-lines.lines.items (line_names reader) c.in_ok-lines.ensures.numbers)
-    (taken_beside start c.take_kept.new.self _ lines start.told took_so refl refl refl refl refl refl refl refl)
-    (λ key. so_far c.args.told c.args.settled lines (lines_asked asked bytes) kept key (settled_in c.take_kept.new.self.watch.parts.items key) told_is settled_is whole
-    (c.in_ok-take_kept.ensures.far behind kept.front is.taken is.far key)) c.in_ok-take_kept.ensures.horizon
-    c.take_kept.ensures.margin refl refl refl in
-    (has, none, c.in_ok-take_kept.ensures.settlings)

@@ -22,27 +22,23 @@ ends c = subst (λ read. OnOk read (EndsALine c.args.text.now)) c.in-Ok.is c.in_
 unread : (c : goal.In_ok-feed_kept) → IsUnread c.args.asked.now (start_with c.args.behind (kept c).front) c.in_ok-follower.follower
 unread c = subst (λ numbers. IsUnread c.args.asked.now (start_with c.args.behind numbers) c.in_ok-follower.follower) c.new-numbering.ensures.kept c.in_ok-follower.ensures.unread
 
+abbrev Read : goal.In_ok-feed_kept → KeptSaid → Type 0
+Read c said =
+    let start = start_from c.args.behind c.args.asked.now.opts.margin said (lines_asked c.args.asked.now c.args.text.now) in
+    let self = c.feed_kept.new.self in
+    (has : HasFollowed c.args.asked.now start self c.args.text.now []) × (has.telling.windows ≡ []) × (self.taking.settlings.at ≡ []) × HasSaid c.args.asked.now start self c.args.text.now []
+
+read : (c : goal.In_ok-feed_kept) → Read c (kept_said (lines_kept (option_map string_bytes c.args.asked.now.key) c.args.text.now))
+read c = subst (Read c) (said c) (c.in_ok-feed_kept.ensures.read c.args.asked.now c.args.behind (kept c) refl refl refl (ends c) (unread c))
+
 pub returns-clause-followed : goal.returns-clause-followed
-returns-clause-followed c =
-    let asked = c.args.asked.now in
-    let text = c.args.text.now in
-    subst (λ said. HasFollowed asked (start_from c.args.behind asked.opts.margin said (lines_asked asked text)) c.feed_kept.new.self text []) (said c)
-    (c.in_ok-feed_kept.ensures.read asked c.args.behind (kept c) refl refl refl (ends c) (unread c)).0
+returns-clause-followed c = (read c).0
 
 pub returns-clause-said : goal.returns-clause-said
-returns-clause-said c =
-    let asked = c.args.asked.now in
-    let text = c.args.text.now in
-    subst (λ said. HasSaid asked (start_from c.args.behind asked.opts.margin said (lines_asked asked text)) c.feed_kept.new.self text []) (said c)
-    (c.in_ok-feed_kept.ensures.read asked c.args.behind (kept c) refl refl refl (ends c) (unread c)).1
+returns-clause-said c = (read c).3
 
 pub returns-clause-none_told : goal.returns-clause-none_told
-returns-clause-none_told c =
-    let asked = c.args.asked.now in
-    let text = c.args.text.now in
-    subst (λ said. (has : HasFollowed asked (start_from c.args.behind asked.opts.margin said (lines_asked asked text)) c.feed_kept.new.self text []) × (has.telling.windows ≡ [])
-    × (c.feed_kept.new.self.taking.settlings.at ≡ [])) (said c)
-    (c.in_ok-feed_kept.ensures.none_told asked c.args.behind (kept c) refl refl refl (ends c) (unread c))
+returns-clause-none_told c = let (has, none, settlings, says) = read c in (has, none, settlings)
 
 pub returns-clause-settled : goal.returns-clause-settled
 returns-clause-settled c =

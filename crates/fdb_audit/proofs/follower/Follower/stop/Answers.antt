@@ -79,4 +79,4 @@ returns-clause-said c = λ asked start bytes told warned has says.
 pub returns-clause-settled : goal.returns-clause-settled
 returns-clause-settled c = λ asked start bytes told has.
     let was = c.in_ok-take_last.ensures.told asked start bytes told has in
-    c.settled_to.ensures ∙ settles_to start _ (lines_asked asked bytes) _ _ was.taken c.in_ok-settle.ensures.to
+    c.settled_to-settled_to.ensures ∙ settles_to start _ (lines_asked asked bytes) _ _ was.taken c.in_ok-settle.ensures.to

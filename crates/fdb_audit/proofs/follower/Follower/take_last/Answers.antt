@@ -25,7 +25,7 @@ returns-in_ok-take-clause-told c = λ asked start bytes told has.
     (All-cons (λ read. IfOk read (λ read. IsNumbered (line_names c.finish.new.self) (said_by read))) c.in-Some.last []
     (subst (λ last. IfSome last (λ read. IfOk read (λ read. IsNumbered (line_names c.finish.new.self) (said_by read)))) c.in-Some.is c.in_ok-last.ensures.numbers)
     (All-nil (λ read. IfOk read (λ read. IsNumbered (line_names c.finish.new.self) (said_by read))))))
-    (c.in_ok-take.ensures.taken start) (c.in_ok-take.ensures.times asked.forget start) c.in_ok-take.ensures.stays c.take.ensures.margin c.take.ensures.settlings refl refl refl
+    (c.in_ok-take.ensures.takes.taken start) (c.in_ok-take.ensures.takes.times asked.forget start) c.in_ok-take.ensures.takes.stays c.take.ensures.beside.margin c.take.ensures.beside.settlings refl refl refl
 
 of_none : (left : List (Result SaidLine Why)) (last : Option (Result ReadLine Why)) → ((read : Result ReadLine Why) → last ≡ Some read → ⊥)
     → MatchOption last (left ≡ []) (λ read. left ≡ said_in read ∷ []) → left ≡ []
@@ -44,7 +44,7 @@ pub returns-in_ok-take-clause-said : goal.returns-in_ok-take-clause-said
 returns-in_ok-take-clause-said c = λ asked start bytes warned has.
     said_last start asked c.args.self.now c.take.new.self bytes warned (said_in c.in-Some.last ∷ []) has
     (of_one _ c.in_ok-last.last c.in-Some.last c.in-Some.is c.in_ok-last.ensures.read)
-    (c.in_ok-take.ensures.taken start) (c.in_ok-take.ensures.warned start)
+    (c.in_ok-take.ensures.takes.taken start) (c.in_ok-take.ensures.takes.warned start)
 
 pub returns-in_default-clause-said : goal.returns-in_default-clause-said
 returns-in_default-clause-said c = λ asked start bytes warned has.

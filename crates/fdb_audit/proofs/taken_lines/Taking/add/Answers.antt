@@ -1,9 +1,12 @@
-use Rattle.std.proofs.Common.{◌++◌, ◌∷◌, ◌∙◌, [], Ok, ap, refl, subst, sym}
+use Rattle.std.proofs.Common.{rules, ◌++◌, ◌∷◌, ◌∙◌, [], List, Ok, Result, ap, refl, subst, sym}
 use Rattle.fdb_lines.specs.declared.key_watch.KeyWatch.{KeyWatch}
 use Rattle.fdb_lines.specs.KeyWatch.{HasSeenByKey, settled_in}
 use Rattle.fdb_lines.specs.ToldByKey.{HasTold}
-use Rattle.fdb_log_reader.specs.ReadLine.{said_by}
-use Rattle.fdb_audit.specs.Following.{keys_taken, lines_taken}
+use Rattle.fdb_lines.specs.declared.fault.Found.{Found}
+use Rattle.fdb_log_reader.specs.declared.error.Why.{Why}
+use Rattle.fdb_log_reader.specs.ReadLine.{SaidLine, said_by}
+use Rattle.fdb_audit.specs.Following.{Start, keys_taken, lines_taken}
+use Rattle.fdb_audit.specs.Taken.{AreTaken}
 use Rattle.fdb_audit.specs.declared.clocks.KeyTimes.{KeyTimes}
 use Rattle.fdb_audit.specs.private.Followed.{NotesLine}
 use Rattle.fdb_audit.specs.private.KeyTimes.{HearsKey, last_line}
@@ -32,38 +35,36 @@ notes c =
       warned = its.warned;
     })
 
-pub returns-clause-taken : goal.returns-clause-taken
-returns-clause-taken c = λ start lines told are.
+taken_so : (c : goal.In_ok-hear) (start : Start) (lines : List (Result SaidLine Why)) (told : List Found) → AreTaken start c.args.self.now lines told
+    → AreTaken start c.note.new.self (lines ++ Ok (said_by c.args.read) ∷ []) told
+taken_so c start lines told are =
     let said = said_by c.args.read in
     let old = c.args.self.now in
     let new = c.note.new.self in
     let more = lines_taken lines ++ said.line ∷ [] in
     let keys = keys_taken lines ++ said.key ∷ [] in
-    taken_beside start new _ (lines ++ Ok said ∷ []) told (takes start old new lines said told are c.requires.room
+    takes start old new lines said told are c.requires.room
     (subst (λ watch. HasSeenByKey watch more keys) (sym c.note.ensures.watch) (c.in-Ok.ensures.ok (lines_taken lines) (keys_taken lines) are.seen))
     (notes c) (ap (λ (watch : KeyWatch). watch.from) c.note.ensures.watch ∙ c.push.ensures.settled)
     (λ has late. subst (λ watch. HasTold watch more keys told) (sym c.note.ensures.watch) (c.in-Ok.ensures.told (lines_taken lines) (keys_taken lines) told are.seen has late))
-    (early_more start old new lines said told are c.requires.room (notes c)) (ahead_more start old new lines said told are c.requires.room (notes c))) refl refl refl refl refl refl refl refl
-
-pub returns-clause-warned : goal.returns-clause-warned
-returns-clause-warned c = λ start lines told warned are was.
-    noted_more start c.args.self.now c.note.new.self lines (said_by c.args.read) told are c.requires.room (notes c) warned was
-
-pub returns-clause-stays : goal.returns-clause-stays
-returns-clause-stays c = record {
-  horizon = ap (λ (watch : KeyWatch). watch.horizon) c.note.ensures.watch ∙ c.push.ensures.margin.1;
-  far = λ key. ap (λ (watch : KeyWatch). settled_in watch.parts.items key) c.note.ensures.watch ∙ c.in-Ok.ensures.far key;
-}
+    (early_more start old new lines said told are c.requires.room (notes c)) (ahead_more start old new lines said told are c.requires.room (notes c))
 
 -- what is believed with the line is what the clocks believe once it is noted
-pub returns-clause-times : goal.returns-clause-times
-returns-clause-times c = λ forget start lines told are knows.
+pub returns-clause-takes : goal.returns-clause-takes
+returns-clause-takes c =
     let said = said_by c.args.read in
     let old = c.args.self.now in
-    let now = (returns-clause-taken c start lines told are).reach.believed in
-    times_more start lines are.few forget old.times c.hear.new.self said c.note.new.self.clocks.believed knows now
-    (subst (λ (times : KeyTimes). HearsKey said.key (last_line c.note.new.self.clocks.believed said.line) times c.hear.new.self) c.note.ensures.times c.in_ok-hear.ensures.hears)
-    (c.hear.ensures.wanted ∙ ap (λ (times : KeyTimes). times.are_wanted) c.note.ensures.times)
-
-pub returns-clause-wanted : goal.returns-clause-wanted
-returns-clause-wanted c = c.hear.ensures.wanted ∙ ap (λ (times : KeyTimes). times.are_wanted) c.note.ensures.times
+    let new = c.note.new.self in
+    record {
+      taken = λ start lines told are. taken_beside start new _ (lines ++ Ok said ∷ []) told (taken_so c start lines told are) refl refl refl refl refl refl refl refl;
+      warned = λ start lines told warned are was. noted_more start old new lines said told are c.requires.room (notes c) warned was;
+      times = λ forget start lines told are knows.
+          times_more start lines are.few forget old.times c.hear.new.self said new.clocks.believed knows (taken_so c start lines told are).reach.believed
+          (subst (λ (times : KeyTimes). HearsKey said.key (last_line new.clocks.believed said.line) times c.hear.new.self) c.note.ensures.times c.in_ok-hear.ensures.hears)
+          (c.hear.ensures.wanted ∙ ap (λ (times : KeyTimes). times.are_wanted) c.note.ensures.times);
+      early = search rules;
+      stays = record {
+        horizon = ap (λ (watch : KeyWatch). watch.horizon) c.note.ensures.watch ∙ c.push.ensures.margin.1;
+        far = λ key. ap (λ (watch : KeyWatch). settled_in watch.parts.items key) c.note.ensures.watch ∙ c.in-Ok.ensures.far key;
+      };
+    }

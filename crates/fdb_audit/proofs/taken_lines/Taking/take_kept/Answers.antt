@@ -41,31 +41,31 @@ returns-clause-taken c = λ behind kept told_is settled_is many_is are.
     let first_same : told ≡ take kept.told all = ap (λ m. map said_in (take m lines)) least ∙ (ap (map said_in) (take_least kept.told lines) ∙ sym (take_mapped said_in kept.told lines)) in
     let last_same : map said_in (drop n lines) ≡ drop kept.told all = ap (λ m. map said_in (drop m lines)) least ∙ (ap (map said_in) (drop_least kept.told lines) ∙ sym (drop_mapped said_in kept.told lines)) in
     let first : AreTaken from one told [] =
-    subst (λ (part : List (Result ReadLine Why)). AreTaken from one (map said_in part) []) c.in_ok-since.ensures.items (c.in_ok-take_all.ensures.taken from [] [] are) in
+    subst (λ (part : List (Result ReadLine Why)). AreTaken from one (map said_in part) []) c.in_ok-since.ensures.items (c.in_ok-take_all.ensures.takes.taken from [] [] are) in
     let none_first : one.counts.early ≡ 0 =
-    (let most = c.in_ok-take_all.ensures.early in
+    (let most = c.in_ok-take_all.ensures.takes.early in
     let none = ap (λ at. early_at at (lines_taken (map said_in c.split_off.new.self.items))) low ∙ none_at (lines_taken (map said_in c.split_off.new.self.items)) in
     let was = reach.early in omega (arith, most, none, was)) in
-    let at : max one.watch.from c.args.settled ≡ kept.settled = (let still = c.take_all.ensures.from in omega (arith, still, low, settled_is)) in
+    let at : max one.watch.from c.args.settled ≡ kept.settled = (let still = c.take_all.ensures.beside.from in omega (arith, still, low, settled_is)) in
     let Settled = λ (margin moment : ℕ) (part : List (Result SaidLine Why)).
     let found = audited_to margin moment (lines_taken part) (keys_taken part) in AreTaken (settled_at from one.clocks moment told found) two told found in
     let on = settled_at from one.clocks kept.settled told start.told in
     let settled : AreTaken on two told start.told =
     subst (Settled margin kept.settled) first_same
     (subst (λ moment. Settled margin moment told) at
-    (subst (λ m. Settled m (max one.watch.from c.args.settled) told) c.take_all.ensures.margin
+    (subst (λ m. Settled m (max one.watch.from c.args.settled) told) c.take_all.ensures.beside.margin
     (c.in_ok-settle_untold.ensures.taken from told [] refl none_first first))) in
     let last : AreTaken on three all start.told = subst (λ read. AreTaken on three read start.told) (ap (λ (part : List (Result ReadLine Why)). told ++ map said_in part) c.in_ok-since.ensures.tail ∙ in_parts lines n)
-    (c.in_ok-take_all-2.ensures.taken on told start.told settled) in
+    (c.in_ok-take_all-2.ensures.takes.taken on told start.told settled) in
     let most_last : three.counts.early ≤ start.early =
-    (let most = c.in_ok-take_all-2.ensures.early in
+    (let most = c.in_ok-take_all-2.ensures.takes.early in
     let still = c.in_ok-settle_untold.ensures.counts in
     let moment : two.watch.from ≡ kept.settled = c.in_ok-settle_untold.ensures.from ∙ at in
     let same = ap (λ m. early_at m (lines_taken (map said_in c.in_ok-since.since.items))) moment
     ∙ ap (λ (part : List (Result SaidLine Why)). early_at kept.settled (lines_taken part)) (ap (λ (part : List (Result ReadLine Why)). map said_in part) c.in_ok-since.ensures.tail ∙ last_same) in
     omega (arith, most, still, same)) in
     let none : drop (length all) all ≡ [] = drop_all (length all) all (omega arith) in
-    let moved : three.watch.from ≡ kept.settled = (let still = c.take_all-2.ensures.from in let moment = c.in_ok-settle_untold.ensures.from in omega (arith, still, moment, at)) in
+    let moved : three.watch.from ≡ kept.settled = (let still = c.take_all-2.ensures.beside.from in let moment = c.in_ok-settle_untold.ensures.from in omega (arith, still, moment, at)) in
     let goes = c.go_on.ensures in
     let step = ahead_with no_clocks behind in
     let told_first : take (length told) all ≡ told =
@@ -80,7 +80,7 @@ returns-clause-taken c = λ behind kept told_is settled_is many_is are.
         refused = last.refused;
         counted = subst (λ since. AreCounted c.new-self.result (lines_taken since)) (sym none) c.new-self.ensures.counted;
         few = omega arith;
-        from = (let still = c.take_all-2.ensures.from in let moment = c.in_ok-settle_untold.ensures.from in omega (arith, still, moment, at));
+        from = (let still = c.take_all-2.ensures.beside.from in let moment = c.in_ok-settle_untold.ensures.from in omega (arith, still, moment, at));
         late = (let is : early_at kept.settled (lines_taken (drop (length all) all)) ≡ 0 = ap (λ (since : List (Result SaidLine Why)). early_at kept.settled (lines_taken since)) none in omega (arith, is));
         settled = record {
           come = last.settled.come;
@@ -122,18 +122,18 @@ returns-clause-far c = λ behind front are none key.
     let least : n ≡ min c.args.told (length lines) = (let is = c.min.ensures in let size = c.len.ensures in omega (arith, is, size)) in
     let same : told ≡ take c.args.told (map said_in lines) = ap (λ m. map said_in (take m lines)) least ∙ (ap (map said_in) (take_least c.args.told lines) ∙ sym (take_mapped said_in c.args.told lines)) in
     let first : AreTaken from one told [] =
-    subst (λ (part : List (Result ReadLine Why)). AreTaken from one (map said_in part) []) c.in_ok-since.ensures.items (c.in_ok-take_all.ensures.taken from [] [] are) in
-    let at : max one.watch.from c.args.settled ≡ c.args.settled = (let still = c.take_all.ensures.from in omega (arith, still, low)) in
-    c.in_ok-take_all-2.ensures.stays.far key
-    ∙ (c.in_ok-settle_untold.ensures.far told first.seen (λ key. c.in_ok-take_all.ensures.stays.far key ∙ none key) key
+    subst (λ (part : List (Result ReadLine Why)). AreTaken from one (map said_in part) []) c.in_ok-since.ensures.items (c.in_ok-take_all.ensures.takes.taken from [] [] are) in
+    let at : max one.watch.from c.args.settled ≡ c.args.settled = (let still = c.take_all.ensures.beside.from in omega (arith, still, low)) in
+    c.in_ok-take_all-2.ensures.takes.stays.far key
+    ∙ (c.in_ok-settle_untold.ensures.far told first.seen (λ key. c.in_ok-take_all.ensures.takes.stays.far key ∙ none key) key
     ∙ (ap (λ m. far_with m told key) at ∙ ap (λ (read : List (Result SaidLine Why)). far_with c.args.settled read key) same))
 
 pub returns-clause-horizon : goal.returns-clause-horizon
-returns-clause-horizon c = c.in_ok-take_all-2.ensures.stays.horizon ∙ (c.settle_untold.ensures.horizon ∙ c.in_ok-take_all.ensures.stays.horizon)
+returns-clause-horizon c = c.in_ok-take_all-2.ensures.takes.stays.horizon ∙ (c.settle_untold.ensures.horizon ∙ c.in_ok-take_all.ensures.takes.stays.horizon)
 
 pub returns-clause-from : goal.returns-clause-from
 returns-clause-from c =
-    let last = c.take_all-2.ensures.from in
+    let last = c.take_all-2.ensures.beside.from in
     let moment = c.in_ok-settle_untold.ensures.from in
-    let first = c.take_all.ensures.from in
+    let first = c.take_all.ensures.beside.from in
     omega (arith, last, moment, first)
