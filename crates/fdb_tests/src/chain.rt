@@ -3,6 +3,7 @@
 //!
 //! - `new` opens a chain (the end of the epoch before, the recovery version, and how many commit
 //! proxies), and `behind` one for so many proxies behind a lock, of a service that begins with 100;
+//! `used` puts one there that has answered the first request of proxy 0;
 //! - `ask` has the members of a request (the proxy, the number, what was processed, the moment): the
 //! ordinal, the version before, the version and the moment of the answer, and `fresh` or `kept`, or
 //! why there is none;
@@ -16,6 +17,8 @@
 //! has: how many tags its copy has;
 //! - `of_each` makes replies for so many commit proxies, and `keep` keeps an answer among them; `kept`
 //! has a proxy and a number: its place.
+
+ghost use Rattle.std.specs.Prelude.{◌≡◌, IfOk};
 
 use crate::words::{issued, say_cause, tag_of_bytes, untagged};
 use fdb_chain::{ChainCore, ChainError, RecentChain, Sequencer};
@@ -60,6 +63,20 @@ pub(crate) struct Chain<'a, R> {
     patient: bool,
 }
 
+/// A chain that has answered the first request of proxy 0.
+fn used_chain(alloc: Global, proxies: u32) -> Result<RecentChain, ChainError>
+    ensures { IfOk result (λ core. (core.epoch_end ≡ 0) × (core.recovery ≡ 100)) }
+{
+    let mut core = RecentChain::new(alloc, 0, 100, proxies)?;
+    core.ask(Ask {
+        proxy: 0,
+        num: 1,
+        processed: 0,
+        at: 0,
+    })?;
+    Ok(core)
+}
+
 impl<'a, R: Wait> Chain<'a, R> {
     /// Nothing that could be asked yet.
     pub(crate) fn new(rt: &'a R) -> Self {
@@ -82,13 +99,25 @@ impl<'a, R: Wait> Chain<'a, R> {
     }
 
     fn open_behind(&mut self, line: &mut TableLine<'_>) {
-        match RecentChain::new(line.alloc, 0, 100, line.who()) {
+        let opened = RecentChain::new(line.alloc, 0, 100, line.who());
+        self.put_behind(opened, line);
+    }
+
+    fn put_behind(&mut self, opened: Result<RecentChain, ChainError>, line: &mut TableLine<'_>)
+        requires { IfOk opened (λ core. (core.epoch_end ≡ 0) × (core.recovery ≡ 100)) }
+    {
+        match opened {
             Ok(core) => {
                 self.asked = Asked::Behind(Sequencer::new(core));
                 line.say("ok");
             }
             Err(cause) => say_cause(line, cause, cause == ChainError::Memory),
         }
+    }
+
+    fn open_used(&mut self, line: &mut TableLine<'_>) {
+        let opened = used_chain(line.alloc, line.who());
+        self.put_behind(opened, line);
     }
 
     /// Makes a request, with nobody beside it.
@@ -121,6 +150,7 @@ impl<R: Wait> Player for Chain<'_, R> {
         match call {
             "new" => self.open(line),
             "behind" => self.open_behind(line),
+            "used" => self.open_used(line),
             "ask" => {
                 let found = self.answer(ask_of(line));
                 say_answer(line, found);
@@ -243,13 +273,19 @@ new 0 100 65 => the number of commit proxies is out of range
 new 100 100 0 => the recovery version is out of range
 ";
 
+/// A chain that has answered before it stands behind a lock.
+const USED: &str = "
+used 2 => ok; ask 0 1 0 0 => 0 0 100 0 kept; ask 1 1 0 0 => 1 100 101 0 fresh; stand => 2
+";
+
 #[test]
 fn requests_through_the_lock(rt: HostRuntime) -> Result<(), Fail> {
     let (alloc, mut chain) = (rt.alloc(), Chain::new(&rt));
     plays(alloc, &mut chain, ROWS)?;
     plays(alloc, &mut chain, BOUNDS)?;
     let behind = ROWS.replace(alloc, "new 0 100", "behind")?;
-    Ok(play_held(alloc, &mut chain, &behind, 0)?)
+    play_held(alloc, &mut chain, &behind, 0)?;
+    Ok(play_held(alloc, &mut chain, USED, 0)?)
 }
 
 /// Proxy 0 and 63 others ask behind a lock, in more than 1,024 turns. No time passes, so that each
