@@ -1,10 +1,10 @@
 -- The lines that are taken, of those that were read, and as which of all they are printed.
-use Rattle.std.proofs.Common.{◌≡◌, ◌∙◌, ℕ, zero, suc, ◌+◌, ◌-◌, ◌^◌, ◌<◌, ◌≤◌, Bool, true, false, cond, List, [], ◌∷◌, ◌++◌, Option, None, Some, Result, Ok, Err, ap, append_assoc, arith, count_by, drop, get_or, length, length-drop, map, min, nat_le, nat_lt, refl, slice_get, subst, sym, take}
+use Rattle.std.proofs.Common.{◌≡◌, ◌∙◌, ℕ, zero, suc, ◌+◌, ◌-◌, ◌^◌, ◌<◌, ◌≤◌, Bool, true, false, cond, List, [], ◌∷◌, ◌++◌, Option, None, Some, Result, Ok, Err, ap, append_assoc, arith, count_by, get_or, length, map, min, nat_le, nat_lt, refl, slice_get, subst, sym, take}
 use Rattle.std.specs.Option.{option_or}
 use Rattle.std.specs.Prelude.{unwrap_or}
 use Rattle.std.specs.List.{All}
 use Rattle.std.specs.List.Sorted.{IsPartitionPoint}
-use Rattle.std.proofs.lemmas.List.{get_or_append_left, get_or_push, length-append, length-map, length_push, map-append, map_push, take-append-drop, take-append-le, take_more}
+use Rattle.std.proofs.lemmas.List.{get_or_append_left, get_or_push, length-map, length_push, map_push, take_more}
 use Rattle.std.proofs.lemmas.Bool.Decides.{nat_tests}
 use Rattle.std.proofs.lemmas.List.Sums.{count_by-le-length, sum_by-append, sum_by-cons}
 use Rattle.fdb_lines.specs.declared.fault.Found.{Found}
@@ -24,18 +24,16 @@ use Rattle.fdb_audit.specs.declared.members.Numbering.{Numbering}
 use Rattle.fdb_audit.specs.declared.taken_lines.Taking.{Taking}
 use Rattle.fdb_audit.specs.Following.{KeptBefore, Start, early_at, keys_taken, last_refused, left_out, lines_before, lines_since, lines_taken, no_line, taken_line, taken, taken_above}
 use Rattle.fdb_audit.specs.Clocks.{believed_end, believed_with, certain_to, out_of_reach}
-use Rattle.fdb_audit.specs.declared.clocks.Clocks.{Clocks}
 use Rattle.fdb_audit.specs.Came.{ahead_lines, ahead_then, early_by, told_when}
 use Rattle.fdb_audit.specs.declared.taken_lines.Settlings.{Settlings}
 use Rattle.fdb_audit.specs.Taken.{AreCounted, AreTaken, HasHeard, HasSettled, HasSettledAt, IsInReach, kept_by}
 use Rattle.fdb_audit.proofs.ReadLines.{above_more, above_same, before_on, counted, keys_more, keys_same, lines_more, lines_same, parted_count, since_few, since_more, since_same, taken_more, taken_same}
 use Rattle.fdb_audit.specs.Warned.{AreEarly}
-use Rattle.fdb_audit.specs.private.Clocks.{ahead_of}
 use Rattle.fdb_audit.specs.private.Followed.{NotesLine, one_more}
 use Rattle.fdb_audit.specs.private.Numbering.{AreTakenLines}
 use Rattle.fdb_audit.proofs.Believed.{count_more, heard_more, hears_ahead, hears_believed}
 use Rattle.fdb_audit.proofs.OddLines.{early_still, settled_as, settled_at_still, since_left, told_later, told_stays}
-use Rattle.fdb_audit.proofs.Settled.{drop_on, early_push, far_in_all, far_more, in_reach_still, late_more, settled_more, settled_still}
+use Rattle.fdb_audit.proofs.Settled.{early_push, far_in_all, far_more, in_reach_still, late_more, settled_more, settled_still}
 
 -- ---- the last that is refused
 

@@ -10,7 +10,7 @@ use Rattle.std.proofs.lemmas.List.Elements.{All-append, All-cons, All-nil}
 use Rattle.fdb_lines.specs.declared.key_part.SettledKey.{SettledKey}
 use Rattle.fdb_lines.specs.declared.line.Line.{Line}
 use Rattle.fdb_lines.specs.KeyParts.{lines_of_one}
-use Rattle.fdb_lines.specs.KeyWatch.{GoesTo, HasEntry, SettledTo, not_settled}
+use Rattle.fdb_lines.specs.KeyWatch.{GoesTo, SettledTo, not_settled}
 use Rattle.fdb_log_reader.specs.declared.error.Why.{Why}
 use Rattle.fdb_log_reader.specs.declared.read_line.ReadLine.{ReadLine}
 use Rattle.fdb_log_reader.specs.Numbers.{IsMore}

@@ -1,5 +1,5 @@
 -- A watch that tells of no fault and of no early line has missed none.
-use Rattle.std.proofs.Common.{◌≡◌, ◌∙◌, ℕ, List, [], ◌∷◌, ◌++◌, IsPermutation, None, Option, Some, Result, ap, arith, length, option_map, refl, slice_get, subst, sym, take, true}
+use Rattle.std.proofs.Common.{◌≡◌, ◌∙◌, ℕ, List, [], ◌∷◌, ◌++◌, None, Option, Some, Result, ap, arith, length, option_map, refl, slice_get, sym, take, true}
 use Rattle.std.specs.Option.{option_or}
 use Rattle.std.proofs.lemmas.List.Sorted.{length_permutation}
 use Rattle.fdb_lines.specs.declared.fault.Found.{Found}

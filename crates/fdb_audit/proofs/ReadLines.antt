@@ -1,7 +1,6 @@
 -- The lines that are taken, of those that were read, with one line more.
 use Rattle.std.proofs.Common.{◌≡◌, ◌∙◌, ℕ, ◌+◌, ◌≤◌, List, [], ◌∷◌, ◌++◌, Result, Ok, Err, ap, arith, drop, length, length-drop, map, refl, sym, take}
 use Rattle.std.proofs.lemmas.List.{length-append, length-map, map-append, map_push, take-append-drop, take-append-le}
-use Rattle.fdb_lines.specs.declared.line.Line.{Line}
 use Rattle.fdb_log_reader.specs.declared.error.Why.{Why}
 use Rattle.fdb_log_reader.specs.ReadLine.{SaidLine}
 use Rattle.fdb_audit.specs.Following.{Start, keys_taken, lines_before, lines_since, lines_taken, taken, taken_above}

@@ -1,5 +1,5 @@
 -- The lines that were taken, once a watch has settled.
-use Rattle.std.proofs.Common.{◌≡◌, ◌∙◌, ◌++◌, ◌-◌, ◌∷◌, [], ◌≤◌, ℕ, List, None, Result, ap, append-nil, arith, length, max, refl, subst, sym, take, ◌+◌}
+use Rattle.std.proofs.Common.{◌≡◌, ◌∙◌, ◌++◌, ◌-◌, ◌∷◌, [], ◌≤◌, ℕ, List, None, Result, ap, append-nil, arith, length, max, refl, subst, sym, ◌+◌}
 use Rattle.std.proofs.lemmas.List.{drop_all, length-map, take_all}
 use Rattle.std.proofs.lemmas.List.Elements.{All-cons, All-nil}
 use Rattle.fdb_lines.specs.declared.key_watch.KeyWatch.{KeyWatch}
@@ -9,7 +9,7 @@ use Rattle.fdb_lines.specs.KeyWatch.{HasSeenByKey}
 use Rattle.fdb_lines.specs.ToldByKey.{HasTold}
 use Rattle.fdb_log_reader.specs.declared.error.Why.{Why}
 use Rattle.fdb_log_reader.specs.ReadLine.{SaidLine}
-use Rattle.fdb_audit.specs.Clocks.{ClocksBefore, believed_end}
+use Rattle.fdb_audit.specs.Clocks.{ClocksBefore}
 use Rattle.fdb_audit.specs.declared.progress.Counts.{Counts}
 use Rattle.fdb_audit.specs.declared.members.Numbering.{Numbering}
 use Rattle.fdb_audit.specs.declared.taken_lines.Taking.{Taking}

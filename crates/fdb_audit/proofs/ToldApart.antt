@@ -1,7 +1,7 @@
 -- Windows that go on from one another tell of no line twice.
 use Rattle.std.specs.Prelude.{◌==◌}
 use Rattle.std.specs.Option.{option_eq}
-use Rattle.std.proofs.Common.{◌≡◌, ◌∙◌, ℕ, zero, suc, ◌<◌, ◌≤◌, nat_le, nat_lt, ◌&&◌, ◌||◌, Bool, true, false, cond, List, [], ◌∷◌, ◌++◌, All, Option, None, Some, Result, ap, arith, drop, inl, inr, length, length-append, refl, slice_index_or, subst, sym, take}
+use Rattle.std.proofs.Common.{◌≡◌, ◌∙◌, ℕ, zero, suc, ◌<◌, ◌≤◌, nat_le, ◌&&◌, ◌||◌, Bool, true, false, cond, List, [], ◌∷◌, ◌++◌, All, Option, None, Some, Result, ap, arith, drop, inl, inr, length, length-append, refl, slice_index_or, subst, sym, take}
 use Rattle.std.specs.Prelude.{IfSome}
 use Rattle.std.proofs.lemmas.Bool.{cases_lt}
 use Rattle.std.proofs.lemmas.Bool.Decides.{nat_tests}

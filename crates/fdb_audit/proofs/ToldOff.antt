@@ -1,11 +1,11 @@
 -- Of each key all has been told that there is to tell: in a window, or there is nothing.
 use Rattle.std.specs.Prelude.{◌==◌}
 use Rattle.std.specs.Option.{option_eq}
-use Rattle.std.proofs.Common.{◌≡◌, ◌⊎◌, ◌∙◌, ℕ, zero, suc, ◌-◌, ◌<◌, Bool, true, false, cond, List, [], ◌∷◌, ◌++◌, All, Option, None, Some, Result, ap, append-nil, arith, inl, inr, length, map, refl, slice_index_or, subst, sym, nat_eq}
+use Rattle.std.proofs.Common.{◌≡◌, ◌⊎◌, ◌∙◌, ℕ, zero, suc, ◌-◌, ◌<◌, Bool, true, false, cond, List, [], ◌∷◌, ◌++◌, All, Option, None, Result, ap, append-nil, arith, inl, inr, length, map, refl, slice_index_or, subst, sym}
 use Rattle.std.specs.List.{Contains}
-use Rattle.std.proofs.lemmas.Bool.{cases_lt, eqb-true}
+use Rattle.std.proofs.lemmas.Bool.{cases_lt}
 use Rattle.std.proofs.lemmas.Bool.Decides.{nat_tests}
-use Rattle.std.proofs.lemmas.List.{get_or-map, get_or_default, length-append, length-map}
+use Rattle.std.proofs.lemmas.List.{get_or-map, get_or_default, length-map}
 use Rattle.std.proofs.lemmas.List.Elements.{Contains-append_left, Contains-push}
 use Rattle.fdb_lines.specs.declared.key_part.KeyPart.{KeyPart}
 use Rattle.fdb_lines.specs.declared.key_part.SettledKey.{SettledKey}
@@ -97,8 +97,8 @@ module _ (margin behind : ℕ) (read : List (Result SaidLine Why)) (to : Option 
       elim (told_all 0 read [] to far windows key each) [
         | inl (one, told) ↦ inl told
         | inr (none, still) ↦ elim (told i d lt) [
-              | inl entry ↦ absurd (none (subst (λ keys. Contains keys key) (sym keys) (subst (Contains (map entry_key entries)) (is d) entry)))
-              | inr nothing ↦ nothing_told part key (told_to read far windows key) (watched i d lt) (is d) nothing
-                  (still ∙ (sym (same key) ∙ (ap (settled_in parts) (sym (is d)) ∙ apart i d lt)))
-            ]
+          | inl entry ↦ absurd (none (subst (λ keys. Contains keys key) (sym keys) (subst (Contains (map entry_key entries)) (is d) entry)))
+          | inr nothing ↦ nothing_told part key (told_to read far windows key) (watched i d lt) (is d) nothing
+              (still ∙ (sym (same key) ∙ (ap (settled_in parts) (sym (is d)) ∙ apart i d lt)))
+        ]
       ]

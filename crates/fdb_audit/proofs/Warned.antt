@@ -1,5 +1,5 @@
 -- What is said of lines on standard error, with one line more.
-use Rattle.std.proofs.Common.{◌≡◌, ◌∙◌, ℕ, ◌+◌, ◌-◌, ◌^◌, ◌<◌, ◌≤◌, Bool, true, false, List, [], ◌∷◌, ◌++◌, Option, None, Some, Result, Ok, Err, add-zero, ap, append-nil, append_assoc, arith, drop, length, length-drop, min, nat_lt, refl, string_bytes, sym}
+use Rattle.std.proofs.Common.{◌≡◌, ◌∙◌, ℕ, ◌+◌, ◌-◌, ◌^◌, ◌<◌, ◌≤◌, Bool, true, false, List, [], ◌∷◌, ◌++◌, Option, None, Some, Result, Ok, Err, add-zero, ap, append-nil, append_assoc, arith, drop, length, length-drop, nat_lt, refl, string_bytes, sym}
 use Rattle.std.specs.Prelude.{◌&&◌, if◌then◌else◌}
 use Rattle.std.specs.List.{cons_option, filter, filter_map, flat_map}
 use Rattle.std.specs.Int.{is_power_of_two}
@@ -22,7 +22,7 @@ use Rattle.fdb_audit.specs.Came.{ahead_lines, ahead_then, early_by, early_lines,
 use Rattle.fdb_audit.specs.Clocks.{ahead_by, ahead_end}
 use Rattle.fdb_audit.specs.Following.{Start, lines_before, lines_since}
 use Rattle.fdb_audit.specs.Taken.{AreTaken, HasWarned}
-use Rattle.fdb_audit.specs.Warned.{AreWarnings, IsSaid, all_refused, as_ahead, as_early, as_refused, doubled, warning_line}
+use Rattle.fdb_audit.specs.Warned.{IsSaid, all_refused, as_ahead, as_early, as_refused, doubled, warning_line}
 use Rattle.fdb_audit.specs.private.Clocks.{ahead_of}
 use Rattle.fdb_audit.specs.private.Followed.{AreEarlyIn, NotesLine, counted_line, doubled_text, one_more}
 use Rattle.fdb_audit.proofs.Believed.{ahead_is}
@@ -148,7 +148,6 @@ some_time start from = by (nat_lt start from) refl
     by true is = let some : 0 < from - start = (let lt : start < from = grind (arith, nat_tests) in omega (arith, lt)) in grind (arith, nat_tests, is, some)
     by false is = let none : from - start ≡ 0 = (let le : from ≤ start = grind (arith, nat_tests) in omega (arith, le)) in is ∙ ap (nat_lt 0) (sym none)
 
-
 -- ---- a line more that is taken
 
 fewer : (is_early judged : Bool) (old_early old_judged : ℕ) → old_judged ≤ old_early → old_early + 1 < 2 ^ 64 - 1 → one_more (is_early && judged) old_judged ≤ one_more is_early old_early
@@ -251,9 +250,9 @@ module _ (start : Start) (old new : Taking) (read : List (Result SaidLine Why)) 
               (λ some. ahead_count ∙ ap (λ b. if b then length ahead + 1 else length ahead) some) ∙ ap doubled (sym ahead_are);
         },
         ap (λ part. warned ++ part) notes.warned
-        ∙ (sym (append_assoc warned (string_bytes old.warnings ++ doubled_text early_it (Early early_it)) (doubled_text ahead_it (Ahead ahead_it)))
-        ∙ (ap (λ part. part ++ doubled_text ahead_it (Ahead ahead_it)) (sym (append_assoc warned (string_bytes old.warnings) (doubled_text early_it (Early early_it))))
-        ∙ text_on first ahead_it (Ahead ahead_it) (text ++ doubled_text early_it (Early early_it)) (text_on warnings early_it (Early early_it) text texts))),
+            ∙ (sym (append_assoc warned (string_bytes old.warnings ++ doubled_text early_it (Early early_it)) (doubled_text ahead_it (Ahead ahead_it)))
+            ∙ (ap (λ part. part ++ doubled_text ahead_it (Ahead ahead_it)) (sym (append_assoc warned (string_bytes old.warnings) (doubled_text early_it (Early early_it))))
+            ∙ text_on first ahead_it (Ahead ahead_it) (text ++ doubled_text early_it (Early early_it)) (text_on warnings early_it (Early early_it) text texts))),
       )
 
 -- ---- a line more that is left out

@@ -1,5 +1,5 @@
 -- Which lines came early to a log that is followed, and of which others were ahead. (this product's own)
-use Rattle.std.specs.Prelude.{ℕ, ◌+◌, ◌-◌, ◌++◌, nat_le, nat_lt, List, [], ◌∷◌, None, Option, Some, Result, Ok, Err, drop, length, take, if◌then◌else◌}
+use Rattle.std.specs.Prelude.{ℕ, ◌+◌, ◌-◌, ◌++◌, nat_le, nat_lt, List, [], ◌∷◌, Option, Some, Result, Ok, Err, drop, length, take, if◌then◌else◌}
 use Rattle.fdb_lines.specs.declared.line.Line.{Line}
 use Rattle.fdb_lines.specs.Before.{began}
 use Rattle.fdb_log_reader.specs.declared.error.Why.{Why}

@@ -1,6 +1,6 @@
 -- What is said on standard error of a log that is followed. (this product's own)
-use Rattle.std.specs.Prelude.{◌≡◌, ℕ, ◌+◌, ◌<◌, ◌≤◌, ◌++◌, All, IfSome, List, [], ◌∷◌, Option, None, Some, Result, Ok, Err, codes, decimal, drop, is_some, length, map, nat_lt, option_map, slice_get, string_bytes}
-use Rattle.std.specs.List.{filter, filter_map, flat_map, range_with_len}
+use Rattle.std.specs.Prelude.{◌≡◌, ℕ, ◌+◌, ◌≤◌, ◌++◌, List, [], ◌∷◌, Option, None, Some, Result, Ok, Err, codes, decimal, drop, length, option_map, string_bytes}
+use Rattle.std.specs.List.{filter, filter_map, flat_map}
 use Rattle.std.specs.Int.{is_power_of_two}
 use Rattle.fdb_log_reader.specs.declared.error.ReadError.{ReadError}
 use Rattle.fdb_log_reader.specs.declared.error.Why.{Why}

@@ -1,5 +1,5 @@
 -- What has been told of a text whose log is followed. (this product's own)
-use Rattle.std.specs.Prelude.{◌≡◌, ℕ, ◌<◌, ◌≤◌, ◌&&◌, ◌++◌, Bool, true, false, not, All, IfSome, IsPermutation, List, None, Option, Some, is_some, length, map, take, nat_lt, option_map, option_to_list, string_bytes, Result}
+use Rattle.std.specs.Prelude.{◌≡◌, ℕ, ◌<◌, ◌≤◌, ◌&&◌, ◌++◌, Bool, true, false, not, All, IfSome, IsPermutation, List, None, Option, Some, is_some, length, map, take, option_map, option_to_list, string_bytes, Result}
 use Rattle.std.specs.List.{Contains}
 use Rattle.std.specs.Option.{option_or}
 use Rattle.fdb_lines.specs.declared.fault.Found.{Found}

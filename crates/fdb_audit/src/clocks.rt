@@ -2,8 +2,7 @@
 //! key can be forgotten of which none has come for long.
 
 ghost use Rattle.std.specs.Prelude.{◌≡◌, ◌-◌, ◌≤◌, if◌then◌else◌, ℕ, [], IfSome, None, Option};
-ghost use Rattle.std.specs.Prelude.{Some, is_some, option_map, unwrap_or, List, IfOk, OnOk};
-ghost use Rattle.std.specs.Prelude.{slice_get};
+ghost use Rattle.std.specs.Prelude.{Some, is_some, option_map, unwrap_or, IfOk, OnOk, slice_get};
 ghost use Rattle.std.proofs.Props.{props};
 ghost use Rattle.std.specs.List.{filter};
 ghost use Rattle.fdb_audit.specs.Clocks.{believed_from};

@@ -1,21 +1,17 @@
 //! An audit that follows a log as it grows.
 
-ghost use Rattle.std.specs.Prelude.{◌≡◌, ◌++◌, ℕ, [], Bool, IfOk, List, OnOk, false, true, ◌-◌};
-ghost use Rattle.std.specs.Prelude.{◌<◌, ◌+◌, length, max, Result, option_map, string_bytes, All};
-ghost use Rattle.std.specs.Prelude.{map};
-ghost use Rattle.std.specs.Option.{option_or};
+ghost use Rattle.std.specs.Prelude.{◌≡◌, ◌++◌, ℕ, [], IfOk, List, OnOk, ◌-◌, ◌<◌, ◌+◌, length, max};
+ghost use Rattle.std.specs.Prelude.{Result, option_map, string_bytes, All, map};
 ghost use Rattle.std.specs.List.Sorted.{IsNonDecreasing};
 ghost use Rattle.fdb_log_reader.specs.ReadLine.{SaidLine, member_in};
 ghost use Rattle.fdb_log_reader.specs.declared.error.Why.{Why};
 ghost use Rattle.fdb_lines.specs.KeyWatch.{IsKept};
 ghost use Rattle.fdb_lines.specs.declared.fault.Found.{Found};
-ghost use Rattle.fdb_audit.specs.Following.{Start, fresh, keys_taken, left_out, lines_taken};
-ghost use Rattle.fdb_audit.specs.Following.{lines_since, none_before, start_behind, start_with};
-ghost use Rattle.fdb_audit.specs.Following.{sum_of};
+ghost use Rattle.fdb_audit.specs.Following.{Start, fresh, keys_taken, lines_taken, lines_since};
+ghost use Rattle.fdb_audit.specs.Following.{none_before, start_behind, start_with, sum_of};
 ghost use Rattle.fdb_audit.specs.Kept.{KeepsLines, KeptSaid, start_from, start_of, Keeps};
 ghost use Rattle.fdb_audit.specs.private.KeptTexts.{number_of};
 ghost use Rattle.fdb_audit.specs.Taken.{AreTaken};
-ghost use Rattle.fdb_audit.specs.Watched.{IsFollowed};
 ghost use Rattle.fdb_audit.specs.declared.arguments.AuditArguments.{AuditArguments};
 
 mod ending;
@@ -53,20 +49,15 @@ pub struct Follower {
 }
 
 impl Follower {
-    ghost use Rattle.fdb_audit.specs.Watched.{lines_asked, names_asked, HasFollowed, HasSaid};
-    ghost use Rattle.fdb_audit.specs.Watched.{AskForTheSame, HasSaidAll};
-    ghost use Rattle.fdb_audit.specs.Watched.{HasToldAll, IsTelling};
+    ghost use Rattle.fdb_audit.specs.Watched.{lines_asked, HasFollowed, HasSaid, IsTelling};
     ghost use Rattle.std.specs.Prelude.{Option, Some};
     ghost use Rattle.std.specs.List.{Contains};
     ghost use Rattle.fdb_lines.specs.KeyParts.{lines_of_one};
     ghost use Rattle.fdb_lines.specs.KeyWatch.{settled_in};
     ghost use Rattle.fdb_audit.specs.Following.{AreCountedOn, IsCounted, IsToldOff};
-    ghost use Rattle.fdb_audit.specs.Kept.{IsStopped};
     ghost use Rattle.fdb_audit.specs.Progress.{counted_by, IsProgressOf};
     ghost use Rattle.fdb_audit.specs.Taken.{counted_of, kept_by};
-    ghost use Rattle.fdb_audit.specs.private.Followed.{HasGoneOn, HasWarned, IsQuiet};
-    ghost use Rattle.fdb_audit.specs.private.Followed.{IsUnread, SaysNext, TakesPlace};
-    ghost use Rattle.fdb_audit.specs.private.Followed.{SettlesOn};
+    ghost use Rattle.fdb_audit.specs.private.Followed.{IsUnread, SaysNext, SettlesOn};
     ghost use Rattle.fdb_log_reader.specs.Reading.{EndsALine};
     ghost use Rattle.fdb_log_reader.specs.LineReader.{line_names};
 

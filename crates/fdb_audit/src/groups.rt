@@ -2,17 +2,14 @@
 //! have.
 
 ghost use Rattle.std.specs.Prelude.{◌≡◌, ◌++◌, ◌∷◌, ◌==◌, ℕ, All, IfOk, List, OnOk, Option, cond};
-ghost use Rattle.std.specs.Prelude.{[], length, nat_lt, take, unwrap_or, false, map, string_bytes};
-ghost use Rattle.std.specs.Prelude.{true};
+ghost use Rattle.std.specs.Prelude.{[], length, take, false, map, string_bytes, true};
 ghost use Rattle.std.specs.BTreeMap.{get};
-ghost use Rattle.std.specs.Ordering.{nat_cmp};
 ghost use Rattle.fdb_lines.specs.declared.fault.Found.{Found};
 ghost use Rattle.fdb_audit.specs.Groups.{kinds_of, number_of, of_group, AreRanked, Owned};
 ghost use Rattle.fdb_audit.specs.Groups.{group_head, group_lines, groupings, owned_by, AreMost};
 ghost use Rattle.fdb_audit.specs.Groups.{AreMostOfEach};
-ghost use Rattle.fdb_audit.specs.private.{owners_in, beside_of, grouping_of, shown_in};
-ghost use Rattle.fdb_audit.specs.Tallied.{count_in, kinds_at, no_kinds, HasKinds, HasTallied};
-ghost use Rattle.fdb_audit.specs.Tallied.{IsGroupIn};
+ghost use Rattle.fdb_audit.specs.private.{owners_in, grouping_of, shown_in};
+ghost use Rattle.fdb_audit.specs.Tallied.{count_in, kinds_at, HasKinds, HasTallied, IsGroupIn};
 ghost use Rattle.fdb_audit.specs.Text.{line};
 ghost use Rattle.fdb_audit.specs.Totals.{faults_line};
 

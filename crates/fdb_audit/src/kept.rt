@@ -2,8 +2,8 @@
 //! what it was kept.
 
 ghost use Rattle.std.specs.Prelude.{◌≡◌, ◌∷◌, ◌++◌, ◌<◌, ◌^◌, [], All, List, IfOk, IfSome, Ok};
-ghost use Rattle.std.specs.Prelude.{OnOk, Option, Some, codes, decimal, is_some, length, map};
-ghost use Rattle.std.specs.Prelude.{◌||◌, false, option_map, string_bytes, true};
+ghost use Rattle.std.specs.Prelude.{OnOk, Option, Some, decimal, is_some, length, map, ◌||◌, false};
+ghost use Rattle.std.specs.Prelude.{option_map, string_bytes, true};
 ghost use Rattle.fdb_log_reader.specs.LineReader.{line_names};
 ghost use Rattle.fdb_log_reader.specs.ReadLine.{SaidLine, said_by, said_in};
 ghost use Rattle.fdb_log_reader.specs.Reading.{lines_in, EndsALine};

@@ -1,7 +1,7 @@
 //! How often something that takes time is done, and whether enough lines have come since a watch
 //! settled last.
 
-ghost use Rattle.std.specs.Prelude.{◌≡◌, Option, ℕ};
+ghost use Rattle.std.specs.Prelude.{◌≡◌, Option};
 ghost use Rattle.fdb_audit.specs.Following.{sum_of};
 ghost use Rattle.fdb_audit.specs.private.Pace.{due_after, is_due_at};
 

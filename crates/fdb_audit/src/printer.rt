@@ -1,10 +1,9 @@
 //! The lines that are printed, the names of their clients as they are printed, and a fault by the
 //! line at which it stands.
 
-ghost use Rattle.std.specs.Prelude.{◌≡◌, ◌++◌, [], IfOk, OnOk, option_map, slice_get, string_bytes};
+ghost use Rattle.std.specs.Prelude.{◌≡◌, ◌++◌, IfOk, OnOk, option_map, slice_get, string_bytes};
 ghost use Rattle.std.specs.Prelude.{map};
 ghost use Rattle.fdb_lines.specs.Lines.{line_at};
-ghost use Rattle.fdb_lines.specs.Log.{lines_of};
 ghost use Rattle.fdb_log_reader.specs.Names.{names_of};
 ghost use Rattle.fdb_log_reader.specs.Printed.{printed};
 ghost use Rattle.fdb_audit.specs.Text.{call_text, client_or, fault_of, members_text, mention};

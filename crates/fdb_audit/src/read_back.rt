@@ -1,8 +1,8 @@
 //! Whether a text that was written says what is kept.
 
-ghost use Rattle.std.specs.Prelude.{◌≡◌, ◌<◌, ◌∷◌, ℕ, [], All, IfOk, IsPermutation, List, None};
-ghost use Rattle.std.specs.Prelude.{Option, Result, is_some, length, map, true};
-ghost use Rattle.std.specs.Prelude.{if◌then◌else◌, ◌&&◌};
+ghost use Rattle.std.specs.Prelude.{◌≡◌, ◌<◌, ◌∷◌, [], All, IfOk, IsPermutation, List, None};
+ghost use Rattle.std.specs.Prelude.{Option, Result, is_some, length, map, true, if◌then◌else◌};
+ghost use Rattle.std.specs.Prelude.{◌&&◌};
 ghost use Rattle.std.specs.List.Sorted.{IsNonDecreasing};
 ghost use Rattle.fdb_lines.specs.KeyWatch.{HasSeenByKey, IsKept};
 ghost use Rattle.fdb_lines.specs.declared.fault.Found.{Found};
@@ -15,9 +15,8 @@ ghost use Rattle.fdb_audit.specs.Kept.{kept_at, kept_members, kept_said};
 ghost use Rattle.fdb_audit.specs.Kept.{lines_kept, named_in, named_said, Rise};
 ghost use Rattle.fdb_audit.specs.GoingOn.{places_staying};
 ghost use Rattle.fdb_audit.specs.private.KeyTimes.{is_staying};
-ghost use Rattle.fdb_audit.specs.Taken.{AreTaken, kept_by};
+ghost use Rattle.fdb_audit.specs.Taken.{AreTaken};
 ghost use Rattle.fdb_audit.specs.private.KeptTexts.{named_kept, number_of, said_of};
-ghost use Rattle.fdb_audit.specs.private.Numbering.{AreTakenLines};
 
 use crate::kept::{KeptText, client_name, key_name};
 use crate::members::Numbering;

@@ -1,13 +1,13 @@
 //! The lines of a log that is followed, as they are taken.
 
-ghost use Rattle.std.specs.Prelude.{◌≡◌, ℕ, ◌+◌, ◌-◌, ◌^◌, ◌<◌, ◌≤◌, ◌++◌, ◌∷◌, [], All, List, Err};
-ghost use Rattle.std.specs.Prelude.{IfOk, Ok, OnOk, Result, false, length, map, max, min, nat_lt};
-ghost use Rattle.std.specs.Prelude.{Option, string_bytes, take, unwrap_or};
+ghost use Rattle.std.specs.Prelude.{◌≡◌, ℕ, ◌+◌, ◌-◌, ◌^◌, ◌<◌, ◌≤◌, ◌∷◌, [], All, List, Err, IfOk};
+ghost use Rattle.std.specs.Prelude.{Ok, OnOk, Result, length, map, max, min, Option, string_bytes};
+ghost use Rattle.std.specs.Prelude.{take};
 ghost use Rattle.std.specs.Borrow.{ftrue};
 ghost use Rattle.fdb_log_reader.specs.Printed.{printed};
 ghost use Rattle.fdb_log_reader.specs.ReadLine.{IsTimed, SaidLine, said_by, said_in};
 ghost use Rattle.fdb_log_reader.specs.declared.error.Why.{Why};
-ghost use Rattle.fdb_lines.specs.Before.{began, ended};
+ghost use Rattle.fdb_lines.specs.Before.{began};
 ghost use Rattle.fdb_lines.specs.KeyWatch.{HasSeenByKey, not_settled, settled_in};
 ghost use Rattle.fdb_lines.specs.ToldByKey.{audited_to};
 ghost use Rattle.fdb_lines.specs.declared.fault.Found.{Found};
@@ -21,7 +21,7 @@ use crate::refusal::{CountedLine, Warning, push_doubled, push_warning};
 use fdb_lines::{KeyWatch, Line, SettledKey, WatchError, laws};
 use fdb_log_reader::{ReadError, ReadLine, Why};
 use std::alloc::{AllocError, Global};
-use std::marker::Model;
+use std::marker::{Model, Send};
 
 /// The lines that were taken, as far as they may yet come to matter, and how the others came.
 #[derive(Drop)]
@@ -63,6 +63,8 @@ impl Model for Settlings {
     ghost also_owns = { λ _. ftrue };
 }
 
+unsafe impl Send for Settlings {}
+
 impl Settlings {
     /// It has not settled.
     fn none() -> Self
@@ -80,15 +82,12 @@ impl Settlings {
 }
 
 impl Taking {
-    ghost use Rattle.fdb_audit.specs.Following.{Start, keys_taken, left_out, lines_taken};
-    ghost use Rattle.fdb_audit.specs.Following.{early_at, no_line, start_with, taken};
-    ghost use Rattle.fdb_audit.specs.Following.{KeptBefore};
+    ghost use Rattle.fdb_audit.specs.Following.{Start, keys_taken, left_out, lines_taken, no_line};
+    ghost use Rattle.fdb_audit.specs.Following.{start_with, taken, KeptBefore};
     ghost use Rattle.fdb_audit.specs.Kept.{KeptSaid, far_with, start_from};
-    ghost use Rattle.fdb_audit.specs.Taken.{AreCounted, HasWarned, IsCarried, kept_by};
-    ghost use Rattle.fdb_audit.specs.Recent.{KnowsTimes};
-    ghost use Rattle.fdb_audit.specs.private.Followed.{AreTaken, NotesLine, counted_line};
-    ghost use Rattle.fdb_audit.specs.private.Followed.{HasNoted, StaysBeside, TakesOn, odd_text};
-    ghost use Rattle.fdb_audit.specs.private.Followed.{settled_at};
+    ghost use Rattle.fdb_audit.specs.Taken.{HasWarned, IsCarried, kept_by};
+    ghost use Rattle.fdb_audit.specs.private.Followed.{AreTaken, NotesLine, counted_line, HasNoted};
+    ghost use Rattle.fdb_audit.specs.private.Followed.{StaysBeside, TakesOn, odd_text, settled_at};
 
     /// No line has been taken; those that were kept of others come first. It fails only where
     /// memory is refused.

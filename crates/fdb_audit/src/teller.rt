@@ -5,8 +5,7 @@ ghost use Rattle.std.specs.Prelude.{◌≡◌, ◌&&◌, ◌++◌, ◌∷◌, �
 ghost use Rattle.std.specs.Prelude.{Option, Result, is_some, map, not, option_map, option_to_list};
 ghost use Rattle.std.specs.Prelude.{slice_get, string_bytes, ◌<◌};
 ghost use Rattle.std.specs.Option.{option_or};
-ghost use Rattle.fdb_lines.specs.KeyWatch.{AreTold, IsToldOf, SettledTo, settled_in};
-ghost use Rattle.fdb_lines.specs.KeyWatch.{settled_of};
+ghost use Rattle.fdb_lines.specs.KeyWatch.{AreTold, IsToldOf, SettledTo, settled_in, settled_of};
 ghost use Rattle.fdb_lines.specs.Reasons.{found_of};
 ghost use Rattle.fdb_lines.specs.declared.key_part.KeyPart.{KeyPart};
 ghost use Rattle.fdb_log_reader.specs.LineReader.{line_names};

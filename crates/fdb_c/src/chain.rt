@@ -2,11 +2,11 @@
 //! after another by the chain's handle.
 
 ghost use Rattle.std.specs.Prelude.{◌≡◌, ◌+◌, ◌<◌, ◌≤◌, ◌⊎◌, ◌↔◌, ◌++◌, length, drop, IfSome};
-ghost use Rattle.std.specs.Prelude.{IsNone, IsSome, IsOkAnd, IfOk, Ok, OnOk, true, None, Some};
+ghost use Rattle.std.specs.Prelude.{IsNone, IsSome, IsOkAnd, Ok, true, None, Some};
 ghost use Rattle.std.specs.Bool.{OnTrue};
 ghost use Rattle.fdb_history.specs.Issuing.{Chain, answer_to, chain_after};
 ghost use Rattle.fdb_history.specs.declared.register.TheConstants.{MAX_VERSION};
-ghost use Rattle.fdb_chain.specs.ChainCore.{IsEpoch, IsProxyCount, new_chain};
+ghost use Rattle.fdb_chain.specs.ChainCore.{IsEpoch, new_chain};
 ghost use Rattle.fdb_chain.specs.Recent.{IsStateOf};
 ghost use Rattle.fdb_chain.specs.declared.chain_core.TheConstants.{MAX_PROXIES};
 ghost use Rattle.fdb_c.specs.Chain.{ask_of, refused, told, told_each, StandsFor};

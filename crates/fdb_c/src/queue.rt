@@ -1,16 +1,11 @@
 //! The queue of a GRV proxy: its requests, operations and outcomes as C writes them, and its
 //! operations, one at a time.
 
-ghost use Rattle.std.specs.Prelude.{◌≡◌, map, length, ◌+◌, ◌<◌, ◌≤◌, ◌++◌, drop, Some, None};
-ghost use Rattle.std.specs.Prelude.{IfSome, IsNone, IsSome, IfOk, Ok, OnOk};
+ghost use Rattle.std.specs.Prelude.{◌≡◌, ◌<◌, Some, None, IfSome, IsNone, Ok};
 ghost use Rattle.fdb_queue.specs.Admission.{refusal_of};
-ghost use Rattle.fdb_queue.specs.Waiting.{first, row, without_first};
-ghost use Rattle.fdb_queue.specs.Window.{window};
-ghost use Rattle.fdb_queue.specs.declared.config.TheConstants.{MAX_STARTED};
 ghost use Rattle.fdb_c.specs.Queue.{number_of, offer_of, op_of, priority_of, no_request};
-ghost use Rattle.fdb_c.specs.Queue.{request_of, shown, after, after_offer, after_op, out_at};
-ghost use Rattle.fdb_c.specs.Queue.{out_of_offer, outcome, offered, started_at, status_at};
-ghost use Rattle.fdb_c.specs.Queue.{status_of, told};
+ghost use Rattle.fdb_c.specs.Queue.{request_of, shown, after, after_offer, after_op, out_of_offer};
+ghost use Rattle.fdb_c.specs.Queue.{outcome, status_at, status_of};
 
 use crate::status::{
     FDB_BAD_CONFIG, FDB_BAD_COUNT, FDB_BATCH_THROTTLED, FDB_FULL, FDB_MEMORY, FDB_OK,

@@ -1,7 +1,7 @@
 //! The queue of a GRV proxy, all operations in and all outcomes out.
 
 ghost use Rattle.std.specs.Prelude.{◌≡◌, ◌+◌, ◌<◌, ◌≤◌, ◌⊎◌, ◌++◌, ◌↔◌, map, length, drop, Some};
-ghost use Rattle.std.specs.Prelude.{IfSome, IsSome, IfOk, Ok, OnOk};
+ghost use Rattle.std.specs.Prelude.{IfSome, Ok, OnOk};
 ghost use Rattle.std.specs.Bool.{OnTrue};
 ghost use Rattle.fdb_queue.specs.Config.{IsConfig};
 ghost use Rattle.fdb_queue.specs.Queue.{new_queue};

@@ -2,9 +2,9 @@
 
 ghost use Rattle.std.specs.Prelude.{◌≡◌, ◌<◌, ◌≤◌, ◌⊎◌, ◌↔◌, ◌++◌, map, length, drop, Some, IsSome};
 ghost use Rattle.std.specs.Prelude.{IfSome, [], ◌∷◌, None, true, false, IsNone, IsSomeAnd, IsTrue};
-ghost use Rattle.std.specs.Prelude.{IfOk, OnOk, OnErr};
+ghost use Rattle.std.specs.Prelude.{IfOk};
 ghost use Rattle.fdb_queue.specs.Config.{IsElapsed};
-ghost use Rattle.fdb_queue.specs.Throttles.{last_set, limits_of, SameThrottles, unexpired};
+ghost use Rattle.fdb_queue.specs.Throttles.{limits_of};
 ghost use Rattle.fdb_queue.specs.Waiting.{first, row};
 ghost use Rattle.fdb_queue.specs.Waits.{IsSure, StartsAfter};
 ghost use Rattle.fdb_queue.specs.declared.config.TheConstants.{MAX_TAG};

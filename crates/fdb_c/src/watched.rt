@@ -1,7 +1,7 @@
 //! A log that is watched as it grows, and what was said of it last.
 
-ghost use Rattle.std.specs.Prelude.{◌≡◌, ◌≢◌, ◌++◌, ◌↔◌, ◌⊎◌, ℕ, Err, IfErr, IfOk, MatchOption};
-ghost use Rattle.std.specs.Prelude.{None, Some, false, true};
+ghost use Rattle.std.specs.Prelude.{◌≡◌, ◌≢◌, ◌↔◌, ◌⊎◌, ℕ, Err, IfErr, IfOk, MatchOption, None};
+ghost use Rattle.std.specs.Prelude.{Some, false, true};
 ghost use Rattle.fdb_audit.specs.declared.printer.LogFault.{LogFault};
 ghost use Rattle.fdb_c.specs.Audit.{IsRefusal, IsToldWhy, IsUntold, asked_with};
 ghost use Rattle.fdb_c.specs.Watch.{GoesOnOrEnds, HasCounted, HasTold, IsKept, IsKeptGiven};

@@ -1,7 +1,6 @@
 //! A key of a log that is watched, with the watch of its lines.
 
-ghost use Rattle.std.specs.Prelude.{◌≡◌, ◌++◌, All, List, IfErr, IfOk, OnErr, OnOk, [], false};
-ghost use Rattle.std.specs.Prelude.{length, true};
+ghost use Rattle.std.specs.Prelude.{◌≡◌, ◌++◌, List, IfOk, OnErr, OnOk, [], false, length, true};
 ghost use Rattle.fdb_lines.specs.Watch.{HasSeen, IsTold};
 ghost use Rattle.fdb_lines.specs.private.Quiet.{IsQuiet};
 ghost use Rattle.fdb_lines.specs.declared.line.Line.{Line};

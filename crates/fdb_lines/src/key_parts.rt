@@ -1,8 +1,7 @@
 //! The parts of an audit that watches by key: a line is added to one, and those that are open
 //! settle.
 
-ghost use Rattle.std.specs.Prelude.{◌≡◌, ◌≢◌, ◌<◌, All, IfErr, IfOk, OnErr, OnOk};
-ghost use Rattle.std.specs.Prelude.{None, [], false, length};
+ghost use Rattle.std.specs.Prelude.{◌≡◌, ◌≢◌, ◌<◌, All, IfOk, OnErr, OnOk, None, [], false, length};
 ghost use Rattle.std.specs.List.{AllPairs, filter, flat_map};
 ghost use Rattle.fdb_lines.specs.private.KeyParts.{flag_at, flags_of, AreEntriesOf, AreNext};
 ghost use Rattle.fdb_lines.specs.private.KeyParts.{AreOpen, ArePut, HasNoMoreAt, HasOneMoreAt};

@@ -7,7 +7,6 @@ ghost use Rattle.std.specs.BTreeMap.{get};
 ghost use Rattle.std.specs.Ordering.{nat_cmp};
 ghost use Rattle.fdb_lines.specs.Before.{began};
 ghost use Rattle.fdb_lines.specs.KeyParts.{names_of, HaveStayed};
-ghost use Rattle.fdb_lines.specs.Keys.{key_at};
 ghost use Rattle.fdb_lines.specs.Lines.{has_times, Lines};
 ghost use Rattle.fdb_lines.specs.Log.{refusal_of};
 ghost use Rattle.fdb_lines.specs.private.Keys.{number_of, AreNumbered};

@@ -1,6 +1,6 @@
 //! The tables of a log, in which each question of the rule is answered by a search.
 
-ghost use Rattle.std.specs.Prelude.{◌≡◌, ◌<◌, ◌≤◌, None, length, max, true};
+ghost use Rattle.std.specs.Prelude.{◌≡◌, ◌<◌, ◌≤◌, None, length, max};
 ghost use Rattle.fdb_lines.specs.Faults.{draws_again, draws_it, is_drawn, is_own, is_raised};
 ghost use Rattle.fdb_lines.specs.Faults.{is_reported, is_twice, knows, last, reports_it};
 ghost use Rattle.fdb_lines.specs.Late.{outdates};

@@ -1,12 +1,11 @@
 //! An audit that watches a log with times as it grows, in the memory of the lines that are open,
 //! and what it tells of the lines that it keeps.
 
-ghost use Rattle.std.specs.Prelude.{◌≡◌, ◌+◌, ◌-◌, ◌<◌, ◌≤◌, ◌++◌, ◌∷◌, [], All, List, IfErr, IfOk};
-ghost use Rattle.std.specs.Prelude.{None, OnErr, OnOk, Some, length, map, max, slice_index, true};
-ghost use Rattle.std.specs.Prelude.{false, IsTrue, ◌↔◌, ◌⊎◌, ℕ};
+ghost use Rattle.std.specs.Prelude.{◌≡◌, ◌+◌, ◌-◌, ◌<◌, ◌≤◌, [], All, List, IfErr, IfOk, None};
+ghost use Rattle.std.specs.Prelude.{OnErr, OnOk, Some, length, map, max, slice_index, true, IsTrue};
+ghost use Rattle.std.specs.Prelude.{◌↔◌, ℕ};
 ghost use Rattle.fdb_lines.specs.Carried.{open_count};
-ghost use Rattle.fdb_lines.specs.Lines.{has_times};
-ghost use Rattle.fdb_lines.specs.Log.{lines_of, refusal_of};
+ghost use Rattle.fdb_lines.specs.Log.{lines_of};
 ghost use Rattle.fdb_lines.specs.Audit.{case_of};
 ghost use Rattle.fdb_lines.specs.Late.{HasLate};
 ghost use Rattle.fdb_lines.specs.Reasons.{found_of, HasReason};

@@ -27,8 +27,7 @@ impl LineReader {
     ghost use Rattle.fdb_log_reader.specs.LineReader.{line_names, lines_on, names_on, AreMore};
     ghost use Rattle.fdb_log_reader.specs.Names.{names_of};
     ghost use Rattle.fdb_log_reader.specs.ReadLine.{lines_read, member_in, no_names, said_by};
-    ghost use Rattle.fdb_log_reader.specs.ReadLine.{said_in};
-    ghost use Rattle.fdb_log_reader.specs.ReadLine.{HasTexts, IsNumbered, IsTimed};
+    ghost use Rattle.fdb_log_reader.specs.ReadLine.{said_in, HasTexts, IsNumbered, IsTimed};
     ghost use Rattle.fdb_log_reader.specs.ReadLine.{names_behind};
     ghost use Rattle.fdb_log_reader.specs.Reading.{lines_in};
     ghost use Rattle.fdb_log_reader.specs.private.Following.{Keeps, TakesLine};

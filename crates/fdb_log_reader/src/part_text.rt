@@ -3,16 +3,13 @@
 
 ghost use Rattle.std.specs.Prelude.{◌≡◌, ◌+◌, ◌∷◌, ◌++◌, ◌<◌, [], IfOk, MatchOption, OnOk, ℕ};
 ghost use Rattle.std.specs.Prelude.{false, length, slice_index, slice_index_or, ◌⊎◌, Err};
-ghost use Rattle.std.specs.Prelude.{MatchResult, Ok, option_map};
+ghost use Rattle.std.specs.Prelude.{MatchResult, Ok};
 ghost use Rattle.std.specs.List.{list_any};
-ghost use Rattle.serde_json.specs.Find.{get};
-ghost use Rattle.serde_json.specs.View.{view};
 ghost use Rattle.fdb_log_reader.specs.Split.{is_brace, split_line_member, with_split_line, hash_of};
 ghost use Rattle.fdb_log_reader.specs.Split.{keyed_line, keyed_said, refusal_below};
 ghost use Rattle.fdb_log_reader.specs.Splitter.{HaveCome, counts_in, texts_in};
 ghost use Rattle.fdb_log_reader.specs.private.Counting.{AreBelow};
 ghost use Rattle.fdb_log_reader.specs.private.Placing.{IsSplitAtBrace};
-ghost use Rattle.fdb_log_reader.specs.Members.{member_of};
 ghost use Rattle.fdb_log_reader.specs.Parts.{parts_of};
 ghost use Rattle.fdb_log_reader.specs.ReadLine.{unless};
 

@@ -177,9 +177,8 @@ pub(crate) struct KnownNames {
 }
 
 impl KnownNames {
-    ghost use Rattle.fdb_log_reader.specs.ReadLine.{are_full, known_of, member_in};
-    ghost use Rattle.fdb_log_reader.specs.ReadLine.{key_count, no_names, numbered, said_by};
-    ghost use Rattle.fdb_log_reader.specs.ReadLine.{with_names};
+    ghost use Rattle.fdb_log_reader.specs.ReadLine.{are_full, known_of, member_in, key_count};
+    ghost use Rattle.fdb_log_reader.specs.ReadLine.{no_names, numbered, said_by, with_names};
 
     /// Of no line, where a member of the name has the keys, if they are to be kept.
     pub(crate) fn new(alloc: Global, key: Option<&str>) -> Result<Self, AllocError>

@@ -1,8 +1,8 @@
 //! A log that is cut into parts by its keys, as it is read, and how its lines are placed in them.
 
-ghost use Rattle.std.specs.Prelude.{◌≡◌, ◌⊎◌, ◌++◌, ◌∷◌, ◌<◌, ◌≤◌, ℕ, List, [], Err, IfOk};
-ghost use Rattle.std.specs.Prelude.{MatchResult, length, slice_index, slice_index_or, slice_set};
-ghost use Rattle.std.specs.Prelude.{◌+◌, string_bytes};
+ghost use Rattle.std.specs.Prelude.{◌≡◌, ◌⊎◌, ◌++◌, ◌<◌, ◌≤◌, ℕ, List, [], Err, IfOk, MatchResult};
+ghost use Rattle.std.specs.Prelude.{length, slice_index, slice_index_or, slice_set, ◌+◌};
+ghost use Rattle.std.specs.Prelude.{string_bytes};
 ghost use Rattle.std.proofs.Props.{props};
 ghost use Rattle.fdb_log_reader.specs.Reading.{lines_in};
 ghost use Rattle.fdb_log_reader.specs.private.{IsOneLine};

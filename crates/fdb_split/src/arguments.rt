@@ -1,7 +1,6 @@
 //! The command, and what its arguments say.
 
-ghost use Rattle.std.specs.Prelude.{◌≡◌, ◌≤◌, false, IfOk, IfSome, List};
-ghost use Rattle.std.specs.Prelude.{option_map};
+ghost use Rattle.std.specs.Prelude.{◌≡◌, ◌≤◌, false, IfOk, IfSome, List, option_map};
 ghost use Rattle.clap.specs.Words.{Text, app_of, rule_of};
 ghost use Rattle.fdb_audit.specs.Program.{text_rule};
 ghost use Rattle.fdb_command.specs.Arguments.{AreMatches};

@@ -1,7 +1,6 @@
 //! What is printed of a log that was cut.
 
-ghost use Rattle.std.specs.Prelude.{◌≡◌, ◌++◌, ◌≤◌, IfOk, OnOk, codes, length, slice_index};
-ghost use Rattle.std.specs.Prelude.{string_bytes};
+ghost use Rattle.std.specs.Prelude.{◌≡◌, ◌++◌, IfOk, OnOk, length, slice_index, string_bytes};
 ghost use Rattle.fdb_audit.specs.Figures.{number_or_null};
 ghost use Rattle.fdb_log_reader.specs.Splitter.{above_of, counts_of, texts_of};
 ghost use Rattle.fdb_split.specs.Text.{counts_listed, object_of};

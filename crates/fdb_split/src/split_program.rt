@@ -1,10 +1,9 @@
 //! The program that cuts a log into parts.
 
-ghost use Rattle.std.specs.Prelude.{◌≡◌, ◌≢◌, ◌⊎◌, ℕ, [], IfErr, List, MatchResult, None, map};
-ghost use Rattle.std.specs.Prelude.{string_bytes};
+ghost use Rattle.std.specs.Prelude.{◌≡◌, ◌≢◌, ◌⊎◌, ℕ, [], IfErr, List, MatchResult, None};
 ghost use Rattle.clap.specs.Words.{Text};
 ghost use Rattle.fdb_command.specs.Driving.{IsDriven, Stops};
-ghost use Rattle.fdb_split.specs.Program.{split, HasCut, HasTaken, AskFor, Prints};
+ghost use Rattle.fdb_split.specs.Program.{split, HasCut, AskFor, Prints};
 ghost use Rattle.fdb_split.specs.private.{HasReleased};
 
 use crate::arguments::{command, first_of, parts_of, text};

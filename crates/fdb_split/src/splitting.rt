@@ -1,7 +1,7 @@
 //! A log that is being cut: what has been read of it, its parts, and their files. Until all are
 //! whole these are in a folder of their own.
 
-ghost use Rattle.std.specs.Prelude.{◌≡◌, ◌⊎◌, IfErr, OnOk};
+ghost use Rattle.std.specs.Prelude.{◌≡◌, ◌⊎◌, IfErr};
 ghost use Rattle.fdb_split.specs.private.{HasReleased};
 
 use fdb_audit::LogsRefused;

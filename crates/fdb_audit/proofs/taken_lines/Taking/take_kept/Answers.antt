@@ -4,7 +4,6 @@ use Rattle.fdb_lines.specs.ToldByKey.{audited_to}
 use Rattle.fdb_log_reader.specs.declared.error.Why.{Why}
 use Rattle.fdb_log_reader.specs.declared.read_line.ReadLine.{ReadLine}
 use Rattle.fdb_log_reader.specs.ReadLine.{SaidLine, said_in}
-use Rattle.fdb_audit.specs.declared.progress.Counts.{Counts}
 use Rattle.fdb_audit.specs.Clocks.{ahead_end, ahead_with, believed_from, floor_of, fold_lines, newer, newest_end, no_clocks, others_end}
 use Rattle.fdb_audit.specs.Following.{early_at, keys_taken, lines_before, lines_since, lines_taken, start_with, taken}
 use Rattle.fdb_audit.specs.Kept.{far_with, start_from}
