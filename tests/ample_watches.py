@@ -160,9 +160,9 @@ def settled_at(moment):
     return ["--follow", "0"], log, said
 
 
-FOLLOWED = ("Follower::new, Follower::feed, Follower::tell, Follower::finish, LineReader::new, "
-            "LineReader::feed, LineReader::finish, KeyWatch::push, KeyWatch::settle, "
-            "KeyWatch::finish, Watch::push, Watch::finish, standing")
+FOLLOWED = ("Follower::new, Follower::behind, Follower::feed, Follower::tell, Follower::finish, "
+            "LineReader::new, LineReader::feed, LineReader::finish, KeyWatch::push, "
+            "KeyWatch::settle, KeyWatch::finish, Watch::push, Watch::finish, standing")
 WATCHES = (
     Row(FOLLOWED, all_open, CHEAP),
     Row(FOLLOWED, all_settled, CHEAP),

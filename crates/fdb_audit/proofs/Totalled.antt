@@ -1,6 +1,5 @@
 -- The faults that were told, counted one after another.
-use Rattle.std.proofs.Common.{◌≡◌, ◌∙◌, ◌+◌, ◌<◌, if◌then◌else◌, All, Bool, true, IfSome, Option, None, Some, ℕ, zero, suc, List, [], ◌∷◌, ◌++◌, add-zero, ap, append-nil, arith, append_assoc, false, get_or, is_some, length, length-append, map, nat_lt, option_and_then, refl, slice_get, subst, sym, take}
-use Rattle.std.specs.List.{range_with_len}
+use Rattle.std.proofs.Common.{◌≡◌, ◌∙◌, ◌+◌, ◌<◌, if◌then◌else◌, All, Bool, true, IfSome, Option, None, Some, ℕ, zero, suc, List, [], ◌∷◌, ◌++◌, ap, append-nil, arith, append_assoc, false, get_or, is_some, length, length-append, map, nat_lt, option_and_then, refl, slice_get, subst, sym, take}
 use Rattle.std.proofs.lemmas.Bool.{both_ways}
 use Rattle.std.proofs.lemmas.List.{map_push, take_more}
 use Rattle.std.proofs.lemmas.List.Elements.{All-nil, All-push}
@@ -12,12 +11,6 @@ use Rattle.fdb_audit.specs.ToldFaults.{ByText, Texted, ToldFault, by_text, room,
 use Rattle.fdb_audit.specs.declared.told_faults.TextGroups.{TextGroups}
 use Rattle.fdb_audit.specs.Tallied.{AreNumbered, HasTallied, HasTexts, texts_in}
 use Rattle.fdb_audit.proofs.Naming.{text_there}
-
-pub range_more : (a n : ℕ) → range_with_len a n ++ (a + n) ∷ [] ≡ range_with_len a (suc n)
-range_more a zero = ap (λ (k : ℕ). k ∷ []) (add-zero a)
-range_more a (suc n) =
-    let same : a + suc n ≡ (a + 1) + n = omega arith in
-    ap (λ (k : ℕ). a ∷ range_with_len (a + 1) n ++ k ∷ []) same ∙ ap (λ (l : List ℕ). a ∷ l) (range_more (a + 1) n)
 
 -- of a list, those up to a place and one more
 pub map_more : {X Y : Type 0} (f : X → Y) (before : List Y) (xs : List X) (i : ℕ) (d : X) → i < length xs
