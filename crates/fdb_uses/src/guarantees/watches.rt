@@ -31,13 +31,15 @@ pub fn is_watched_without_fault(
     }
 }
 
-/// Ends any watch, also one that goes on from kept lines, or to which lines came early: of no line it
-/// has told twice.
+/// Ends any watch, also one that goes on from kept lines, or to which lines came early: by whatever
+/// windows what it told is explained, of no line it has told twice.
 pub fn end_watch(follower: Follower) -> Result<Followed, AllocError>
-    ensures { IfOk result (λ it. (asked : AuditArguments) → (start : Start)
-        → (bytes told : List ℕ) → HasFollowed asked start follower bytes told
-        → (all : IsFollowed asked start true bytes (told ++ string_bytes it.said.text)
-        it.found it.last_early) × AllPairs (TellApart (lines_asked asked bytes)) all.windows) }
+    ensures told { IfOk result (λ it. (asked : AuditArguments) → (start : Start)
+        → (bytes told : List ℕ) → HasFollowed asked start follower bytes told → IsFollowed asked
+        start true bytes (told ++ string_bytes it.said.text) it.found it.last_early) }
+    ensures once { IfOk result (λ it. (asked : AuditArguments) → (start : Start)
+        → (bytes told : List ℕ) → (all : IsFollowed asked start true bytes told it.found
+        it.last_early) → AllPairs (TellApart (lines_asked asked bytes)) all.windows) }
 {
     no_line_is_told_of_twice();
     follower.finish()
