@@ -213,7 +213,7 @@ settled_at_more start old new above since line is same from =
     let so : told_when start above (since ++ line ∷ []) settled (length above + length (since ++ line ∷ [])) ≡ told_when start above since settled n =
     told_stays start above since line settled (length above + length (since ++ line ∷ [])) is.within ∙ told_later start above since settled n (length above + length (since ++ line ∷ [])) is.within (omega (arith, size)) in
     settled_as start new above (since ++ line ∷ []) settled (ap (λ (settlings : Settlings). settlings.at) same)
-    (λ k d lt. let low = is.within k d lt in omega (arith, low, size))
+    (λ k d lt. let low = is.within k d lt in omega (arith, low, size)) is.order
     (from ∙ (is.from ∙ sym so))
 
 pub takes : (start : Start) (old new : Taking) (read : List (Result SaidLine Why)) (said : SaidLine) (told : List Found) → AreTaken start old read told

@@ -1,7 +1,7 @@
 -- Lines that came early, or of which others are ahead, with one line more, and where a watch settles.
 use Rattle.std.proofs.Common.{◌≡◌, ◌∙◌, ℕ, suc, ◌+◌, ◌-◌, ◌<◌, ◌≤◌, Bool, true, false, nat_le, nat_lt, List, [], ◌∷◌, ◌++◌, None, Option, Some, Result, Ok, Err, ap, arith, drop, length, length-drop, refl, subst, sym}
 use Rattle.std.specs.Prelude.{if◌then◌else◌}
-use Rattle.std.specs.List.{All}
+use Rattle.std.specs.List.{All, AllPairs}
 use Rattle.std.proofs.lemmas.Bool.Decides.{nat_tests}
 use Rattle.std.proofs.lemmas.List.{length-append, length-map, take-append-le, take_all}
 use Rattle.fdb_lines.specs.declared.line.Line.{Line}
@@ -230,15 +230,16 @@ odd_count lines line by count = on (nat_lt 0 by)
 -- ---- what is held of where it settled
 
 pub settled_as : (start : Start) (new : Taking) (above since : List Line) (settled : List ℕ) → new.settlings.at ≡ settled → All (λ at. at ≤ length above + length since) settled
-    → new.watch.from ≡ told_when start above since settled (length above + length since) → HasSettledAt start new above since
-settled_as start new above since settled same within from = record {
+    → AllPairs (λ one other. other ≤ one) settled → new.watch.from ≡ told_when start above since settled (length above + length since) → HasSettledAt start new above since
+settled_as start new above since settled same within order from = record {
   within = subst (All (λ at. at ≤ length above + length since)) (sym same) within;
+  order = subst (AllPairs (λ one other. other ≤ one)) (sym same) order;
   from = from ∙ ap (λ settled. told_when start above since settled (length above + length since)) (sym same);
 }
 
 pub settled_at_still : (start : Start) (old new : Taking) (above since : List Line) → HasSettledAt start old above since → new.settlings ≡ old.settlings → new.watch.from ≡ old.watch.from
     → HasSettledAt start new above since
-settled_at_still start old new above since is same from = settled_as start new above since old.settlings.at (ap (λ (settlings : Settlings). settlings.at) same) is.within (from ∙ is.from)
+settled_at_still start old new above since is same from = settled_as start new above since old.settlings.at (ap (λ (settlings : Settlings). settlings.at) same) is.within is.order (from ∙ is.from)
 
 -- and of which lines were early
 pub early_still : (start : Start) (old new : Taking) (read more : List (Result SaidLine Why)) → AreEarlyIn start read old.settlings.at old.counts → new.settlings ≡ old.settlings → new.counts ≡ old.counts

@@ -1,7 +1,8 @@
 -- The lines that were taken, once a watch has settled.
-use Rattle.std.proofs.Common.{◌≡◌, ◌∙◌, ◌++◌, ◌-◌, ◌∷◌, [], ◌≤◌, ℕ, List, None, Result, ap, append-nil, arith, length, max, refl, subst, sym, ◌+◌}
+use Rattle.std.proofs.Common.{◌≡◌, ◌∙◌, ◌++◌, ◌-◌, ◌∷◌, [], ◌≤◌, ℕ, All, List, None, Result, ap, append-nil, arith, length, max, refl, subst, sym, ◌+◌}
 use Rattle.std.proofs.lemmas.List.{drop_all, length-map, take_all}
 use Rattle.std.proofs.lemmas.List.Elements.{All-cons, All-nil}
+use Rattle.std.proofs.lemmas.List.Kept.{AllPairs-cons}
 use Rattle.fdb_lines.specs.declared.key_watch.KeyWatch.{KeyWatch}
 use Rattle.fdb_lines.specs.declared.fault.Found.{Found}
 use Rattle.fdb_lines.specs.declared.line.Line.{Line}
@@ -66,6 +67,7 @@ settled_taken start old new read told more at are at_is seen moved tells numberi
           let since = lines_since start read in
           settled_as start new above since (old.taken ∷ old.settlings.at) settlings
           (All-cons (λ at. at ≤ length above + length since) old.taken old.settlings.at (omega (arith, all_come)) are.settled_at.within)
+          (AllPairs-cons (λ one other. other ≤ one) old.taken old.settlings.at (subst (λ n. All (λ at. at ≤ n) old.settlings.at) (sym all_come) are.settled_at.within) are.settled_at.order)
           (far_as start old read told new.watch.from are (moved ∙ ap (max old.watch.from) at_is)
           ∙ sym (ap (told_when start above since (old.taken ∷ old.settlings.at)) (sym all_come) ∙ told_now start above since old.settlings.at old.taken all_come));
       came =
@@ -184,4 +186,4 @@ in_reach_anew start new read behind heard believed ahead_to from early all =
 
 -- and it has not settled since
 pub settled_anew : (start : Start) (new : Taking) (above since : List Line) → new.settlings.at ≡ [] → new.watch.from ≡ start.from → HasSettledAt start new above since
-settled_anew start new above since none from = settled_as start new above since [] none (All-nil (λ at. at ≤ length above + length since)) from
+settled_anew start new above since none from = settled_as start new above since [] none (All-nil (λ at. at ≤ length above + length since)) (λ i j d lt within. absurd (omega arith)) from

@@ -301,6 +301,7 @@ settled_all start asked old new read told entries is reader once more behind bef
       early = early_for start old read is.taken new counts;
       ahead = ahead_for start old read is.taken new counts;
       came = early_still start old.taking new.taking read read is.taken.came settlings counts (λ settled. refl);
+      order = subst (λ (settlings : Settlings). AllPairs (λ one other. other ≤ one) settlings.at) (sym settlings) is.taken.settled_at.order;
       at = subst (λ (settlings : Settlings). All (IsAt start true read settlings.at) (is.windows ++ more.windows)) (sym settlings)
           (at_end start read old.taking.settlings.at start.behind names far is.windows more.windows is.at more.each);
       late = late_for start old read is.taken new counts;
@@ -337,6 +338,7 @@ told_so_far start asked old read told is to off each_once = (
     before = is.taken.before;
     early = early_for start old read is.taken old refl;
     ahead = ahead_for start old read is.taken old refl;
+    order = is.taken.settled_at.order;
     at = is.at;
     came = is.taken.came;
     late = late_for start old read is.taken old refl;
@@ -389,6 +391,7 @@ all_told asked start ends last bytes told text end all found last_early is names
         early = is.early;
         ahead = is.ahead;
         settled = last.taking.settlings.at;
+        order = is.order;
         at = is.at;
         last = last.taking.counts.last_early;
         came = is.came;

@@ -1,5 +1,6 @@
 -- The lines that a follower has taken, of those that were read, and what it has told of them. (this product's own)
 use Rattle.std.specs.Prelude.{◌≡◌, ℕ, ◌+◌, ◌-◌, ◌<◌, ◌≤◌, ◌==◌, ◌^◌, ◌++◌, Bool, true, false, All, List, MatchOption, None, Option, Some, Result, drop, is_some, length, map, string_bytes, take, if◌then◌else◌}
+use Rattle.std.specs.List.{AllPairs}
 use Rattle.fdb_lines.specs.declared.fault.Found.{Found}
 use Rattle.fdb_lines.specs.declared.line.Line.{Line}
 use Rattle.fdb_lines.specs.KeyWatch.{HasSeenByKey}
@@ -76,9 +77,10 @@ pub record IsInReach (start : Start) (taking : Taking) (above since : List Line)
   pub from : taking.watch.from ≤ certain_to start.from start.behind (believed_end start.clocks start.behind above (take (taking.settled - length above) since))
   pub early : taking.counts.early ≤ out_of_reach start.clocks start.from start.behind above since
 
--- It has settled each time that so many lines had been taken, and up to when all might be told then.
+-- It has settled each time that so many lines had been taken, the last first, and up to when all might be told then.
 pub record HasSettledAt (start : Start) (taking : Taking) (above since : List Line) : Type 0 where
   pub within : All (λ at. at ≤ length above + length since) taking.settlings.at
+  pub order : AllPairs (λ one other. other ≤ one) taking.settlings.at
   pub from : taking.watch.from ≡ told_when start above since taking.settlings.at (length above + length since)
 
 -- So many lines had come when it settled last; of those that came since no more began before that than came early.

@@ -1,6 +1,6 @@
 -- What has been told of a text whose log is followed. (this product's own)
 use Rattle.std.specs.Prelude.{◌≡◌, ℕ, ◌<◌, ◌≤◌, ◌&&◌, ◌++◌, Bool, true, false, not, All, IfSome, IsPermutation, List, None, Option, Some, is_some, length, map, take, option_map, option_to_list, string_bytes, Result}
-use Rattle.std.specs.List.{Contains}
+use Rattle.std.specs.List.{AllPairs, Contains}
 use Rattle.std.specs.Option.{option_or}
 use Rattle.fdb_lines.specs.declared.fault.Found.{Found}
 use Rattle.fdb_lines.specs.KeyParts.{lines_of_one}
@@ -132,6 +132,7 @@ pub record IsFollowed (asked : AuditArguments) (start : Start) (ends : Bool) (by
   pub early : counts.early ≤ out_of_reach_in start (lines_asked asked bytes)
   pub ahead : counts.ahead ≡ length (ahead_lines start (lines_asked asked bytes))
   pub settled : List ℕ
+  pub order : AllPairs (λ one other. other ≤ one) settled
   pub at : All (IsAt start ends (lines_asked asked bytes) settled) windows
   pub last : Option ℕ
   pub came : AreEarly start (lines_asked asked bytes) settled counts.early counts.judged last
@@ -156,6 +157,7 @@ pub record HasToldAll (asked : AuditArguments) (start : Start) (ends : Bool) (fo
   pub whole : start.early ≡ 0 → follower.taking.counts.early ≡ 0 → IsComplete ends asked.opts.margin start read (start.told ++ told_in_all read windows)
   pub early : follower.taking.counts.early ≤ out_of_reach_in start read
   pub ahead : follower.taking.counts.ahead ≡ length (ahead_lines start read)
+  pub order : AllPairs (λ one other. other ≤ one) follower.taking.settlings.at
   pub at : All (IsAt start ends read follower.taking.settlings.at) windows
   pub came : AreEarly start read follower.taking.settlings.at follower.taking.counts.early follower.taking.counts.judged follower.taking.counts.last_early
   pub late : early_at start.from (lines_since start read) ≤ follower.taking.counts.early
