@@ -139,17 +139,18 @@ unjudged_at line = record { line = line; member = 0 }
 
 -- ---- what it keeps, and how much has come
 
--- A text keeps the lines that may yet come to matter, of these bytes of which that was told.
-pub record IsKeptOf (asked : Asked) (behind : ℕ) (from : Option (List ℕ)) (bytes told kept : List ℕ) : Type 0 where
+-- A text keeps the lines that may yet come to matter, of these bytes of which that was told, with these warnings.
+pub record IsKeptOf (asked : Asked) (behind : ℕ) (from : Option (List ℕ)) (bytes told warned kept : List ℕ) : Type 0 where
   pub arguments : AuditArguments
   pub are : asked_in arguments ≡ asked
   pub follower : Follower
   pub followed : HasFollowed arguments (started arguments behind from) follower bytes told
+  pub said : HasSaid arguments (started arguments behind from) follower bytes warned
   pub keeps : Keeps (option_map string_bytes arguments.key) (line_names follower.reader) (started arguments behind from).kept
       follower.taking followed.read kept
 
 abbrev pub IsKept : Watch → List ℕ → Type 0
-IsKept watch kept = IsKeptOf watch.asked watch.behind watch.from watch.bytes watch.told kept
+IsKept watch kept = IsKeptOf watch.asked watch.behind watch.from watch.bytes watch.told watch.warned kept
 
 -- how much had come, of what C is told
 abbrev pub counted_in : FdbWatchCounted → Counted
@@ -171,6 +172,7 @@ pub record HasCounted (watch : Watch) (counts : FdbWatchCounted) : Type 0 where
   pub are : asked_in arguments ≡ watch.asked
   pub follower : Follower
   pub followed : HasFollowed arguments (start_in arguments watch) follower watch.bytes watch.told
+  pub said : HasSaid arguments (start_in arguments watch) follower watch.bytes watch.warned
   pub counted : IsCounted (start_in arguments watch) followed.read (counted_in counts)
   pub came : counted_in counts ≡ counted_of follower.taking
   pub kept : counts.kept ≡ follower.taking.kept
@@ -208,6 +210,7 @@ pub record GoesOnOrEnds (before after : Watch) (status : ℕ) : Type 0 where
 -- The log has ended, and the rest of it was told; or memory was refused, or the watch was over.
 pub record IsWatchEnded (before after : Watch) (status : ℕ) : Type 0 where
   pub said : status ≢ FDB_OVER → status ≢ FDB_MEMORY → IsToldBesides before after
+  pub memory : status ≡ FDB_MEMORY → (after ≡ over before) ⊎ IsToldBesides before after
   pub unchanged : status ≡ FDB_OVER → after ≡ before
   pub ends : after.is_over ≡ true
 

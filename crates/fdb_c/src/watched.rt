@@ -66,7 +66,7 @@ impl Model for Watched {
         it.story.bytes it.story.told × HasSaid it.asked
         (started it.asked it.behind it.story.from) follower it.story.bytes it.story.warned)
         × IfSome it.kept (λ text. IsKeptOf (asked_in it.asked) it.behind it.story.from
-        it.story.bytes it.story.told (string_bytes text)) };
+        it.story.bytes it.story.told it.story.warned (string_bytes text)) };
 }
 
 impl Watched {

@@ -23,6 +23,7 @@ returns-in-Some c = rw (← c.self.view_is) (
         are = refl;
         follower = c.in-Some.follower;
         followed = followed;
+        said = says;
         counted = subst (IsCounted start followed.read) (sym now.counted) first.0;
         came = now.counted ∙ first.1;
         kept = now.waiting.1 ∙ far.kept;

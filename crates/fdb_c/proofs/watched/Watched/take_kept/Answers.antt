@@ -14,5 +14,6 @@ returns-clause-kept c = rw (← c.self.view_is) (
       are = refl;
       follower = c.in-Some.follower;
       followed = followed;
+      said = says;
       keeps = of_ok _ c.in-Ok-made.is c.in-Ok.ensures it.asked start it.story.bytes it.story.told followed;
     })
