@@ -14,12 +14,18 @@ has_no_room false status is room = refl
 
 pub returns-clause-given : goal.returns-clause-given
 returns-clause-given c = record {
-  ok = λ ok. let wrote = c.write_text-is_written in (string_bytes c.in-Ok.kept, c.in-Ok.ensures.kept,
-      subst (λ bytes. IsWritten bytes c.args.text.now wrote.new.text wrote.new.size) c.as_str.ensures.value
-      (wrote.ensures.fits (is_written _ _ c.status_of_writing.ensures ok)));
-  room = λ room. let wrote = c.write_text-is_written in (string_bytes c.in-Ok.kept, c.in-Ok.ensures.kept,
-      subst (λ bytes. HasNoRoom bytes c.args.text.now wrote.new.text wrote.new.size) c.as_str.ensures.value
-      (wrote.ensures.no_room (has_no_room _ _ c.status_of_writing.ensures room)));
+  ok = λ ok. let wrote = c.write_text-is_written in (
+    string_bytes c.in-Ok.kept,
+    c.in-Ok.ensures.kept,
+    subst (λ bytes. IsWritten bytes c.args.text.now wrote.new.text wrote.new.size) c.as_str.ensures.value
+        (wrote.ensures.fits (is_written _ _ c.status_of_writing.ensures ok)),
+  );
+  room = λ room. let wrote = c.write_text-is_written in (
+    string_bytes c.in-Ok.kept,
+    c.in-Ok.ensures.kept,
+    subst (λ bytes. HasNoRoom bytes c.args.text.now wrote.new.text wrote.new.size) c.as_str.ensures.value
+        (wrote.ensures.no_room (has_no_room _ _ c.status_of_writing.ensures room)),
+  );
   over = search rules;
   untold = search rules;
   statuses = search rules;
