@@ -1,6 +1,7 @@
 """Audits and watches of the package for Python, by bytes, pieces and calls, against the model."""
 import json
 import random
+import re
 import tempfile
 
 import audit_logs
@@ -274,15 +275,21 @@ class Watched:
         return told
 
     def by_program(self, piece):
-        """So does the program; what the package would have kept and counted is the same."""
+        """So does the program; what the package would have kept and counted is the same.
+
+        But the program settles where it stops: so each line that it keeps says up to when, and
+        where that is later it may keep fewer.
+        """
         self.write(self.kept)
-        own, kept = self.by_package(piece), self.kept
+        own, to = self.by_package(piece), certain_to(self.counts, self.behind)
+        kept = settled(self.kept, to)
         ran = run([audit_logs.PROGRAM, *self.words, "--keep", self.file], piece)
         with open(self.file, encoding="utf-8") as file:
             self.kept = file.read()
         said = [json.loads(it) for it in ran.out.splitlines() if it.startswith(b'{"watched"')][-1]
         counted = {"judged": 0, "ahead": 0, **said["watched"]}
-        if kept != self.kept or counted != self.counts._asdict():
+        is_fewer = to > self.counts.settled_to and set(bare(self.kept)) < set(bare(kept))
+        if kept != self.kept and not is_fewer or counted != self.counts._asdict():
             return [f"{kept} in place of {self.kept}, or {self.counts} of {counted}"]
         told = faults_in(ran.out.decode())
         # (it may look once more, in between)
@@ -291,6 +298,22 @@ class Watched:
     def write(self, kept):
         with open(self.file, "w", encoding="utf-8") as file:
             file.write(kept)
+
+
+def certain_to(counts, behind):
+    """Up to when all is told once a watch has settled where it stops."""
+    return max(counts.settled_to, counts.newest_end - behind)
+
+
+def settled(kept, to):
+    """A kept text of which each line says that all was told up to this moment."""
+    said = r'("kept_lines":\d+)(?!\d)(?:,"kept_settled":\d+)?'
+    return re.sub(said, rf'\1,"kept_settled":{to}', kept)
+
+
+def bare(kept):
+    """The lines of a kept text, without what the first says of all."""
+    return [re.sub(',"kept_clients":.*', "}", line) for line in kept.splitlines()]
 
 
 def faults_in(text):
